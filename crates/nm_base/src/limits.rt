@@ -13,7 +13,7 @@ pub const MAX_PACKET_OCTETS: usize = 65_535;
 /// section 3.1).
 pub const MIN_MTU: u64 = 576;
 
-pub const MAX_MTU: u64 = 65_535;
+pub const MAX_MTU: u64 = MAX_PACKET_OCTETS as u64;
 
 /// The greatest delay of a link, in nanoseconds: 1,000 seconds.
 pub const MAX_DELAY: u64 = 1_000_000_000_000;
@@ -27,7 +27,7 @@ pub const MAX_RATE: u64 = 1_000_000_000_000;
 pub const MAX_QUEUE: u64 = 10_000;
 
 /// The greatest limit of their octets: those of so many packets of the greatest length.
-pub const MAX_QUEUE_OCTETS: u64 = 655_350_000;
+pub const MAX_QUEUE_OCTETS: u64 = MAX_QUEUE * MAX_MTU;
 
 /// How many there may be of each thing in a topology.
 pub const MAX_NODES: usize = 1_024;
@@ -68,12 +68,15 @@ pub const MAX_SCRIPT_STEPS: usize = 1_000_000;
 pub const MAX_ROUNDS: u64 = 1_000_000_000;
 
 /// The greatest number of a partition, and of a replica of one.
-pub const MAX_PARTITION: u64 = 63;
+pub const MAX_PARTITION: u64 = MAX_PARTITIONS as u64 - 1;
 
-pub const MAX_REPLICA: u64 = 1;
+pub const MAX_REPLICA: u64 = MAX_REPLICAS as u64 - 1;
 
 /// How many replicas a partition may have.
 pub const MAX_REPLICAS: u8 = 2;
+
+/// The greatest number of a source.
+pub const MAX_SOURCE: u64 = MAX_SOURCES as u64 - 1;
 
 /// The most threads that run books.
 pub const MAX_WORKERS: u64 = 64;
@@ -84,10 +87,11 @@ pub const MAX_PART_STEPS: u64 = 1 << 62;
 /// The most messages of a channel. One more is refused as if its memory were.
 pub const MAX_MESSAGES: usize = 1 << 50;
 
-/// The most octets of a frame behind its length, and with it.
-pub const MAX_BODY_OCTETS: usize = 65_556;
+/// The most octets of a frame behind its length, which are those of Data: its kind, channel, number
+/// and time, and a packet. And with its length.
+pub const MAX_BODY_OCTETS: usize = 21 + MAX_PACKET_OCTETS;
 
-pub const MAX_FRAME_OCTETS: usize = 65_560;
+pub const MAX_FRAME_OCTETS: usize = 4 + MAX_BODY_OCTETS;
 
 /// The most octets that one read of a link asks for.
 pub const MAX_READ_OCTETS: usize = 65_536;
@@ -96,4 +100,4 @@ pub const MAX_READ_OCTETS: usize = 65_536;
 pub const FULL_OUT_OCTETS: usize = 131_072;
 
 /// The most octets that wait in it: one less than full, and a frame.
-pub const MAX_OUT_OCTETS: usize = 196_631;
+pub const MAX_OUT_OCTETS: usize = FULL_OUT_OCTETS - 1 + MAX_FRAME_OCTETS;

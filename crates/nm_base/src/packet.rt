@@ -34,18 +34,18 @@ impl Storage {
         }
     }
 
-    /// Writes octets over those from a place on, where the block is the packet's own.
+    /// Writes octets over those from an offset on, where the block is the packet's own.
     #[inline(always)]
-    fn overwrite(&mut self, place: usize, octets: &[u8]) -> bool
-        requires { place + length octets.now ≤ length (held self.old) }
+    fn overwrite(&mut self, offset: usize, octets: &[u8]) -> bool
+        requires { offset + length octets.now ≤ length (held self.old) }
         ensures written { OnTrue result
-            (held self.new ≡ overwritten (held self.old) place octets.now) }
+            (held self.new ≡ overwritten (held self.old) offset octets.now) }
         ensures kept { OnFalse result (held self.new ≡ held self.old) }
     {
         match self {
             Storage::Own(own) => {
                 let slice = own.as_mut_slice();
-                slice[place..place + octets.len()].copy_from_slice(octets);
+                slice[offset..offset + octets.len()].copy_from_slice(octets);
                 true
             }
             Storage::Cut(_) => false,
@@ -162,16 +162,16 @@ impl Packet {
         self.octets.octets()
     }
 
-    /// Writes octets over those from a place on, where this is the only owner of a block of the
+    /// Writes octets over those from an offset on, where this is the only owner of a block of the
     /// packet's own: whether it is. Else nothing changes.
     #[inline(always)]
-    pub fn overwrite(&mut self, place: usize, octets: &[u8]) -> bool
-        requires { place + length octets.now ≤ length self.old }
-        ensures written { OnTrue result (self.new ≡ overwritten self.old place octets.now) }
+    pub fn overwrite(&mut self, offset: usize, octets: &[u8]) -> bool
+        requires { offset + length octets.now ≤ length self.old }
+        ensures written { OnTrue result (self.new ≡ overwritten self.old offset octets.now) }
         ensures kept { OnFalse result (self.new ≡ self.old) }
     {
         match Arc::get_mut(&mut self.octets) {
-            Some(sole) => sole.overwrite(place, octets),
+            Some(sole) => sole.overwrite(offset, octets),
             None => false,
         }
     }

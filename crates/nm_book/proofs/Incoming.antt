@@ -34,21 +34,21 @@ comes_in_at net p i here = go (receiver_of net i == p) refl
   where
     go : (b : Bool) → (receiver_of net i == p) ≡ b → b ≡ comes_in net p i
     go true e = sym (subst (λ q. comes_in net q i ≡ true) (is_same _ _ e) here)
-    go false e = ap (λ b. b && not (in_part net p (Arrive (net.peer i)))) (sym e)
+    go false e = ap (λ b. b && not (in_part net p (Arrive (net.far_end i)))) (sym e)
 
 -- what goes out of anywhere goes out of the partition of its sender alone
-pub goes_out_at : {P N : Type 0} (net : Net P N) (p i : ℕ) → comes_in net (receiver_of net i) i ≡ true → (net.part (net.owner (net.peer i)) == p) ≡ goes_out net p i
-goes_out_at net p i here = go (net.part (net.owner (net.peer i)) == p) refl
+pub goes_out_at : {P N : Type 0} (net : Net P N) (p i : ℕ) → comes_in net (receiver_of net i) i ≡ true → (net.part (net.owner (net.far_end i)) == p) ≡ goes_out net p i
+goes_out_at net p i here = go (net.part (net.owner (net.far_end i)) == p) refl
   where
     apart : (s r : ℕ) → ((r == r) && not (s == r)) ≡ true → (s == p) ≡ true → true ≡ not (r == p)
     apart s r h e = grind (arith, nat_tests, h, e)
 
-    go : (b : Bool) → (net.part (net.owner (net.peer i)) == p) ≡ b → b ≡ goes_out net p i
-    go true e = apart (net.part (net.owner (net.peer i))) (net.part (net.owner i)) here e ∙ ap (λ b. b && not (in_part net p (Arrive i))) (sym e)
+    go : (b : Bool) → (net.part (net.owner (net.far_end i)) == p) ≡ b → b ≡ goes_out net p i
+    go true e = apart (net.part (net.owner (net.far_end i))) (net.part (net.owner i)) here e ∙ ap (λ b. b && not (in_part net p (Arrive i))) (sym e)
     go false e = ap (λ b. b && not (in_part net p (Arrive i))) (sym e)
 
 -- what is linked to itself goes nowhere
-pub goes_nowhere : {P N : Type 0} (net : Net P N) (p i : ℕ) → net.peer i ≡ i → false ≡ goes_out net p i
+pub goes_nowhere : {P N : Type 0} (net : Net P N) (p i : ℕ) → net.far_end i ≡ i → false ≡ goes_out net p i
 goes_nowhere net p i e = both (in_part net p (Arrive i)) ∙ ap (λ j. in_part net p (Arrive j) && not (in_part net p (Arrive i))) (sym e)
   where
     both : (b : Bool) → false ≡ (b && not b)
@@ -56,16 +56,16 @@ goes_nowhere net p i e = both (in_part net p (Arrive i)) ∙ ap (λ j. in_part n
     both false = refl
 
 -- the far end of an interface that is there is there
-pub peer_there : {P N : Type 0} (net : Net P N) → IsNet net → (i : ℕ) → i < net.ifaces → net.peer i < net.ifaces
-peer_there net ok i h = go (cases_lt (net.peer i) net.ifaces)
+pub far_end_there : {P N : Type 0} (net : Net P N) → IsNet net → (i : ℕ) → i < net.ifaces → net.far_end i < net.ifaces
+far_end_there net ok i h = go (cases_lt (net.far_end i) net.ifaces)
   where
-    go : (net.peer i < net.ifaces) ⊎ (net.ifaces ≤ net.peer i) → net.peer i < net.ifaces
+    go : (net.far_end i < net.ifaces) ⊎ (net.ifaces ≤ net.far_end i) → net.far_end i < net.ifaces
     go (inl there) = there
-    go (inr past) = let e = sym (ok.outside (net.peer i) past) ∙ ok.twice i in absurd (omega (arith, e, past, h))
+    go (inr past) = let e = sym (ok.outside (net.far_end i) past) ∙ ok.twice i in absurd (omega (arith, e, past, h))
 
-pub peer_is : (t : TopologyValue) (i : ℕ) (x : IfaceValue) → slice_get t.ifaces i ≡ Some x → (net_of t).peer i ≡ x.far.peer
+pub far_end_is : (t : TopologyValue) (i : ℕ) (x : IfaceValue) → slice_get t.ifaces i ≡ Some x → (net_of t).far_end i ≡ x.far.iface
 unfolding net_of
-peer_is t i x e = ap (λ o. (far_from i o).peer) e
+far_end_is t i x e = ap (λ o. (far_from i o).iface) e
 
 pub link_is : (t : TopologyValue) (i : ℕ) (x : IfaceValue) → slice_get t.ifaces i ≡ Some x → (net_of t).delay i ≡ x.far.delay
 unfolding net_of
@@ -84,10 +84,10 @@ unfolding net_of
 stop_is t = refl
 
 -- when the transmission of the interface that sends on a channel of a partition completes
-pub busy_out : (t : TopologyValue) (p : ℕ) (s : State (List ℕ) NodeStateValue) (c : ℕ) → (net_of t).peer (receiving_iface t c) < (net_of t).ifaces → goes_out (net_of t) p (receiving_iface t c) ≡ true
-    → busy_at t (Some p) s c ≡ busy_until (s.port ((net_of t).peer (receiving_iface t c))).busy
+pub busy_out : (t : TopologyValue) (p : ℕ) (s : State (List ℕ) NodeStateValue) (c : ℕ) → (net_of t).far_end (receiving_iface t c) < (net_of t).ifaces → goes_out (net_of t) p (receiving_iface t c) ≡ true
+    → busy_at t (Some p) s c ≡ busy_until (s.port ((net_of t).far_end (receiving_iface t c))).busy
 busy_out t p s c there goes =
-    let i = (net_of t).peer (receiving_iface t c) in
+    let i = (net_of t).far_end (receiving_iface t c) in
     let within : ltb i (length t.ifaces) ≡ true = let e = ifaces_are t in grind (arith, nat_tests, there, e) in
     let here : in_part (net_of t) p (Arrive i) ≡ true = left _ _ goes in
     ap₂ (λ a b. if a && b then completes_at (s.port i).busy else 0) within here ∙ same (s.port i).busy

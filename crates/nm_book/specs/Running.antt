@@ -15,15 +15,18 @@ use Rattle.nm_book.specs.declared.running.Ran.TheVariants.{All, Limit, Memory}
 -- safe time, and had done m after: all of them, where nothing is left before the safe time; as
 -- many as were asked for, where some are left; or fewer, each of them whole, where some are left
 -- and memory was refused.
-abbrev pub HasRun : TopologyValue → ℕ → Knowledge (List ℕ) → ℕ → ℕ → ℕ → Ran → Type 0
-HasRun t p K limit k m (All n) =
-    (m ≡ k + n) × (m ≡ advance (net_of t) p K limit k) × IsCount (net_of t) p K m
-HasRun t p K limit k m (Limit n) = (m ≡ k + n) × (m ≡ advance (net_of t) p K limit k) × (n ≡ limit)
-    × (pends_before (safe_time (net_of t) p K) (from_scratch (net_of t) p K m) ≡ true)
-HasRun t p K limit k m (Memory n) = (m ≡ k + n) × (m ≡ advance (net_of t) p K n k) × (n < limit)
-    × (pends_before (safe_time (net_of t) p K) (from_scratch (net_of t) p K m) ≡ true)
+abbrev pub HasRun : TopologyValue → ℕ → Knowledge (List ℕ) → ℕ → ℕ × ℕ → Ran → Type 0
+HasRun t p K limit done (All n) =
+    (done.1 ≡ done.0 + n) × (done.1 ≡ advance (net_of t) p K limit done.0)
+    × IsCount (net_of t) p K done.1
+HasRun t p K limit done (Limit n) =
+    (done.1 ≡ done.0 + n) × (done.1 ≡ advance (net_of t) p K limit done.0) × (n ≡ limit)
+    × (pends_before (safe_time (net_of t) p K) (from_scratch (net_of t) p K done.1) ≡ true)
+HasRun t p K limit done (Memory n) =
+    (done.1 ≡ done.0 + n) × (done.1 ≡ advance (net_of t) p K n done.0) × (n < limit)
+    × (pends_before (safe_time (net_of t) p K) (from_scratch (net_of t) p K done.1) ≡ true)
 
 -- a book ran: the number of its events alone changes
 pub record Runs (old new : BookValue) (limit : ℕ) (ran : Ran) : Type 0 where
-  pub run : HasRun old.topology old.partition (knowledge old) limit old.events new.events ran
+  pub run : HasRun old.topology old.partition (knowledge old) limit (old.events, new.events) ran
   pub same : new ≡ record old { events = new.events }

@@ -335,13 +335,10 @@ impl Book {
     pub fn null(&self, channel: ChanNo) -> Option<Null>
         ensures { result ≡ only_if (is_outgoing self.now channel) (null_on Tight self.now channel) }
     {
-        if !goes_out(&self.topology, self.partition, channel) {
-            return None;
-        }
         Some(Null {
             channel,
-            count: self.part.out(channel).len() as u64,
-            clock: tight_promise(&self.topology, &self.part, self.safe, channel),
+            count: self.out_len(channel)?,
+            clock: self.promise(channel)?,
         })
     }
 
@@ -350,13 +347,10 @@ impl Book {
     pub fn old_null(&self, channel: ChanNo) -> Option<Null>
         ensures { result ≡ only_if (is_outgoing self.now channel) (null_on Plain self.now channel) }
     {
-        if !goes_out(&self.topology, self.partition, channel) {
-            return None;
-        }
         Some(Null {
             channel,
-            count: self.part.out(channel).len() as u64,
-            clock: plain_promise(&self.topology, &self.part, self.safe, channel),
+            count: self.out_len(channel)?,
+            clock: self.old_promise(channel)?,
         })
     }
 

@@ -48,7 +48,7 @@ pub fn goes_out(topology: &Topology, partition: PartNo, channel: ChanNo) -> bool
         return false;
     }
     let receiver = topology.iface(topology.receiver(channel));
-    partition_of(topology, receiver.far().peer) == partition
+    partition_of(topology, receiver.far().iface) == partition
 }
 
 /// The partition that sends on a channel.
@@ -59,7 +59,7 @@ pub fn sender_of(topology: &Topology, channel: ChanNo) -> PartNo
     every_topology_is_a_network(topology); // law: a link has two ends
     channels_are_numbered_by_their_receivers(topology); // law: its interface is there
     let receiver = topology.iface(topology.receiver(channel));
-    partition_of(topology, receiver.far().peer)
+    partition_of(topology, receiver.far().iface)
 }
 
 /// The partition into which a channel comes.

@@ -9,7 +9,6 @@ use crate::channels::comes_in;
 use nm_base::{ChanNo, PartNo};
 use nm_knowledge::Know;
 use nm_topology::Topology;
-use nm_topology::topology::accepted_topologies_are_in_order;
 use std::alloc::{AllocError, Global};
 use std::marker::Model;
 
@@ -52,10 +51,9 @@ fn copy_incoming(
     requires incoming { KnowsIncoming topology.now partition knows.now }
     ensures { IfOk result (λ copies. map kept_of copies.items ≡ knows.now) }
 {
-    accepted_topologies_are_in_order(topology); // law: channels have numbers of 32 bits
     let mut copies = Vec::with_capacity(alloc, knows.len())?;
     for number in 0..knows.len() {
-        let copy = if comes_in(topology, partition, ChanNo::new(number as u32)) {
+        let copy = if comes_in(topology, partition, topology.channel_number(number)) {
             Some(knows[number].copy(alloc)?)
         } else {
             None

@@ -29,9 +29,7 @@ use nm_model::replica::{clocks_change_no_state, law_of_books};
 use nm_sim::Part;
 use nm_sim::network::{channels_are_those_of_the_network, every_topology_is_a_network};
 use nm_topology::Topology;
-use nm_topology::topology::{
-    accepted_topologies_are_in_order, channels_are_numbered_by_their_receivers,
-};
+use nm_topology::topology::channels_are_numbered_by_their_receivers;
 use std::alloc::{AllocError, Global};
 
 /// Looks whether all channels that come in can be joined.
@@ -45,9 +43,8 @@ fn check_all(
     requires others { length others.now.knows ≡ length topology.now.receivers }
     ensures { Checks topology.now partition knows.now others.now.knows result }
 {
-    accepted_topologies_are_in_order(topology); // law: channels have numbers of 32 bits
     for number in 0..knows.len() {
-        let channel = ChanNo::new(number as u32);
+        let channel = topology.channel_number(number);
         if !comes_in(topology, partition, channel) {
             continue;
         }
@@ -93,10 +90,9 @@ fn gains(
     ensures { IfOk result (λ v. AreGains topology.now partition knows.now others.now.knows
         v.items) }
 {
-    accepted_topologies_are_in_order(topology); // law: channels have numbers of 32 bits
     let mut gains = Vec::with_capacity(alloc, knows.len())?;
     for number in 0..knows.len() {
-        let channel = ChanNo::new(number as u32);
+        let channel = topology.channel_number(number);
         let gain = gain_of(
             topology,
             partition,
@@ -193,10 +189,9 @@ fn new_messages(
     ensures told { IfOk result (λ v. AreTold topology.now partition knows.now others.now.knows
         (length knows.now) (told_each knows.now v.items)) }
 {
-    accepted_topologies_are_in_order(topology); // law: channels have numbers of 32 bits
     let mut messages = Vec::new(alloc);
     for number in 0..knows.len() {
-        let channel = ChanNo::new(number as u32);
+        let channel = topology.channel_number(number);
         let know = &knows[number];
         let other = others.of(channel);
         add_messages(topology, partition, &mut messages, channel, know, other)?;

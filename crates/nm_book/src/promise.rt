@@ -51,7 +51,7 @@ fn link_of(topology: &Topology, iface: IfaceNo) -> Far
     ensures short { result.delay ≤ MAX_DELAY }
 
     // The link is the network's.
-    ensures peer { result.peer ≡ (net_of topology.now).peer iface }
+    ensures iface { result.iface ≡ (net_of topology.now).far_end iface }
     ensures delay { result.delay ≡ (net_of topology.now).delay iface }
     ensures least_tx { time_of result.rate 1 ≡ (net_of topology.now).least_tx iface }
 {
@@ -65,11 +65,11 @@ fn sender(topology: &Topology, channel: ChanNo) -> IfaceNo
     requires { channel < length topology.now.receivers }
     ensures there { result < length topology.now.ifaces }
     ensures value { result
-        ≡ (net_of topology.now).peer (receiving_iface topology.now channel) }
+        ≡ (net_of topology.now).far_end (receiving_iface topology.now channel) }
 {
     every_topology_is_a_network(topology); // law: a link has two ends
     channels_are_numbered_by_their_receivers(topology); // law: a channel's interface is there
-    link_of(topology, topology.receiver(channel)).peer
+    link_of(topology, topology.receiver(channel)).iface
 }
 
 /// The promise that counts the link's delay alone, in nanoseconds.

@@ -51,8 +51,8 @@ pub(crate) fn run_part(
         → IsBook topology.now p knows part.new }
     ensures run { (p : ℕ) (knows : List (Known (List ℕ))) → IsBook topology.now p knows part.old
         → safe ≡ safe_time (net_of topology.now) p (knowledge_of topology.now knows)
-        → HasRun topology.now p (knowledge_of topology.now knows) limit part.old.steps
-        part.new.steps result }
+        → HasRun topology.now p (knowledge_of topology.now knows) limit
+        (part.old.steps, part.new.steps) result }
     ensures keeping { part.new.records.keeping ≡ part.old.records.keeping }
 {
     every_topology_is_a_network(topology); // law: `net_of` is a network of the model

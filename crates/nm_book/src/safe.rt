@@ -16,9 +16,7 @@ use nm_knowledge::Know;
 use nm_model::replica::safe_time_is_the_least;
 use nm_sim::network::channels_are_those_of_the_network;
 use nm_topology::Topology;
-use nm_topology::topology::{
-    accepted_topologies_are_in_order, channels_are_numbered_by_their_receivers,
-};
+use nm_topology::topology::channels_are_numbered_by_their_receivers;
 
 /// The clock of a channel that comes in; of another channel, `stop`.
 fn clock_of(topology: &Topology, partition: PartNo, channel: ChanNo, know: &Know) -> Time
@@ -39,13 +37,12 @@ pub(crate) fn safe_time(topology: &Topology, partition: PartNo, knows: &[Know]) 
     ensures { result ≡ safe_time (net_of topology.now) partition
         (knowledge_of topology.now knows.now) }
 {
-    accepted_topologies_are_in_order(topology); // law: channels have numbers of 32 bits
     channels_are_numbered_by_their_receivers(topology); // law: a channel has its own interface
     channels_are_those_of_the_network(topology); // law: what comes in is a channel
     safe_time_is_the_least::<Packet, NodeState>(); // law: and no clock is before it
     let mut safe = topology.stop();
     for number in 0..knows.len() {
-        let channel = ChanNo::new(number as u32);
+        let channel = topology.channel_number(number);
         safe = safe.min(clock_of(topology, partition, channel, &knows[number]));
     }
     safe

@@ -7,8 +7,8 @@ ghost use Rattle.nm_check.specs.Locate.{IsLocated};
 
 use crate::faults::push_faults;
 use crate::locate::{Located, Reading, locate};
+use crate::pieces::{Appended, Piece, push};
 use crate::whole_sentence::push_whole_fault;
-use crate::words::{Appended, Piece, push};
 use nm_base::limits::MAX_TEXT_OCTETS;
 use nm_topology::Refusal;
 use std::alloc::{AllocError, Global};

@@ -5,10 +5,10 @@
 //! (`place::place_of_member`); that all are told is tested.
 
 use crate::line::{table_line, top_line};
+use crate::pieces::{Appended, Piece, push};
 use crate::place::{FaultPlace, Found, any_head, fields_of, place_of_member};
 use crate::sentence::{member, push_found, unknown_key};
 use crate::spot::Spot;
-use crate::words::{Appended, Piece, push};
 use nm_topology::keys::array::Array;
 use nm_topology::keys::field::Form;
 use nm_topology::keys::fields::{ARRAYS, TOP_TABLE};

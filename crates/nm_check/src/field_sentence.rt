@@ -2,9 +2,9 @@
 
 use crate::expected::{bounds_of, form_fault, limit_of, type_due, type_of};
 use crate::hint::push_hint;
+use crate::pieces::{Appended, Piece, push};
 use crate::spot::FieldFault;
 use crate::units::unit_of;
-use crate::words::{Appended, Piece, push};
 use nm_topology::Refusal;
 use nm_topology::keys::field::{Bounds, Field, Form};
 use nm_topology::keys::fields::PORT;

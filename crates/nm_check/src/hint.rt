@@ -1,6 +1,6 @@
 //! What would be right in place of a text that is not in the form of its field.
 
-use crate::words::{Appended, Piece, push};
+use crate::pieces::{Appended, Piece, push};
 use nm_packet::Address;
 use nm_topology::keys::field::{Field, Form};
 use nm_topology::keys::key::TableKey;

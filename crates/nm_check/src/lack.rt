@@ -1,6 +1,6 @@
 //! The tables that name what is not there.
 
-use crate::words::Appended;
+use crate::pieces::Appended;
 use nm_base::NodeNo;
 use nm_topology::keys::array::Array;
 use nm_topology::keys::key::TableKey;

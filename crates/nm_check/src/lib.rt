@@ -24,6 +24,7 @@ mod names;
 mod nearest;
 mod overview;
 mod packet;
+mod pieces;
 mod place;
 mod reading;
 mod remarks;
@@ -32,7 +33,6 @@ mod spot;
 mod units;
 mod whole;
 mod whole_sentence;
-mod words;
 
 pub use explanation::explain;
 pub use overview::{least_lookahead, summary};

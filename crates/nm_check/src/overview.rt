@@ -1,11 +1,11 @@
 //! What an accepted topology says, as lines.
 
+use crate::pieces::{Appended, Piece, push};
 use crate::remarks::with_remarks;
-use crate::words::{Appended, Piece, push};
 use nm_base::Time;
 use nm_base::limits::MAX_RATE;
 use nm_iface::transmission::transmission_time;
-use nm_topology::keys::fields::HEADERS;
+use nm_packet::limits::HEADERS;
 use nm_topology::parts::Far;
 use nm_topology::traffic::{Flow, RawPacket, Traffic};
 use nm_topology::{NodeKind, Topology};
@@ -48,7 +48,7 @@ fn with_packets(load: Load, packets: &[RawPacket], stop: Time) -> Load {
 
 /// What a flow adds before the end of the simulation.
 fn with_flow(load: Load, flow: Flow, stop: Time) -> Load {
-    let octets = flow.size as u64 + HEADERS as u64;
+    let octets = u64::from(flow.size) + HEADERS;
     load.and(packets_before(flow, stop), octets)
 }
 

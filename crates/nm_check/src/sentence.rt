@@ -3,9 +3,9 @@
 use crate::field_sentence::push_field_fault;
 use crate::nearest::nearest;
 use crate::packet::first_packet;
+use crate::pieces::{Appended, Piece, push};
 use crate::place::{FaultPlace, Found, fields_of};
 use crate::spot::{FieldFault, Spot};
-use crate::words::{Appended, Piece, push};
 use nm_topology::keys::array::Array;
 use nm_topology::keys::field::{Field, Form};
 use nm_topology::keys::fields::{TOP_TABLE, packet_table};

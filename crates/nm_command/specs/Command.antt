@@ -3,8 +3,7 @@ use Rattle.std.specs.Prelude.{ℕ, ◌+◌, ◌≤◌, ◌&&◌, leb, if◌then�
 use Rattle.std.specs.Str.{bytes_eq}
 use Rattle.nm_command.specs.declared.command.Command.{Command}
 use Rattle.nm_command.specs.declared.command.Command.TheVariants as command
-use Rattle.nm_base.specs.declared.limits.TheConstants.{MAX_PARTITION, MAX_REPLICA, MAX_REPLICAS, MAX_ROUNDS, MAX_TIME, MAX_WORKERS}
-use Rattle.nm_command.specs.declared.command.TheConstants.{MAX_SOURCE}
+use Rattle.nm_base.specs.declared.limits.TheConstants.{MAX_PARTITION, MAX_REPLICA, MAX_REPLICAS, MAX_ROUNDS, MAX_SOURCE, MAX_TIME, MAX_WORKERS}
 use Rattle.nm_command.specs.declared.view.Subject.{Subject}
 use Rattle.nm_command.specs.declared.view.Subject.TheVariants.{Interfaces, Sources}
 use Rattle.nm_command.specs.declared.view.View.{View}
@@ -162,7 +161,8 @@ run_of topology folder (Some workers) (Some replicas) = Some (Run topology folde
 abbrev pub of_five : List ℕ → List ℕ → List ℕ → List ℕ → List ℕ → Option CommandValue
 of_five word topology folder workers replicas =
     if bytes_eq word (codes "run") then
-    run_of topology folder (asked_number 1 MAX_WORKERS workers) (asked_number 1 MAX_REPLICAS replicas)
+    run_of topology folder (asked_number 1 MAX_WORKERS workers)
+    (asked_number 1 MAX_REPLICAS replicas)
     else None
 
 -- `node`, if its two numbers are such

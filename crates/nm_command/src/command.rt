@@ -6,32 +6,29 @@ ghost use Rattle.nm_command.specs.Command.{AsksWithinLimits, asked_number, comma
 ghost use Rattle.nm_command.specs.Command.{command_value, form_of, of_five, of_four, of_number};
 ghost use Rattle.nm_command.specs.Command.{of_six, of_three, of_two, shown_of};
 ghost use Rattle.nm_command.specs.Command.{series_of, timed_of, trace_from};
-ghost use Rattle.nm_command.specs.declared.command.TheConstants.{MAX_SOURCE};
-ghost use Rattle.nm_base.specs.declared.limits.TheConstants.{MAX_PARTITION, MAX_REPLICA};
+ghost use Rattle.nm_base.specs.declared.limits.TheConstants.{MAX_PARTITION, MAX_REPLICA, MAX_SOURCE};
 ghost use Rattle.nm_base.specs.declared.limits.TheConstants.{MAX_REPLICAS, MAX_TIME, MAX_WORKERS};
 
+use crate::arguments::{
+    AllArguments, NodeArguments, PacketsArguments, PathArguments, RunArguments, SeriesArguments,
+    TraceArguments,
+};
 use crate::view::{Subject, View};
 use crate::ways::Ways;
-use crate::words::{
-    AllWords, NodeWords, PacketsWords, PathWords, RunWords, SeriesWords, TraceWords,
-};
 use nm_base::limits::{
-    MAX_PARTITION, MAX_REPLICA, MAX_REPLICAS, MAX_ROUNDS, MAX_TIME, MAX_WORKERS,
+    MAX_PARTITION, MAX_REPLICA, MAX_REPLICAS, MAX_ROUNDS, MAX_SOURCE, MAX_TIME, MAX_WORKERS,
 };
 use nm_base::{PartNo, SourceNo, number_of};
 use nm_pcap::Form;
-
-/// The greatest number of a source.
-pub const MAX_SOURCE: u64 = 1_023;
 
 /// What the program is to do. Each input is named by the file that has it, or by `-`, which is
 /// standard input. A clause sees the names as octets.
 #[derive(Clone, Copy)]
 pub enum Command<'a> {
     /// To write the trace file of one interface.
-    Trace(TraceWords<'a>),
+    Trace(TraceArguments<'a>),
     /// To write the trace files of interfaces, all by one event list.
-    All(AllWords<'a>),
+    All(AllArguments<'a>),
     /// To let all partitions run in rounds, and to say what came of it.
     Rounds {
         /// The input with the topology text.
@@ -65,16 +62,16 @@ pub enum Command<'a> {
         iface: &'a str,
     },
     /// To say what interfaces or sources do over time.
-    Series(SeriesWords<'a>),
+    Series(SeriesArguments<'a>),
     /// To say the ways of the packets of a source.
-    Packets(PacketsWords<'a>),
+    Packets(PacketsArguments<'a>),
     /// To say the way of a packet from a node to an address, a line a hop.
-    Path(PathWords<'a>),
+    Path(PathArguments<'a>),
     /// To run all partitions at once, each as one or two replicas, and to certify what they come
     /// to.
-    Run(RunWords<'a>),
+    Run(RunArguments<'a>),
     /// To run one replica of a partition, which talks with the others over sockets.
-    Node(NodeWords<'a>),
+    Node(NodeArguments<'a>),
 }
 
 /// The form of a trace file that a first word asks for, and which ways its packets go.
@@ -97,7 +94,7 @@ fn trace_of<'a>(word: &str, topology: &'a str, iface: Option<&'a str>) -> Option
     ensures limits { IfSome result AsksWithinLimits }
 {
     let (form, ways) = form_of(word)?;
-    Some(Command::Trace(TraceWords {
+    Some(Command::Trace(TraceArguments {
         form,
         ways,
         topology,
@@ -181,7 +178,7 @@ fn series_of<'a>(topology: &'a str, step: &str, subject: Subject) -> Option<Comm
     ensures limits { IfSome result AsksWithinLimits }
 {
     let step = asked_number(step, 1, MAX_TIME)?;
-    Some(Command::Series(SeriesWords {
+    Some(Command::Series(SeriesArguments {
         topology,
         step,
         subject,
@@ -200,7 +197,7 @@ fn timed_of<'a>(word: &'a str, topology: &'a str, third: &'a str) -> Option<Comm
     }
     if word == "packets" {
         let source = asked_number(third, 0, MAX_SOURCE)?;
-        return Some(Command::Packets(PacketsWords {
+        return Some(Command::Packets(PacketsArguments {
             topology,
             source: SourceNo::new(source as u32),
         }));
@@ -239,7 +236,7 @@ fn of_four<'a>(
 {
     match word {
         "series" if fourth == "flows" => series_of(topology, third, Subject::Sources),
-        "path" => Some(Command::Path(PathWords {
+        "path" => Some(Command::Path(PathArguments {
             topology,
             node: third,
             address: fourth,
@@ -265,7 +262,7 @@ fn of_five<'a>(
     }
     let workers = asked_number(workers, 1, MAX_WORKERS)?;
     let replicas = asked_number(replicas, 1, MAX_REPLICAS as u64)?;
-    Some(Command::Run(RunWords {
+    Some(Command::Run(RunArguments {
         topology,
         folder,
         workers: workers as u8,
@@ -291,7 +288,7 @@ fn of_six<'a>(
     }
     let partition = asked_number(partition, 0, MAX_PARTITION)?;
     let replica = asked_number(replica, 0, MAX_REPLICA)?;
-    Some(Command::Node(NodeWords {
+    Some(Command::Node(NodeArguments {
         topology,
         folder,
         partition: PartNo::new(partition as u32),
@@ -307,7 +304,7 @@ fn of_number<'a>(words: &'a [String]) -> Option<Command<'a>>
     ensures limits { IfSome result AsksWithinLimits }
 {
     match words {
-        [] => Some(Command::Trace(TraceWords {
+        [] => Some(Command::Trace(TraceArguments {
             form: Form::Hexadecimal,
             ways: Ways::Both,
             topology: "-",
@@ -356,7 +353,7 @@ impl<'a> Command<'a> {
     {
         match words {
             [word, topology, folder, ifaces @ ..] => match word.as_str() {
-                "all" => Some(Command::All(AllWords {
+                "all" => Some(Command::All(AllArguments {
                     topology: topology.as_str(),
                     folder: folder.as_str(),
                     ifaces,

@@ -6,7 +6,7 @@ use Rattle.std.specs.Int.{w32, from_be_bytes}
 use Rattle.nm_model.proofs.ListLemmas.{number_is}
 use Rattle.nm_frames.specs.declared.fault.FrameFault.{FrameFault}
 use Rattle.nm_frames.specs.declared.fault.FrameFault.TheVariants.{BadLength, BadKind, BadBody}
-use Rattle.nm_frames.specs.Stream.{stated_length, has_first_word, fits_kind, fault_shown, is_bad_length, is_bad_kind, deciding_octets}
+use Rattle.nm_frames.specs.Stream.{stated_length, has_magic, fits_kind, fault_shown, is_bad_length, is_bad_kind, deciding_octets}
 
 -- the fault by the answers to the tests
 abbrev fault_by : Bool → Bool → Bool → Bool → Bool → Bool → Option FrameFault
@@ -54,10 +54,10 @@ module _ (p q o : List ℕ) (whole : p ++ q ≡ o) where
       ap (λ l. slice_index (drop 5 l) i) (sym whole) ∙ ap (λ l. slice_index l i) (drop-append-le 5 p q h)
       ∙ get_or_append_left (drop 5 p) q 0 i (omega (arith, length-drop 5 p, k))
 
-  same_word : 48 ≤ length p → has_first_word (drop 5 o) ≡ has_first_word (drop 5 p)
+  same_word : 48 ≤ length p → has_magic (drop 5 o) ≡ has_magic (drop 5 p)
   same_word h = rw (fields_at 0 (omega (arith, h)) (omega (arith, h)), fields_at 1 (omega (arith, h)) (omega (arith, h)), fields_at 2 (omega (arith, h)) (omega (arith, h)), fields_at 3 (omega (arith, h)) (omega (arith, h))) refl
 
-  same_hello : (n : ℕ) (b : Bool) → (n == 44) ≡ b → 4 + n ≤ length p → ((n == 44) && has_first_word (drop 5 o)) ≡ ((n == 44) && has_first_word (drop 5 p))
+  same_hello : (n : ℕ) (b : Bool) → (n == 44) ≡ b → 4 + n ≤ length p → ((n == 44) && has_magic (drop 5 o)) ≡ ((n == 44) && has_magic (drop 5 p))
   same_hello n true e h = ap (λ x. (n == 44) && x) (same_word (omega (arith, number_is n 44 e, h)))
   same_hello n false e h = rw e refl
 

@@ -10,7 +10,7 @@ use Rattle.std.specs.Int.{w16, w32, w64, to_be_bytes, from_be_bytes}
 use Rattle.nm_frames.specs.declared.frame.Frame.{Frame}
 use Rattle.nm_frames.specs.Frame.{data_frame, frame_body, frame_octets, have_frame, hello_frame, null_frame}
 use Rattle.nm_frames.specs.Reader.{StandsAt}
-use Rattle.nm_frames.specs.Stream.{has_first_word, fits_kind, stated_length}
+use Rattle.nm_frames.specs.Stream.{has_magic, fits_kind, stated_length}
 
 abbrev pub Octets : List ℕ → Type 0
 Octets xs = (i : ℕ) → get_or xs i 0 < 256
@@ -95,7 +95,7 @@ fitting_4 k n fields e h = let f : (n == 21) ≡ true = fitting_at k 4 n fields 
 
 pub fitting_1 : (k n : ℕ) (fields : List ℕ) → k ≡ 1 → fits_kind k n fields ≡ true → (n ≡ 44) × (get_or fields 0 0 ≡ 0x4e) × (get_or fields 1 0 ≡ 0x4d) × (get_or fields 2 0 ≡ 0x53) × (get_or fields 3 0 ≡ 0x31)
 fitting_1 k n fields e h =
-    let f : ((n == 44) && has_first_word fields) ≡ true = fitting_at k 1 n fields e h in
+    let f : ((n == 44) && has_magic fields) ≡ true = fitting_at k 1 n fields e h in
     (grind (arith, nat_tests), grind (arith, nat_tests), grind (arith, nat_tests), grind (arith, nat_tests), grind (arith, nat_tests))
 
 -- a length, so many octets, and what follows them

@@ -2,7 +2,7 @@
 use Rattle.std.specs.Prelude.{◌≡◌, ℕ, ◌<◌, ◌≤◌, ◌^◌, List, [], ◌∷◌, ◌++◌, length, flat_map}
 use Rattle.std.specs.Int.{w16, w32, w64, to_be_bytes}
 use Rattle.nm_base.specs.declared.limits.TheConstants.{MAX_PACKET_OCTETS}
-use Rattle.nm_frames.specs.declared.format.TheConstants.{DIGEST_OCTETS, FIRST_WORD}
+use Rattle.nm_frames.specs.declared.format.TheConstants.{DIGEST_OCTETS, MAGIC}
 use Rattle.nm_frames.specs.declared.format.kind.TheConstants.{HELLO, HAVE, DATA, NULL, BYE}
 use Rattle.nm_frames.specs.declared.frame.Frame.{Frame}
 use Rattle.nm_frames.specs.declared.frame.Frame.TheVariants.{Hello, Have, Data, Null, Bye}
@@ -23,7 +23,7 @@ null_frame c n t = Null (record { channel = c; count = n; clock = t })
 -- the kind, and then the fields; all numbers are big-endian
 abbrev pub frame_body : Frame → List ℕ
 frame_body (Hello h) =
-    HELLO ∷ FIRST_WORD ++ to_be_bytes w16 h.version ++ to_be_bytes w32 h.partition
+    HELLO ∷ MAGIC ++ to_be_bytes w16 h.version ++ to_be_bytes w32 h.partition
     ++ h.replica ∷ h.digest
 frame_body (Have h) = HAVE ∷ to_be_bytes w32 h.channel ++ to_be_bytes w64 h.count
 frame_body (Data d) =

@@ -3,7 +3,7 @@ use Rattle.std.specs.Prelude.{◌≡◌, ℕ, ◌+◌, ◌<◌, ◌⊎◌, Bool,
 use Rattle.std.specs.Int.{w32, from_be_bytes}
 use Rattle.std.specs.List.{AllByRecursion}
 use Rattle.nm_base.specs.declared.limits.TheConstants.{MAX_BODY_OCTETS}
-use Rattle.nm_frames.specs.declared.format.TheConstants.{BYE_OCTETS, DATA_HEADER_OCTETS, FIRST_WORD, HAVE_OCTETS, HEAD_OCTETS, HELLO_OCTETS, LENGTH_OCTETS, NULL_OCTETS}
+use Rattle.nm_frames.specs.declared.format.TheConstants.{BYE_OCTETS, DATA_HEADER_OCTETS, MAGIC, HAVE_OCTETS, HEAD_OCTETS, HELLO_OCTETS, LENGTH_OCTETS, NULL_OCTETS}
 use Rattle.nm_frames.specs.declared.format.kind.TheConstants.{HELLO, HAVE, DATA, NULL, BYE}
 use Rattle.nm_frames.specs.declared.frame.Frame.{Frame}
 use Rattle.nm_frames.specs.declared.fault.FrameFault.{FrameFault}
@@ -21,18 +21,18 @@ is_bad_length size = (size == 0) || nat_lt MAX_BODY_OCTETS size
 abbrev pub is_bad_kind : ℕ → Bool
 is_bad_kind kind = (kind == 0) || nat_lt BYE kind
 
--- the fields begin with the first word of a Hello
-abbrev pub has_first_word : List ℕ → Bool
-has_first_word fields =
-    (slice_index fields 0 == slice_index FIRST_WORD 0)
-    && (slice_index fields 1 == slice_index FIRST_WORD 1)
-    && (slice_index fields 2 == slice_index FIRST_WORD 2)
-    && (slice_index fields 3 == slice_index FIRST_WORD 3)
+-- the fields begin with the magic octets of a Hello
+abbrev pub has_magic : List ℕ → Bool
+has_magic fields =
+    (slice_index fields 0 == slice_index MAGIC 0)
+    && (slice_index fields 1 == slice_index MAGIC 1)
+    && (slice_index fields 2 == slice_index MAGIC 2)
+    && (slice_index fields 3 == slice_index MAGIC 3)
 
 -- whether a body of so many octets fits its kind, where these are the fields
 abbrev pub fits_kind : ℕ → ℕ → List ℕ → Bool
 fits_kind kind size fields =
-    if kind == HELLO then (size == HELLO_OCTETS) && has_first_word fields
+    if kind == HELLO then (size == HELLO_OCTETS) && has_magic fields
     else if kind == HAVE then size == HAVE_OCTETS
     else if kind == DATA then nat_lt DATA_HEADER_OCTETS size
     else if kind == NULL then size == NULL_OCTETS

@@ -6,7 +6,6 @@ ghost use Rattle.nm_frames.specs.Channels.{runs_between, channels_between};
 use nm_base::{ChanNo, PartNo};
 use nm_book::channels::{receiver_of, sender_of};
 use nm_topology::Topology;
-use nm_topology::topology::accepted_topologies_are_in_order;
 use std::alloc::{AllocError, Global};
 
 /// Whether a channel runs from one partition to the other.
@@ -26,11 +25,9 @@ pub fn channels_between(
 ) -> Result<Vec<ChanNo>, AllocError>
     ensures { IfOk result (λ channels. channels.items ≡ channels_between topology.now from to) }
 {
-    accepted_topologies_are_in_order(topology); // law: there are few channels
-    let count = topology.receivers().len() as u32;
     let mut channels = Vec::new(alloc);
-    for number in 0..count {
-        let channel = ChanNo::new(number);
+    for number in 0..topology.receivers().len() {
+        let channel = topology.channel_number(number);
         if is_between(topology, from, to, channel) {
             channels.push(channel)?;
         }

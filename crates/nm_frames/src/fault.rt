@@ -16,7 +16,7 @@ pub enum FrameFault {
     /// A kind that is not 1 to 5, which shows at the frame's fifth octet.
     #[error("a frame of an unknown kind")]
     BadKind,
-    /// A length that does not fit the kind, or a Hello without its first word, which shows at the
+    /// A length that does not fit the kind, or a Hello without its magic octets, which shows at the
     /// frame's last octet.
     #[error("a frame that does not fit its kind")]
     BadBody,

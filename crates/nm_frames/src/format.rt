@@ -25,8 +25,8 @@ pub mod kind {
 pub mod field {
     pub const KIND: usize = 0;
 
-    /// Of a Hello: [`FIRST_WORD`](super::FIRST_WORD).
-    pub const FIRST_WORD: usize = 1;
+    /// Of a Hello: [`MAGIC`](super::MAGIC).
+    pub const MAGIC: usize = 1;
 
     /// Of a Hello.
     pub const VERSION: usize = 5;
@@ -53,8 +53,8 @@ pub mod field {
     pub const PACKET: usize = 21;
 }
 
-/// The first word of a Hello.
-pub const FIRST_WORD: [u8; 4] = *b"NMS1";
+/// The magic octets of a Hello, by which a stranger is told apart.
+pub const MAGIC: [u8; 4] = *b"NMS1";
 
 /// The octets of a length, which does not count itself.
 pub const LENGTH_OCTETS: usize = 4;
@@ -68,8 +68,8 @@ pub const HEAD_OCTETS: usize = LENGTH_OCTETS + KIND_OCTETS;
 /// The octets of a digest: SHA-256 of the topology text.
 pub const DIGEST_OCTETS: usize = 32;
 
-/// The octets of a Hello's fields before the digest: the first word, and who speaks.
-pub const SPEAKER_OCTETS: usize = field::DIGEST - field::FIRST_WORD;
+/// The octets of a Hello's fields before the digest: the magic octets, and who speaks.
+pub const SPEAKER_OCTETS: usize = field::DIGEST - field::MAGIC;
 
 /// The octets of a channel and the number of messages behind it.
 pub const CHANNEL_AND_COUNT_OCTETS: usize = field::TIME - field::CHANNEL;

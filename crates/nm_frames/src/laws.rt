@@ -108,9 +108,9 @@ pub fn frame_kinds()
     ensures bye { kind.BYE ≡ 5 }
 {}
 
-/// The first word of a Hello, "NMS1", in its octets.
-pub fn first_word()
-    ensures { format.FIRST_WORD ≡ 0x4e ∷ 0x4d ∷ 0x53 ∷ 0x31 ∷ [] }
+/// The magic octets of a Hello: "NMS1".
+pub fn magic_octets()
+    ensures { format.MAGIC ≡ 0x4e ∷ 0x4d ∷ 0x53 ∷ 0x31 ∷ [] }
 {}
 
 /// How many octets the length of a frame has, a digest, and the bodies of the kinds, as numbers: of

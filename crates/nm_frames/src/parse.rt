@@ -7,13 +7,13 @@ ghost use Rattle.nm_frames.specs.declared.format.TheConstants.{KIND_OCTETS};
 ghost use Rattle.nm_frames.specs.declared.format.field.TheConstants as field;
 ghost use Rattle.nm_frames.specs.declared.format.kind.TheConstants as kind;
 ghost use Rattle.nm_frames.specs.Frame.{IsFrame, frame_body};
-ghost use Rattle.nm_frames.specs.Stream.{stated_length, has_first_word, fits_kind};
+ghost use Rattle.nm_frames.specs.Stream.{stated_length, has_magic, fits_kind};
 ghost use Rattle.nm_frames.specs.Reader.{FindsWhole, Found, StandsAt};
 
 use crate::fault::FrameFault;
 use crate::format::{
-    BYE_OCTETS, DATA_HEADER_OCTETS, DIGEST_OCTETS, FIRST_WORD, HAVE_OCTETS, HELLO_OCTETS,
-    LENGTH_OCTETS, NULL_OCTETS, field, kind,
+    BYE_OCTETS, DATA_HEADER_OCTETS, DIGEST_OCTETS, HAVE_OCTETS, HELLO_OCTETS, LENGTH_OCTETS, MAGIC,
+    NULL_OCTETS, field, kind,
 };
 use crate::frame::{Frame, Have, Hello};
 use bytes::Bytes;
@@ -22,36 +22,36 @@ use nm_base::{ChanNo, Packet, PartNo, Time};
 use nm_book::message::{Data, Null};
 use std::alloc::{AllocError, Global};
 
-/// The number of 16 bits in the two octets from this place.
-fn u16_at(octets: &[u8], place: usize) -> u16
-    requires { place + 2 ≤ length octets.now }
-    ensures { result ≡ from_be_bytes w16 (take 2 (drop place octets.now)) }
+/// The number of 16 bits in the two octets from this offset.
+fn u16_at(octets: &[u8], offset: usize) -> u16
+    requires { offset + 2 ≤ length octets.now }
+    ensures { result ≡ from_be_bytes w16 (take 2 (drop offset octets.now)) }
 {
-    u16::from_be_bytes(octets[place..place + 2].try_into().unwrap())
+    u16::from_be_bytes(octets[offset..offset + 2].try_into().unwrap())
 }
 
-/// The number of 32 bits in the four octets from this place.
-fn u32_at(octets: &[u8], place: usize) -> u32
-    requires { place + 4 ≤ length octets.now }
-    ensures { result ≡ from_be_bytes w32 (take 4 (drop place octets.now)) }
+/// The number of 32 bits in the four octets from this offset.
+fn u32_at(octets: &[u8], offset: usize) -> u32
+    requires { offset + 4 ≤ length octets.now }
+    ensures { result ≡ from_be_bytes w32 (take 4 (drop offset octets.now)) }
 {
-    u32::from_be_bytes(octets[place..place + 4].try_into().unwrap())
+    u32::from_be_bytes(octets[offset..offset + 4].try_into().unwrap())
 }
 
-/// The number of 64 bits in the eight octets from this place.
-fn u64_at(octets: &[u8], place: usize) -> u64
-    requires { place + 8 ≤ length octets.now }
-    ensures { result ≡ from_be_bytes w64 (take 8 (drop place octets.now)) }
+/// The number of 64 bits in the eight octets from this offset.
+fn u64_at(octets: &[u8], offset: usize) -> u64
+    requires { offset + 8 ≤ length octets.now }
+    ensures { result ≡ from_be_bytes w64 (take 8 (drop offset octets.now)) }
 {
-    u64::from_be_bytes(octets[place..place + 8].try_into().unwrap())
+    u64::from_be_bytes(octets[offset..offset + 8].try_into().unwrap())
 }
 
-/// Whether the fields of a Hello begin with its first word.
-fn has_first_word(body: &[u8]) -> bool
+/// Whether the fields of a Hello begin with the magic octets.
+fn has_magic(body: &[u8]) -> bool
     requires { HELLO_OCTETS ≤ length body.now }
-    ensures { result ≡ has_first_word (drop KIND_OCTETS body.now) }
+    ensures { result ≡ has_magic (drop KIND_OCTETS body.now) }
 {
-    body[field::FIRST_WORD..].starts_with(&FIRST_WORD)
+    body[field::MAGIC..].starts_with(&MAGIC)
 }
 
 /// Whether a length fits the kind.
@@ -61,7 +61,7 @@ fn is_fitting(body: &[u8]) -> bool
         (drop KIND_OCTETS body.now) }
 {
     match body[field::KIND] {
-        kind::HELLO => body.len() == HELLO_OCTETS && has_first_word(body),
+        kind::HELLO => body.len() == HELLO_OCTETS && has_magic(body),
         kind::HAVE => body.len() == HAVE_OCTETS,
         kind::DATA => body.len() > DATA_HEADER_OCTETS,
         kind::NULL => body.len() == NULL_OCTETS,

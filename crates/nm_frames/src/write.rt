@@ -11,8 +11,8 @@ ghost use Rattle.nm_frames.specs.Frame.{IsFrame, data_frame, frame_octets, hello
 ghost use Rattle.nm_frames.specs.Frame.{have_frame, null_frame};
 
 use crate::format::{
-    BYE_OCTETS, DATA_HEADER_OCTETS, DIGEST_OCTETS, FIRST_WORD, HAVE_OCTETS, HELLO_OCTETS,
-    LENGTH_OCTETS, NULL_OCTETS, kind,
+    BYE_OCTETS, DATA_HEADER_OCTETS, DIGEST_OCTETS, HAVE_OCTETS, HELLO_OCTETS, LENGTH_OCTETS, MAGIC,
+    NULL_OCTETS, kind,
 };
 use crate::frame::Frame;
 use nm_base::{ChanNo, Packet, PartNo, Time};
@@ -57,14 +57,14 @@ fn put_time(time: Time, out: &mut Vec<u8>)
     put(&time.nanoseconds().to_be_bytes(), out);
 }
 
-/// Puts the first word of a Hello there, and its numbers.
+/// Puts the magic octets of a Hello there, and its numbers.
 fn put_speaker(version: u16, partition: PartNo, replica: u8, out: &mut Vec<u8>)
     requires { vec_len out.old + SPEAKER_OCTETS ≤ vec_capacity out.old }
     ensures octets { out.new.items ≡ out.old.items
-        ++ (FIRST_WORD ++ to_be_bytes w16 version ++ to_be_bytes w32 partition ++ replica ∷ []) }
+        ++ (MAGIC ++ to_be_bytes w16 version ++ to_be_bytes w32 partition ++ replica ∷ []) }
     ensures room { vec_capacity out.old ≤ vec_capacity out.new }
 {
-    put(&FIRST_WORD, out);
+    put(&MAGIC, out);
     put(&version.to_be_bytes(), out);
     put(&partition.number().to_be_bytes(), out);
     put(&[replica], out);

@@ -72,9 +72,9 @@ module _ (t : TopologyValue) where
   delay_is i = refl
 
   -- and arrivals are due as the model says
-  pub due_is : (records : List (Record (List ℕ))) → AreOfPackets records → (i : ℕ) → map (arrival_after (net_of t) ((net_of t).peer i)) (passed Out ((net_of t).peer i) records) ≡ arrivals_due t records i
+  pub due_is : (records : List (Record (List ℕ))) → AreOfPackets records → (i : ℕ) → map (arrival_after (net_of t) ((net_of t).far_end i)) (passed Out ((net_of t).far_end i) records) ≡ arrivals_due t records i
   unfolding net_of
-  due_is records octets i = map_same _ _ (passed Out (far_of t i).peer records) (λ n a e.
-      let r = passed_from Out (far_of t i).peer records n a e in
+  due_is records octets i = map_same _ _ (passed Out (far_of t i).iface records) (λ n a e.
+      let r = passed_from Out (far_of t i).iface records n a e in
       let h : 1 ≤ length a.1 = subst (λ (z : ℕ × List ℕ). 1 ≤ length z.1) r.3 (octets.least r.0 r.1 r.2) in
-      ap (λ z. (a.0 + z + (far_of t (far_of t i).peer).delay, a.1)) (takes_its_octets (far_of t i).peer a.1 h))
+      ap (λ z. (a.0 + z + (far_of t (far_of t i).iface).delay, a.1)) (takes_its_octets (far_of t i).iface a.1 h))

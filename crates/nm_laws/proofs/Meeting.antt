@@ -83,10 +83,12 @@ module _ (a b : BookValue) (same : b.topology ≡ a.topology) (apart : a.partiti
 
 -- ---- meanwhile
 
-go_on : (a b : BookValue) → HoldsSent a b → HoldsSent b a → (turns : List Turn) (s t last end : SessionValue) → Way a b s t → Way b a t s → Talks a b turns s t last end
+go_on : (a b : BookValue) → HoldsSent a b → HoldsSent b a → (turns : List Turn) (s t last end : SessionValue) → Way a b s t → Way b a t s → Talks (a, b) turns (s, t) (last, end)
     → Way a b last end × Way b a end last
-go_on a b ab ba [] s t last end w v talk =
-    (subst (λ x. Way a b x end) (sym talk.0) (subst (λ y. Way a b s y) (sym talk.1) w), subst (λ x. Way b a end x) (sym talk.0) (subst (λ y. Way b a y s) (sym talk.1) v))
+go_on a b ab ba [] s t last end w v same =
+    let one : last ≡ s = ap (λ (z : SessionValue × SessionValue). z.0) same in
+    let two : end ≡ t = ap (λ (z : SessionValue × SessionValue). z.1) same in
+    (subst (λ x. Way a b x end) (sym one) (subst (λ y. Way a b s y) (sym two) w), subst (λ x. Way b a end x) (sym one) (subst (λ y. Way b a y s) (sym two) v))
 go_on a b ab ba (First ∷ turns) s t last end w v (f, u, gave, took, talk) =
     let next = both_go_on a b ba s t u f gave took w v in go_on a b ab ba turns _ u last end next.0 next.1 talk
 go_on a b ab ba (Second ∷ turns) s t last end w v (f, u, gave, took, talk) =
@@ -126,7 +128,7 @@ has_left a b s t w v done silent other_silent = go s.bye_given refl
         let said = quiet s a silent e in
         absurd (said.goes_on done (told_all a b (promising_of s) t.incoming s.outgoing w.pairs (has_asked a b s t v other_silent) said.told))
 
-pub parted : (a b : BookValue) → AreNeighbours a b → HoldsSent a b → HoldsSent b a → (turns : List Turn) (s t : SessionValue) → Talks a b turns (session_of a b) (session_of b a) s t
+pub parted : (a b : BookValue) → AreNeighbours a b → HoldsSent a b → HoldsSent b a → (turns : List Turn) (s t : SessionValue) → Talks (a, b) turns (session_of a b, session_of b a) (s, t)
     → owed s a ≡ None → owed t b ≡ None → (s.bye_taken ≡ true) × (t.bye_taken ≡ true)
 parted a b near ab ba turns s t talk silent other_silent =
     let begun = first_way a b near.topology near.apart in

@@ -82,7 +82,7 @@ out_in time i (Some s) = refl
 
 -- the arrivals at an interface are starts at its far end
 abbrev pub Came : {P N : Type 0} → Net P N → State P N → Type 0
-Came {P} net s = (i m t : ℕ) (x : P) → nth (passed In i s.records) m ≡ Some (t, x) → (u : ℕ) × (nth (passed Out (net.peer i) s.records) m ≡ Some (u, x)) × (t ≡ u + net.tx (net.peer i) x + net.delay (net.peer i))
+Came {P} net s = (i m t : ℕ) (x : P) → nth (passed In i s.records) m ≡ Some (t, x) → (u : ℕ) × (nth (passed Out (net.far_end i) s.records) m ≡ Some (u, x)) × (t ≡ u + net.tx (net.far_end i) x + net.delay (net.far_end i))
 
 module _ {P N : Type 0} (net : Net P N) (Q : P → Type 0) where
   abbrev Waits : (ℕ → Port P) → Type 0
@@ -135,13 +135,13 @@ module _ {P N : Type 0} (net : Net P N) (Q : P → Type 0) where
           ∙ ap (λ l. passed In i (record { time = k.time; iface = i; dir = In; packet = x } ∷ []) ++ l) (out_in k.time i does.transmission)
           ∙ ap (λ b. cond {A = List (ℕ × P)} b ((k.time, x) ∷ []) [] ++ []) (number_tied i)) in
           let from = came i (length (passed In i s.records)) k.time x (ap (λ l. nth l (length (passed In i s.records))) arrivals ∙ nth_last (passed In i s.records) (k.time, x)) in
-          let starts : passed Out (net.peer i) (s.records ++ (in_record k.time does.came ++ out_record k.time does.transmission)) ≡ passed Out (net.peer i) s.records ++ passed Out (net.peer i) (out_record k.time does.transmission)
-          = passed-append Out (net.peer i) s.records (in_record k.time does.came ++ out_record k.time does.transmission)
-          ∙ ap (λ l. passed Out (net.peer i) s.records ++ l) (passed-append Out (net.peer i) (in_record k.time does.came) (out_record k.time does.transmission) ∙ ap (λ l. l ++ passed Out (net.peer i) (out_record k.time does.transmission)) (in_none k.time (net.peer i) does.came)) in
+          let starts : passed Out (net.far_end i) (s.records ++ (in_record k.time does.came ++ out_record k.time does.transmission)) ≡ passed Out (net.far_end i) s.records ++ passed Out (net.far_end i) (out_record k.time does.transmission)
+          = passed-append Out (net.far_end i) s.records (in_record k.time does.came ++ out_record k.time does.transmission)
+          ∙ ap (λ l. passed Out (net.far_end i) s.records ++ l) (passed-append Out (net.far_end i) (in_record k.time does.came) (out_record k.time does.transmission) ∙ ap (λ l. l ++ passed Out (net.far_end i) (out_record k.time does.transmission)) (in_none k.time (net.far_end i) does.came)) in
           ⊎_elim
-          (λ e. all_nth (IsGood Q) (passed Out (net.peer i) s.records) (length (passed In i s.records)) (from.0, x) (g.started (net.peer i)) e)
-          (λ e. absurd (let at = out_at k.time (net.peer i) does.transmission e.0 (from.0, x) e.1 in let takes = ok.takes_time (net.peer i) x in let late = from.2 in omega arith))
-          (nth_either (passed Out (net.peer i) s.records) (passed Out (net.peer i) (out_record k.time does.transmission)) (length (passed In i s.records)) (from.0, x) (ap (λ l. nth l (length (passed In i s.records))) (sym starts) ∙ from.1))
+          (λ e. all_nth (IsGood Q) (passed Out (net.far_end i) s.records) (length (passed In i s.records)) (from.0, x) (g.started (net.far_end i)) e)
+          (λ e. absurd (let at = out_at k.time (net.far_end i) does.transmission e.0 (from.0, x) e.1 in let takes = ok.takes_time (net.far_end i) x in let late = from.2 in omega arith))
+          (nth_either (passed Out (net.far_end i) s.records) (passed Out (net.far_end i) (out_record k.time does.transmission)) (length (passed In i s.records)) (from.0, x) (ap (λ l. nth l (length (passed In i s.records))) (sym starts) ∙ from.1))
 
       answer_good : (event : Event P) → get s.pending k ≡ Some event → Came net (step_at net (λ q. true) s (Some (k, event)))
           → (a : ℕ × P) → answer_to net s.node event ≡ Some a → Q a.1
@@ -176,7 +176,7 @@ module _ {P N : Type 0} (net : Net P N) (Q : P → Type 0) where
       started i m a e = all_nth (IsGood Q) (passed Out i (one_list net n).records) m a ((good orderly came n).started i) e
 
       arrived : (i m : ℕ) (a : ℕ × P) → nth (passed In i (one_list net n).records) m ≡ Some a → Q a.1
-      arrived i m a e = let f = came n i m a.0 a.1 e in started (net.peer i) m (f.0, a.1) f.1
+      arrived i m a e = let f = came n i m a.0 a.1 e in started (net.far_end i) m (f.0, a.1) f.1
 
       -- the packet of each record
       pub recorded : (m : ℕ) (r : Record P) → nth (one_list net n).records m ≡ Some r → Q r.packet

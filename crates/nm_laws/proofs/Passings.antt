@@ -131,29 +131,29 @@ module _ {P N : Type 0} (net : Net P N) (ok : IsNet net) (n : ℕ) where
       let at = positions Out a.iface R j k a b lt e f da db refl (sym same) in
       law a.iface at.0 at.1 a.time b.time a.packet b.packet at.2 at.3 at.4
 
-  module _ (came : (i m t : ℕ) (x : P) → nth (passed In i R) m ≡ Some (t, x) → (s : ℕ) × (nth (passed Out (net.peer i) R) m ≡ Some (s, x)) × (t ≡ s + net.tx (net.peer i) x + net.delay (net.peer i))) (i : ℕ) where
+  module _ (came : (i m t : ℕ) (x : P) → nth (passed In i R) m ≡ Some (t, x) → (s : ℕ) × (nth (passed Out (net.far_end i) R) m ≡ Some (s, x)) × (t ≡ s + net.tx (net.far_end i) x + net.delay (net.far_end i))) (i : ℕ) where
     -- the transmissions at the far end, each as it arrives
     abbrev due : List (ℕ × P)
-    due = map (arrival_after net (net.peer i)) (passed Out (net.peer i) R)
+    due = map (arrival_after net (net.far_end i)) (passed Out (net.far_end i) R)
 
     from_start : (m : ℕ) (a : ℕ × P) → nth (passed In i R) m ≡ Some a → nth due m ≡ Some a
     from_start m a e =
         let c = came i m a.0 a.1 e in
-        map_nth (arrival_after net (net.peer i)) (passed Out (net.peer i) R) m (c.0, a.1) c.1 ∙ ap (λ z. Some (z, a.1)) (sym c.2)
+        map_nth (arrival_after net (net.far_end i)) (passed Out (net.far_end i) R) m (c.0, a.1) c.1 ∙ ap (λ z. Some (z, a.1)) (sym c.2)
 
     pub arrivals_begin : IsPrefix (passed In i R) due
     arrivals_begin = prefix_from (passed In i R) due from_start
 
     pub arrivals_are : (t : ℕ) → ((m : ℕ) → m < n → pends_before t (one_list net m) ≡ true)
-        → ((j m s : ℕ) (x : P) → nth (passed Out j R) m ≡ Some (s, x) → s + net.tx j x + net.delay j < t → nth (passed In (net.peer j) R) m ≡ Some (s + net.tx j x + net.delay j, x))
+        → ((j m s : ℕ) (x : P) → nth (passed Out j R) m ≡ Some (s, x) → s + net.tx j x + net.delay j < t → nth (passed In (net.far_end j) R) m ≡ Some (s + net.tx j x + net.delay j, x))
         → passed In i R ≡ keep_where (λ a. ltb a.0 t) due
     arrivals_are t early arrives = sym (kept_is (λ a. ltb a.0 t) (passed In i R) due
         (λ m a e. (from_start m a e, before_is a.0 (passed_before t In i R m a (records_before net t n early) e)))
         (λ m a e f.
-        let s = nth_map (arrival_after net (net.peer i)) (passed Out (net.peer i) R) m a e in
-        let time : s.0.0 + net.tx (net.peer i) s.0.1 + net.delay (net.peer i) ≡ a.0 = ap (λ (z : ℕ × P). z.0) s.2 in
+        let s = nth_map (arrival_after net (net.far_end i)) (passed Out (net.far_end i) R) m a e in
+        let time : s.0.0 + net.tx (net.far_end i) s.0.1 + net.delay (net.far_end i) ≡ a.0 = ap (λ (z : ℕ × P). z.0) s.2 in
         let lt = is_before a.0 f in
-        ap (λ j. nth (passed In j R) m) (sym (ok.twice i)) ∙ arrives (net.peer i) m s.0.0 s.0.1 s.1 (omega arith) ∙ ap Some s.2))
+        ap (λ j. nth (passed In j R) m) (sym (ok.twice i)) ∙ arrives (net.far_end i) m s.0.0 s.0.1 s.1 (omega arith) ∙ ap Some s.2))
       where
         before_is : (u : ℕ) → u < t → ltb u t ≡ true
         before_is u h = grind (arith, nat_tests)

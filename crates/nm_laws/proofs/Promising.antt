@@ -25,7 +25,7 @@ none_before t (Some x) e = late x.0.time e
     late n h = grind (arith, nat_tests, h)
 
 pub stop_is_promised : (b : BookValue) (c : ℕ) → is_done (net_of b.topology) b.partition (replica_of b) ≡ true
-    → promise_on Plain b c ≡ (net_of b.topology).stop + (net_of b.topology).delay ((net_of b.topology).peer (receiving_iface b.topology c))
+    → promise_on Plain b c ≡ (net_of b.topology).stop + (net_of b.topology).delay ((net_of b.topology).far_end (receiving_iface b.topology c))
 stop_is_promised b c done =
     let net = net_of b.topology in
     let first = least (from_scratch net b.partition (knowledge b) b.events).pending in
@@ -33,7 +33,7 @@ stop_is_promised b c done =
     let safe : safe_time net b.partition (knowledge b) ≡ net.stop = number_is _ net.stop e.0 in
     let least_is : min net.stop (safe_time net b.partition (knowledge b)) ≡ net.stop = lower net.stop (safe_time net b.partition (knowledge b)) safe in
     let cause : next_cause net b.partition (knowledge b) b.events ≡ net.stop = ap (λ t. next_time t first) least_is ∙ none_before net.stop first e.1 in
-    ap (λ t. t + net.delay (net.peer (receiving_iface b.topology c))) cause
+    ap (λ t. t + net.delay (net.far_end (receiving_iface b.topology c))) cause
   where
     lower : (t s : ℕ) → s ≡ t → min t s ≡ t
     lower t s h = grind (arith, nat_tests, h)

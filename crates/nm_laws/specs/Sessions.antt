@@ -14,15 +14,15 @@ pub data Turn : Type 0 where
 
 -- Turn by turn one session gives the frame that it owes of its book, and the other one takes it.
 -- Nobody changes the books meanwhile.
-abbrev pub Talks : BookValue → BookValue → List Turn → SessionValue → SessionValue → SessionValue
-    → SessionValue → Type 0
-Talks a b [] s t last other = (last ≡ s) × (other ≡ t)
-Talks a b (First ∷ turns) s t last other =
-    (f : Frame) × (u : SessionValue) × (owed s a ≡ Some f) × (taken t f ≡ Ok u)
-    × Talks a b turns (after_giving s f) u last other
-Talks a b (Second ∷ turns) s t last other =
-    (f : Frame) × (u : SessionValue) × (owed t b ≡ Some f) × (taken s f ≡ Ok u)
-    × Talks a b turns u (after_giving t f) last other
+abbrev pub Talks : BookValue × BookValue → List Turn → SessionValue × SessionValue
+    → SessionValue × SessionValue → Type 0
+Talks books [] before after = after ≡ before
+Talks books (First ∷ turns) before after =
+    (f : Frame) × (u : SessionValue) × (owed before.0 books.0 ≡ Some f)
+    × (taken before.1 f ≡ Ok u) × Talks books turns (after_giving before.0 f, u) after
+Talks books (Second ∷ turns) before after =
+    (f : Frame) × (u : SessionValue) × (owed before.1 books.1 ≡ Some f)
+    × (taken before.0 f ≡ Ok u) × Talks books turns (u, after_giving before.1 f) after
 
 -- replicas of two partitions of one network, for which nothing is left to do
 pub record AreNeighbours (a b : BookValue) : Type 0 where

@@ -36,7 +36,7 @@ arrival_of t i start = (start.0 + time_to_transmit t i start.1 + (far_of t i).de
 -- of their starts
 abbrev pub arrivals_due : TopologyValue → List (Record (List ℕ)) → ℕ → List (ℕ × List ℕ)
 arrivals_due t records i =
-    let j : ℕ = (far_of t i).peer in map (arrival_of t j) (passed Out j records)
+    let j : ℕ = (far_of t i).iface in map (arrival_of t j) (passed Out j records)
 
 -- What arrived at an interface are the first of the packets that its far end started to
 -- transmit, each when it was due.

@@ -18,7 +18,7 @@ ghost use Rattle.nm_laws.specs.Sessions.{AreNeighbours, HoldsSent, Talks, Turn, 
 pub fn both_part_with_bye()
     ensures { (a b : BookValue) → AreNeighbours a b → HoldsSent a b → HoldsSent b a
         → (turns : List Turn) (s t : SessionValue)
-        → Talks a b turns (session_of a b) (session_of b a) s t
+        → Talks (a, b) turns (session_of a b, session_of b a) (s, t)
         → owed s a ≡ None → owed t b ≡ None
         → (s.bye_taken ≡ true) × (t.bye_taken ≡ true) }
 {}
@@ -30,5 +30,5 @@ pub fn a_done_replica_promises_stop()
     ensures { (b : BookValue) (c : ℕ)
         → is_done (net_of b.topology) b.partition (replica_of b) ≡ true
         → promise_on Plain b c ≡ (net_of b.topology).stop
-        + (net_of b.topology).delay ((net_of b.topology).peer (receiving_iface b.topology c)) }
+        + (net_of b.topology).delay ((net_of b.topology).far_end (receiving_iface b.topology c)) }
 {}

@@ -1,6 +1,6 @@
 -- How many packets came to an interface and how many it transmitted, with their octets, and how many
 -- were dropped at its queue.
-use Rattle.std.specs.Prelude.{◌≡◌, ℕ, ◌+◌, ◌==◌, ◌&&◌, Bool, true, false, not, cond, List, length, sum_by, slice_get, Some}
+use Rattle.std.specs.Prelude.{◌≡◌, ℕ, ◌+◌, ◌==◌, ◌&&◌, Bool, true, false, not, if◌then◌else◌, List, length, sum_by, slice_get, Some}
 use Rattle.nm_base.specs.Count.{saturated}
 use Rattle.nm_base.specs.declared.record.Dir.{Dir}
 use Rattle.nm_base.specs.declared.record.Dir.TheVariants.{In, Out}
@@ -45,15 +45,17 @@ amount_after a octets = record {
 }
 
 abbrev pub traffic_after : IfaceTraffic → Record (List ℕ) → IfaceTraffic
-traffic_after x r = cond (is_in r.dir)
-    (record { came = amount_after x.came (length r.packet); went = x.went })
-    (record { came = x.came; went = amount_after x.went (length r.packet) })
+traffic_after x r =
+    if is_in r.dir
+    then record { came = amount_after x.came (length r.packet); went = x.went }
+    else record { came = x.came; went = amount_after x.went (length r.packet) }
 
 -- each interface's, by number
 pub record AreTraffic (t : TopologyValue) (found : List IfaceTraffic)
     (records : List (Record (List ℕ))) : Type 0 where
   pub count : length found ≡ length t.ifaces
-  pub each : (i : ℕ) (x : IfaceTraffic) → slice_get found i ≡ Some x → x ≡ iface_traffic_of i records
+  pub each : (i : ℕ) (x : IfaceTraffic) → slice_get found i ≡ Some x
+      → x ≡ iface_traffic_of i records
 
 -- how many packets were dropped at the queue of an interface
 abbrev pub drops_of : ℕ → State (List ℕ) NodeStateValue → ℕ

@@ -12,6 +12,7 @@ use crate::tag::Tag;
 use crate::usage::Usage;
 use nm_base::{Dir, IfaceNo, NodeNo, Place, Record, SourceNo, Time};
 use nm_events::HeapList;
+use nm_packet::limits::HEADERS;
 use nm_sim::Part;
 use nm_topology::Topology;
 use nm_topology::topology::accepted_topologies_are_in_order;
@@ -70,7 +71,7 @@ fn lanes_of(alloc: Global, topology: &Topology) -> Result<Vec<Lane>, AllocError>
     accepted_topologies_are_in_order(topology); // law: rates are within their limits
     let mut all = Vec::new(alloc);
     for number in 0..topology.ifaces().len() {
-        let far = topology.iface(IfaceNo::new(number as u32)).far();
+        let far = topology.iface(topology.iface_number(number)).far();
         all.push(Lane::new(alloc, far.rate))?;
     }
     Ok(all)
@@ -103,7 +104,7 @@ fn octets_of_error(part: &Part<HeapList>) -> u64 {
         [first, _, high, low, ..] => {
             let header = u64::from(*first % 16) * 4;
             let total = u64::from(*high) * 256 + u64::from(*low);
-            28 + total.min(header + 8)
+            HEADERS + total.min(header + 8)
         }
         _ => 0,
     }
@@ -113,8 +114,8 @@ fn octets_of_error(part: &Part<HeapList>) -> u64 {
 /// headers.
 fn octets_of_sent(traffic: &Traffic, number: u64) -> u64 {
     match traffic {
-        Traffic::Cbr(cbr) => 28 + u64::from(cbr.flow.size),
-        Traffic::Echo(echo) => 28 + u64::from(echo.flow.size),
+        Traffic::Cbr(cbr) => HEADERS + u64::from(cbr.flow.size),
+        Traffic::Echo(echo) => HEADERS + u64::from(echo.flow.size),
         Traffic::Raw(raw) => match raw
             .packets()
             .get(usize::try_from(number).unwrap_or(usize::MAX))
@@ -321,7 +322,7 @@ impl Watched {
             return Ok(());
         };
         let node = iface.node();
-        let tag = self.leave_link(iface.far().peer);
+        let tag = self.leave_link(iface.far().iface);
         self.pass(
             &tag,
             Hop {

@@ -111,7 +111,7 @@ module _ {P N : Type 0} (net : Net P N) (p : ℕ) where
   pub orderly_begun : IsNet net → (K : Knowledge P) → IsOrderly net (in_part net p) (start net (in_part net p) (inbox_events net p K))
   orderly_begun ok K = orderly_start net ok (in_part net p) (part_by_node net p) (inbox_events net p K) (λ q y a.
       let r = inbox_at K q y a in
-      let b = and_both _ (not (in_part net p (Arrive (net.peer r.0)))) r.2 in
+      let b = and_both _ (not (in_part net p (Arrive (net.far_end r.0)))) r.2 in
       (r.0, r.3, r.1, r.4, b.0, not_true _ b.1))
 
 pub orderly_part : {P N : Type 0} (net : Net P N) → IsNet net → (p : ℕ) (K : Knowledge P) (k : ℕ) → IsOrderly net (in_part net p) (from_scratch net p K k)

@@ -80,11 +80,11 @@ module _ {P N : Type 0} (net : Net P N) (ok : IsNet net) (p : ℕ) where
   not_by_channel s e placed mn c q pl ch y (GoesOn u f g i) = let w : Arrive c ≡ Fire u.0 = sym pl ∙ ap (λ r. r.place) g in cc
   not_by_channel s e placed mn c q pl ch y (Comes u f g i) =
       let is = effect_is net ok s.node s.port e.0.time e.0.place e.0.number e.1 placed in
-      let pc : c ≡ net.peer u.0 = arrive_inj _ _ (sym pl ∙ ap (λ r. r.place) g) in
+      let pc : c ≡ net.far_end u.0 = arrive_inj _ _ (sym pl ∙ ap (λ r. r.place) g) in
       let d = is.transmission_turn u f in
       let own : net.owner u.0 ≡ node_of net e.0.place = is.turn_owner (u.0, d.0) d.1 in
-      let far : in_part net p (Arrive (net.peer c)) ≡ true = ap (λ j. in_part net p (Arrive (net.peer j))) pc ∙ ap (λ j. in_part net p (Arrive j)) (ok.twice u.0) ∙ ap (λ v. net.part v == p) own ∙ mn in
-      both_ways (in_part net p (Arrive (net.peer c))) far (not_true _ (and_both _ _ ch).1)
+      let far : in_part net p (Arrive (net.far_end c)) ≡ true = ap (λ j. in_part net p (Arrive (net.far_end j))) pc ∙ ap (λ j. in_part net p (Arrive j)) (ok.twice u.0) ∙ ap (λ v. net.part v == p) own ∙ mn in
+      both_ways (in_part net p (Arrive (net.far_end c))) far (not_true _ (and_both _ _ ch).1)
 
   -- so what wasn't told isn't pending after a step either
   untold_at : (s : State P N) (q : Key) (c : ℕ) → q.place ≡ Arrive c → comes_in net p c ≡ true → get s.pending q ≡ None → (o : Option (Key × Event P)) → ((e : Key × Event P) → o ≡ Some e → (e.0.place ≡ event_place e.1) × (in_part net p e.0.place ≡ true)) → get (step_at net (in_part net p) s o).pending q ≡ None

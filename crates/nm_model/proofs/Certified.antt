@@ -75,11 +75,11 @@ module _ {P N : Type 0} (net : Net P N) (ok : IsNet net) (books : ℕ → Replic
           unsent : length ((one_list net n).sent c) ≤ i → (o : Option (Key × Event P)) → least (from_scratch net (sender_of net c) (known (sender_of net c)) (events_at net (in_part net (sender_of net c)) n)).pending ≡ o → ((q : Key) (y : P) → q.time < fuel → (d : ℕ) → comes_in net (sender_of net c) d ≡ true → nth ((known (sender_of net c)) d).list q.number ≡ Some (q.time, y) → (nth ((one_list net n).sent d) q.number ≡ Some (q.time, y)) ⊎ (t < q.time)) → t < b.0
           unsent le o m again = go o m
             where
-              later : (u : ℕ) → ((q : Key) (y : Event P) → get (from_scratch net (sender_of net c) (known (sender_of net c)) (events_at net (in_part net (sender_of net c)) n)).pending q ≡ Some y → u ≤ q.time) → suc u + net.delay (net.peer c) ≤ b.0
+              later : (u : ℕ) → ((q : Key) (y : Event P) → get (from_scratch net (sender_of net c) (known (sender_of net c)) (events_at net (in_part net (sender_of net c)) n)).pending q ≡ Some y → u ≤ q.time) → suc u + net.delay (net.far_end c) ≤ b.0
               later u h =
                   let s = from_since net ok (sender_of net c) (known (sender_of net c)) (events_at net (in_part net (sender_of net c)) n) (books (sender_of net c)).ran u (f.inside (sender_of net c)) h in
                   let len = ap length (line c) in
-                  let l = s.late c i b (omega arith) in_given in let z = ok.takes_time (net.peer c) b.1 in omega arith
+                  let l = s.late c i b (omega arith) in_given in let z = ok.takes_time (net.far_end c) b.1 in omega arith
 
               go : (o : Option (Key × Event P)) → least (from_scratch net (sender_of net c) (known (sender_of net c)) (events_at net (in_part net (sender_of net c)) n)).pending ≡ o → t < b.0
               go None z = absurd (let l = later b.0 (λ q y g. absurd (let none = least_none _ q z in cc)) in omega arith)

@@ -262,14 +262,14 @@ module _ {P N : Type 0} (net : Net P N) (ok : IsNet net) (parted : IsParted net)
   -- of any choice
   module _ (pick : ℕ → Replica P) (choice : (p : ℕ) → ((i : ℕ) × (b : Book P) × (nth books i ≡ Some b) × (b.part ≡ p) × (pick p ≡ b.replica)) ⊎ ((pick p ≡ fresh) × (net.parts ≤ p))) where
     sender_inside : (p c : ℕ) → comes_in net p c ≡ true → sender_of net c < net.parts
-    sender_inside p c ch = parted.ifaces (net.peer c) (⊎_elim
+    sender_inside p c ch = parted.ifaces (net.far_end c) (⊎_elim
         (λ lt. lt)
         (λ le. absurd (
-        let far = ok.outside (net.peer c) le in
-        let same : net.peer c ≡ c = sym far ∙ ok.twice c in
+        let far = ok.outside (net.far_end c) le in
+        let same : net.far_end c ≡ c = sym far ∙ ok.twice c in
         let b = and_both _ _ ch in
         true≢false (sym b.0 ∙ ap (λ i. in_part net p (Arrive i)) (sym same) ∙ not_true _ b.1)))
-        (cases_lt (net.peer c) net.ifaces))
+        (cases_lt (net.far_end c) net.ifaces))
 
     receiver_inside : (p c : ℕ) → comes_in net p c ≡ true → p < net.parts
     receiver_inside p c ch =

@@ -76,7 +76,7 @@ module _ {P N : Type 0} (net : Net P N) (p : ℕ) where
     channel_inside c h = ⊎_elim
         (λ lt. lt)
         (λ le. let b = and_both _ _ h in
-        let same : in_part net p (Arrive (net.peer c)) ≡ in_part net p (Arrive c) = ap (λ i. in_part net p (Arrive i)) (ok.outside c le) in
+        let same : in_part net p (Arrive (net.far_end c)) ≡ in_part net p (Arrive c) = ap (λ i. in_part net p (Arrive i)) (ok.outside c le) in
         both_ways (in_part net p (Arrive c)) b.0 (sym same ∙ not_true _ b.1))
         (cases_lt c net.ifaces)
 
@@ -124,7 +124,7 @@ module _ {P N : Type 0} (net : Net P N) (p : ℕ) where
           at_channel (Complete i) f ch = absurd (true≢false (sym ch))
           at_channel (Fire j) f ch = absurd (true≢false (sym ch))
           at_channel (Arrive c) f ch =
-              let mc : in_part net p (Arrive c) ≡ true = (and_both _ (not (in_part net p (Arrive (net.peer c)))) ch).0 in
+              let mc : in_part net p (Arrive c) ≡ true = (and_both _ (not (in_part net p (Arrive (net.far_end c)))) ch).0 in
               let a = good.arrival_is c k.time k.number x (ap (get g.pending) (sym (key_at k (Arrive c) f)) ∙ least_has g.pending (k, x) m) in
               let i = full c k.number (k.time, a.0) ch a.3 (omega arith) in
               ap (get s.pending) (key_at k (Arrive c) f) ∙ h.inbox_has c k.time k.number a.0 ch (let w = h.agrees.arrived c mc in let z = a.2 in omega arith) i ∙ ap Some (sym a.1)
@@ -150,7 +150,7 @@ module _ {P N : Type 0} (net : Net P N) (p : ℕ) where
       came_mine : (a : ℕ × P) → does.came ≡ Some a → in_part net p (Arrive a.0) ≡ in_part net p k.place
       came_mine a e = ap (in_part net p) (sym (does_is.came_is a e).0)
 
-      far_mine : (u : ℕ × P) → does.transmission ≡ Some u → in_part net p (Arrive (net.peer (net.peer u.0))) ≡ in_part net p k.place
+      far_mine : (u : ℕ × P) → does.transmission ≡ Some u → in_part net p (Arrive (net.far_end (net.far_end u.0))) ≡ in_part net p k.place
       far_mine u e = ap (λ i. in_part net p (Arrive i)) (ok.twice u.0) ∙ transmission_mine u e
 
       -- an event of another partition
@@ -163,7 +163,7 @@ module _ {P N : Type 0} (net : Net P N) (p : ℕ) where
               (λ t. t.1 ∙ h.agrees.port i mi)
               (turned_case g.port does.turn i);
           sent = λ c mc. ⊎_elim
-              (λ u. both_ways (in_part net p (Arrive (net.peer c))) mc (ap (λ i. in_part net p (Arrive (net.peer i))) u.2 ∙ far_mine u.0 u.1 ∙ mn))
+              (λ u. both_ways (in_part net p (Arrive (net.far_end c))) mc (ap (λ i. in_part net p (Arrive (net.far_end i))) u.2 ∙ far_mine u.0 u.1 ∙ mn))
               (λ u. u.1 ∙ h.agrees.sent c mc)
               (sent_case net k.time g.sent does.transmission c);
           arrived = λ c mc. ⊎_elim
@@ -182,8 +182,8 @@ module _ {P N : Type 0} (net : Net P N) (p : ℕ) where
           not_new q mq cq y (Ends u e f i) = both_ways (in_part net p q.place) mq (ap (λ r. in_part net p r.place) f ∙ transmission_mine u e ∙ mn)
           not_new q mq cq y (GoesOn u e f i) = both_ways (in_part net p q.place) mq (ap (λ r. in_part net p r.place) f ∙ ap (in_part net p) (sym (does_is.follows_is u e).0) ∙ mn)
           not_new q mq cq y (Comes u e f i) =
-              let here : in_part net p (Arrive (net.peer u.0)) ≡ true = ap (in_part net p) (sym (ap (λ r. r.place) f)) ∙ mq in
-              let there : not (in_part net p (Arrive (net.peer (net.peer u.0)))) ≡ true = ap not (far_mine u e ∙ mn) in
+              let here : in_part net p (Arrive (net.far_end u.0)) ≡ true = ap (in_part net p) (sym (ap (λ r. r.place) f)) ∙ mq in
+              let there : not (in_part net p (Arrive (net.far_end (net.far_end u.0)))) ≡ true = ap not (far_mine u e ∙ mn) in
               both_ways (is_inbox net p q.place) (ap (λ r. is_inbox net p r.place) f ∙ and_true _ _ here there) cq
 
           in_none : (o : Option (ℕ × P)) → ((a : ℕ × P) → o ≡ Some a → in_part net p (Arrive a.0) ≡ false) → keep_where (is_own_record net p) (in_record k.time o) ≡ []
@@ -203,16 +203,16 @@ module _ {P N : Type 0} (net : Net P N) (p : ℕ) where
         turned_both None i e = e
         turned_both (Some w) i e = set_both g.port s.port w.0 w.1 w.1 i (λ f. refl) (λ f. e)
 
-        line : (u : ℕ × P) → does.transmission ≡ Some u → g.sent (net.peer u.0) ≡ s.sent (net.peer u.0)
-        line u e = h.agrees.sent (net.peer u.0) (far_mine u e ∙ mn)
+        line : (u : ℕ × P) → does.transmission ≡ Some u → g.sent (net.far_end u.0) ≡ s.sent (net.far_end u.0)
+        line u e = h.agrees.sent (net.far_end u.0) (far_mine u e ∙ mn)
 
-        sent_both : (o : Option (ℕ × P)) → ((u : ℕ × P) → o ≡ Some u → g.sent (net.peer u.0) ≡ s.sent (net.peer u.0)) → (c : ℕ) → g.sent c ≡ s.sent c → sent_after net k.time g.sent o c ≡ sent_after net k.time s.sent o c
+        sent_both : (o : Option (ℕ × P)) → ((u : ℕ × P) → o ≡ Some u → g.sent (net.far_end u.0) ≡ s.sent (net.far_end u.0)) → (c : ℕ) → g.sent c ≡ s.sent c → sent_after net k.time g.sent o c ≡ sent_after net k.time s.sent o c
         sent_both None l c e = e
-        sent_both (Some u) l c e = set_both g.sent s.sent (net.peer u.0) _ _ c (λ f. ap (λ z. z ++ (k.time + net.tx u.0 u.1 + net.delay u.0, u.1) ∷ []) (l u refl)) (λ f. e)
+        sent_both (Some u) l c e = set_both g.sent s.sent (net.far_end u.0) _ _ c (λ f. ap (λ z. z ++ (k.time + net.tx u.0 u.1 + net.delay u.0, u.1) ∷ []) (l u refl)) (λ f. e)
 
-        transmission_both : (o : Option (ℕ × P)) → ((u : ℕ × P) → o ≡ Some u → g.sent (net.peer u.0) ≡ s.sent (net.peer u.0)) → transmission_events net k.time g.sent o ≡ transmission_events net k.time s.sent o
+        transmission_both : (o : Option (ℕ × P)) → ((u : ℕ × P) → o ≡ Some u → g.sent (net.far_end u.0) ≡ s.sent (net.far_end u.0)) → transmission_events net k.time g.sent o ≡ transmission_events net k.time s.sent o
         transmission_both None l = refl
-        transmission_both (Some u) l = ap (λ (z : List (ℕ × P)). (key_of (k.time + net.tx u.0 u.1) (Complete u.0) (length z), Completion u.0) ∷ (key_of (k.time + net.tx u.0 u.1 + net.delay u.0) (Arrive (net.peer u.0)) (length z), Delivery (Arrival (net.peer u.0)) u.1) ∷ []) (l u refl)
+        transmission_both (Some u) l = ap (λ (z : List (ℕ × P)). (key_of (k.time + net.tx u.0 u.1) (Complete u.0) (length z), Completion u.0) ∷ (key_of (k.time + net.tx u.0 u.1 + net.delay u.0) (Arrive (net.far_end u.0)) (length z), Delivery (Arrival (net.far_end u.0)) u.1) ∷ []) (l u refl)
 
         news_both : new_events net k g.sent does ≡ new_events net k s.sent does
         news_both = ap (λ z. z ++ next_events k.number does.follows) (transmission_both does.transmission line)
@@ -240,9 +240,9 @@ module _ {P N : Type 0} (net : Net P N) (p : ℕ) where
         not_new c t n y ch (Ends u e f i) = let w = ap (λ r. r.place) f in cc
         not_new c t n y ch (GoesOn u e f i) = let w = ap (λ r. r.place) f in cc
         not_new c t n y ch (Comes u e f i) =
-            let pc : c ≡ net.peer u.0 = arrive_inj _ _ (ap (λ r. r.place) f) in
+            let pc : c ≡ net.far_end u.0 = arrive_inj _ _ (ap (λ r. r.place) f) in
             let there = not_true _ (and_both _ _ ch).1 in
-            both_ways (in_part net p (Arrive (net.peer c))) (ap (λ j. in_part net p (Arrive (net.peer j))) pc ∙ far_mine u e ∙ mn) there
+            both_ways (in_part net p (Arrive (net.far_end c))) (ap (λ j. in_part net p (Arrive (net.far_end j))) pc ∙ far_mine u e ∙ mn) there
 
         number_here : (c : ℕ) → comes_in net p c ≡ true → k.place ≡ Arrive c → (y : P) × (k.number ≡ s.arrived c) × (nth (K c).list k.number ≡ Some (k.time, y))
         number_here c ch pl =

@@ -100,7 +100,7 @@ module _ {P N : Type 0} (net : Net P N) (ok : IsNet net) (p : ℕ) where
         let f = prefix_nth _ _ i b (valid c ch).begins e in
         ⊎_elim
         (λ lt. inl (nth_prefix _ _ i b (s.grows c) lt f))
-        (λ le. inr (let w = s.late c i b le f in let z = ok.takes_time (net.peer c) b.1 in omega arith))
+        (λ le. inr (let w = s.late c i b le f in let z = ok.takes_time (net.far_end c) b.1 in omega arith))
         (cases_lt i (length ((one_list net n).sent c)))
 
     told_after : (n t : ℕ) → last ≤ n → Told net p K (one_list net n) t
@@ -242,7 +242,7 @@ module _ {P N : Type 0} (net : Net P N) (ok : IsNet net) (p : ℕ) where
     trace_exact k m w over quiet_m first = sym (cut_of m k w (count_is k m w over quiet_m first)).agrees.records
 
     -- outgoing lists
-    pub out_prefix : (k c : ℕ) → IsWithin net p K k → in_part net p (Arrive (net.peer c)) ≡ true → IsPrefix ((from_scratch net p K k).sent c) ((one_list net last).sent c)
+    pub out_prefix : (k c : ℕ) → IsWithin net p K k → in_part net p (Arrive (net.far_end c)) ≡ true → IsPrefix ((from_scratch net p K k).sent c) ((one_list net last).sent c)
     out_prefix k c w mc =
         let n = meets k w in
         let cut = cut_of n.0 k w n.2 in
@@ -258,7 +258,7 @@ module _ {P N : Type 0} (net : Net P N) (ok : IsNet net) (p : ℕ) where
         (λ le. let f = until_at_most (min net.stop (safe_time net p K)) (least (from_scratch net p K k).pending) in omega arith)
         (cases_lt e.0.time (safe_time net p K))
 
-    out_from : (k c : ℕ) → in_part net p (Arrive (net.peer c)) ≡ true → (i : ℕ) (b : ℕ × P) → length ((from_scratch net p K k).sent c) ≤ i → nth ((one_list net last).sent c) i ≡ Some b → (d n : ℕ) → d + n ≡ last → Cut net p K (one_list net n) (from_scratch net p K k) → next_time (min net.stop (safe_time net p K)) (least (from_scratch net p K k).pending) + net.tx (net.peer c) b.1 + net.delay (net.peer c) ≤ b.0
+    out_from : (k c : ℕ) → in_part net p (Arrive (net.far_end c)) ≡ true → (i : ℕ) (b : ℕ × P) → length ((from_scratch net p K k).sent c) ≤ i → nth ((one_list net last).sent c) i ≡ Some b → (d n : ℕ) → d + n ≡ last → Cut net p K (one_list net n) (from_scratch net p K k) → next_time (min net.stop (safe_time net p K)) (least (from_scratch net p K k).pending) + net.tx (net.far_end c) b.1 + net.delay (net.far_end c) ≤ b.0
     out_from k c mc i b le e zero n f cut =
         let nn : n ≡ last = omega (arith, f) in
         let same : (from_scratch net p K k).sent c ≡ (one_list net last).sent c = sym (cut.agrees.sent c mc) ∙ ap (λ m. (one_list net m).sent c) nn in
@@ -266,11 +266,11 @@ module _ {P N : Type 0} (net : Net P N) (ok : IsNet net) (p : ℕ) where
         let len = ap length same in absurd (omega arith)
     out_from k c mc i b le e (suc d) n f cut = go (least (one_list net n).pending) refl (λ next. out_from k c mc i b le e d (suc n) (omega (arith, f)) next)
       where
-        go : (o : Option (Key × Event P)) → least (one_list net n).pending ≡ o → (Cut net p K (one_list net (suc n)) (from_scratch net p K k) → next_time (min net.stop (safe_time net p K)) (least (from_scratch net p K k).pending) + net.tx (net.peer c) b.1 + net.delay (net.peer c) ≤ b.0) → next_time (min net.stop (safe_time net p K)) (least (from_scratch net p K k).pending) + net.tx (net.peer c) b.1 + net.delay (net.peer c) ≤ b.0
+        go : (o : Option (Key × Event P)) → least (one_list net n).pending ≡ o → (Cut net p K (one_list net (suc n)) (from_scratch net p K k) → next_time (min net.stop (safe_time net p K)) (least (from_scratch net p K k).pending) + net.tx (net.far_end c) b.1 + net.delay (net.far_end c) ≤ b.0) → next_time (min net.stop (safe_time net p K)) (least (from_scratch net p K k).pending) + net.tx (net.far_end c) b.1 + net.delay (net.far_end c) ≤ b.0
         go None m rest = rest (subst (λ o. Cut net p K (step_at net (λ q. true) (one_list net n) o) (from_scratch net p K k)) (sym m) cut)
         go (Some x) m rest = mine_or (in_part net p x.0.place) refl
           where
-            mine_or : (v : Bool) → in_part net p x.0.place ≡ v → next_time (min net.stop (safe_time net p K)) (least (from_scratch net p K k).pending) + net.tx (net.peer c) b.1 + net.delay (net.peer c) ≤ b.0
+            mine_or : (v : Bool) → in_part net p x.0.place ≡ v → next_time (min net.stop (safe_time net p K)) (least (from_scratch net p K k).pending) + net.tx (net.far_end c) b.1 + net.delay (net.far_end c) ≤ b.0
             mine_or false mn =
                 let g = invariant_run net ok n in
                 rest (subst (λ o. Cut net p K (step_at net (λ q. true) (one_list net n) o) (from_scratch net p K k)) (sym m)
@@ -283,7 +283,7 @@ module _ {P N : Type 0} (net : Net P N) (ok : IsNet net) (p : ℕ) where
                 let late = s.late c i b (omega arith) e in
                 omega arith
 
-    pub out_timed : (k c : ℕ) → IsWithin net p K k → in_part net p (Arrive (net.peer c)) ≡ true → (i : ℕ) (b : ℕ × P) → length ((from_scratch net p K k).sent c) ≤ i → nth ((one_list net last).sent c) i ≡ Some b → next_time (min net.stop (safe_time net p K)) (least (from_scratch net p K k).pending) + net.tx (net.peer c) b.1 + net.delay (net.peer c) ≤ b.0
+    pub out_timed : (k c : ℕ) → IsWithin net p K k → in_part net p (Arrive (net.far_end c)) ≡ true → (i : ℕ) (b : ℕ × P) → length ((from_scratch net p K k).sent c) ≤ i → nth ((one_list net last).sent c) i ≡ Some b → next_time (min net.stop (safe_time net p K)) (least (from_scratch net p K k).pending) + net.tx (net.far_end c) b.1 + net.delay (net.far_end c) ≤ b.0
     out_timed k c w mc i b le e =
         let n = meets k w in
         out_from k c mc i b le e (last - n.0) n.0 (omega (arith, n.1)) (cut_of n.0 k w n.2)

@@ -20,7 +20,7 @@ use Rattle.nm_model.specs.Orderly.{IsOrderly}
 use Rattle.nm_model.proofs.Placed.{placed_of}
 use Rattle.nm_model.proofs.Orders.{unturned, makes_later, orderly_step_at, all_by_node}
 use Rattle.nm_model.proofs.Effects.{EffectIs, effect_is}
-use Rattle.nm_model.proofs.NewEvents.{peer_inj, arrive_inj, arrived_case, turned_case, sent_case, sent_prefix, IsNew, Ends, Comes, GoesOn, made_among, among_comes, pending_case, pending_other}
+use Rattle.nm_model.proofs.NewEvents.{far_end_inj, arrive_inj, arrived_case, turned_case, sent_case, sent_prefix, IsNew, Ends, Comes, GoesOn, made_among, among_comes, pending_case, pending_other}
 
 -- from one to the next there is time to send the next
 abbrev pub IsSpaced : {P : Type 0} → (P → ℕ) → List (ℕ × P) → Type 0
@@ -33,9 +33,9 @@ pub record Invariant {P N : Type 0} (net : Net P N) (s : State P N) (now : ℕ) 
   pub arrival_is : (c t n : ℕ) (x : Event P) → get s.pending (key_of t (Arrive c) n) ≡ Some x → (y : P) × (x ≡ Delivery (Arrival c) y) × (s.arrived c ≤ n) × (nth (s.sent c) n ≡ Some (t, y))
   pub arrival_has : (c t n : ℕ) (x : P) → s.arrived c ≤ n → nth (s.sent c) n ≡ Some (t, x) → get s.pending (key_of t (Arrive c) n) ≡ Some (Delivery (Arrival c) x)
   pub rising : (c : ℕ) → IsRising (s.sent c)
-  pub spaced : (c : ℕ) → IsSpaced (net.tx (net.peer c)) (s.sent c)
-  pub underway : (i : ℕ) (b : Busy P) → (s.port i).busy ≡ Some b → (n : ℕ) × (y : P) × (suc n ≡ length (s.sent (net.peer i))) × (nth (s.sent (net.peer i)) n ≡ Some (b.completes + net.delay i, y))
-  pub idle : (i : ℕ) → (s.port i).busy ≡ None → (n : ℕ) (b : ℕ × P) → nth (s.sent (net.peer i)) n ≡ Some b → b.0 ≤ now + net.delay i
+  pub spaced : (c : ℕ) → IsSpaced (net.tx (net.far_end c)) (s.sent c)
+  pub underway : (i : ℕ) (b : Busy P) → (s.port i).busy ≡ Some b → (n : ℕ) × (y : P) × (suc n ≡ length (s.sent (net.far_end i))) × (nth (s.sent (net.far_end i)) n ≡ Some (b.completes + net.delay i, y))
+  pub idle : (i : ℕ) → (s.port i).busy ≡ None → (n : ℕ) (b : ℕ × P) → nth (s.sent (net.far_end i)) n ≡ Some b → b.0 ≤ now + net.delay i
   pub orderly : IsOrderly net (λ q. true) s
 
 module _ {P : Type 0} where
@@ -72,12 +72,12 @@ module _ {P N : Type 0} (net : Net P N) (ok : IsNet net) where
     what_is = effect_is net ok s.node s.port k.time k.place k.number x (placed_of net (λ q. true) s g.orderly k x (least_has s.pending (k, x) m))
 
     -- a pending completion is that of the last transmission
-    last_sent : (i t n : ℕ) (y : Event P) → get s.pending (key_of t (Complete i) n) ≡ Some y → (z : P) × (suc n ≡ length (s.sent (net.peer i))) × (nth (s.sent (net.peer i)) n ≡ Some (t + net.delay i, z))
+    last_sent : (i t n : ℕ) (y : Event P) → get s.pending (key_of t (Complete i) n) ≡ Some y → (z : P) × (suc n ≡ length (s.sent (net.far_end i))) × (nth (s.sent (net.far_end i)) n ≡ Some (t + net.delay i, z))
     last_sent i t n y h =
         let a = g.orderly.completion i t n y h in
         let b = g.underway i a.0 a.2 in
         let e : n ≡ b.0 = omega (arith, a.4, b.2) in
-        (b.1, a.4, ap (nth (s.sent (net.peer i))) e ∙ b.3 ∙ ap (λ u. Some (u + net.delay i, b.1)) a.3)
+        (b.1, a.4, ap (nth (s.sent (net.far_end i))) e ∙ b.3 ∙ ap (λ u. Some (u + net.delay i, b.1)) a.3)
 
     is_pending : get s.pending k ≡ Some x
     is_pending = least_has s.pending (k, x) m
@@ -107,19 +107,19 @@ module _ {P N : Type 0} (net : Net P N) (ok : IsNet net) where
             omega arith
 
     -- all on the line of a pending completion arrive by its end and the delay
-    by_completion : (i t n : ℕ) (y : Event P) → get s.pending (key_of t (Complete i) n) ≡ Some y → (l : ℕ) (b : ℕ × P) → nth (s.sent (net.peer i)) l ≡ Some b → b.0 ≤ t + net.delay i
+    by_completion : (i t n : ℕ) (y : Event P) → get s.pending (key_of t (Complete i) n) ≡ Some y → (l : ℕ) (b : ℕ × P) → nth (s.sent (net.far_end i)) l ≡ Some b → b.0 ≤ t + net.delay i
     by_completion i t n y h l b e =
         let a = last_sent i t n y h in
-        let below = below_nth (s.sent (net.peer i)) l b e in
+        let below = below_nth (s.sent (net.far_end i)) l b e in
         ⊎_elim
-        (λ eq. let same : nth (s.sent (net.peer i)) n ≡ Some b = subst (λ z. nth (s.sent (net.peer i)) z ≡ Some b) eq e in
+        (λ eq. let same : nth (s.sent (net.far_end i)) n ≡ Some b = subst (λ z. nth (s.sent (net.far_end i)) z ≡ Some b) eq e in
         let f : b ≡ (t + net.delay i, a.0) = let u = a.2 in cc in
         let f0 : b.0 ≡ t + net.delay i = ap (λ z. z.0) f in omega arith)
-        (λ lt. let r = g.rising (net.peer i) l n b (t + net.delay i, a.0) lt e a.2 in omega arith)
+        (λ lt. let r = g.rising (net.far_end i) l n b (t + net.delay i, a.0) lt e a.2 in omega arith)
         (equal_or_less l n (omega (arith, a.1)))
 
     -- where a transmission starts, all earlier ones arrive earlier
-    room : (t : ℕ × P) → what.transmission ≡ Some t → (n : ℕ) (b : ℕ × P) → nth (s.sent (net.peer t.0)) n ≡ Some b → b.0 ≤ k.time + net.delay t.0
+    room : (t : ℕ × P) → what.transmission ≡ Some t → (n : ℕ) (b : ℕ × P) → nth (s.sent (net.far_end t.0)) n ≡ Some b → b.0 ≤ k.time + net.delay t.0
     room t h n b e = ⊎_elim
         (λ free. let a = g.idle t.0 free n b e in let z = now_before in omega arith)
         (λ place. by_completion t.0 k.time k.number x (pending_at (Complete t.0) place) n b e)
@@ -147,12 +147,12 @@ module _ {P N : Type 0} (net : Net P N) (ok : IsNet net) where
         (λ h. subst IsRising (sym h.1) (g.rising c))
         (sent_case net k.time s.sent what.transmission c)
 
-    spaced_after : (c : ℕ) → IsSpaced (net.tx (net.peer c)) (after.sent c)
+    spaced_after : (c : ℕ) → IsSpaced (net.tx (net.far_end c)) (after.sent c)
     spaced_after c = ⊎_elim
-        (λ h. subst (IsSpaced (net.tx (net.peer c))) (sym h.3) (spaced_push (net.tx (net.peer c)) (s.sent c) _ (g.spaced c) (λ n a e.
+        (λ h. subst (IsSpaced (net.tx (net.far_end c))) (sym h.3) (spaced_push (net.tx (net.far_end c)) (s.sent c) _ (g.spaced c) (λ n a e.
         let le = room h.0 h.1 n a (nth_cong _ _ n a (ap s.sent h.2) e) in
-        let z : net.tx (net.peer c) h.0.1 ≡ net.tx h.0.0 h.0.1 = ap (λ i. net.tx i h.0.1) (ap net.peer h.2 ∙ ok.twice h.0.0) in omega arith)))
-        (λ h. subst (IsSpaced (net.tx (net.peer c))) (sym h.1) (g.spaced c))
+        let z : net.tx (net.far_end c) h.0.1 ≡ net.tx h.0.0 h.0.1 = ap (λ i. net.tx i h.0.1) (ap net.far_end h.2 ∙ ok.twice h.0.0) in omega arith)))
+        (λ h. subst (IsSpaced (net.tx (net.far_end c))) (sym h.1) (g.spaced c))
         (sent_case net k.time s.sent what.transmission c)
 
     counted_at : (c : ℕ) → after.arrived c ≤ length (s.sent c)
@@ -174,8 +174,8 @@ module _ {P N : Type 0} (net : Net P N) (ok : IsNet net) where
         (pending_case net k s.sent what (λ q. true) s.pending q y e)
 
     -- what starts is put on the far end
-    grown : (u : ℕ × P) → what.transmission ≡ Some u → nth (after.sent (net.peer u.0)) (length (s.sent (net.peer u.0))) ≡ Some (k.time + net.tx u.0 u.1 + net.delay u.0, u.1)
-    grown u h = ap (λ l. nth l (length (s.sent (net.peer u.0)))) (ap (λ o. sent_after net k.time s.sent o (net.peer u.0)) h ∙ set_here s.sent (net.peer u.0) _) ∙ nth_last (s.sent (net.peer u.0)) _
+    grown : (u : ℕ × P) → what.transmission ≡ Some u → nth (after.sent (net.far_end u.0)) (length (s.sent (net.far_end u.0))) ≡ Some (k.time + net.tx u.0 u.1 + net.delay u.0, u.1)
+    grown u h = ap (λ l. nth l (length (s.sent (net.far_end u.0)))) (ap (λ o. sent_after net k.time s.sent o (net.far_end u.0)) h ∙ set_here s.sent (net.far_end u.0) _) ∙ nth_last (s.sent (net.far_end u.0)) _
 
     arrival_is_after : (c t n : ℕ) (y : Event P) → get after.pending (key_of t (Arrive c) n) ≡ Some y → (z : P) × (y ≡ Delivery (Arrival c) z) × (after.arrived c ≤ n) × (nth (after.sent c) n ≡ Some (t, z))
     arrival_is_after c t n y e = ⊎_elim new (λ h. old h.0 h.1) (pending_case net k s.sent what (λ q. true) s.pending (key_of t (Arrive c) n) y e)
@@ -184,7 +184,7 @@ module _ {P N : Type 0} (net : Net P N) (ok : IsNet net) where
         new (Ends u h f i) = absurd (let z = ap (λ r. r.place) f in cc)
         new (GoesOn u h f i) = absurd (let z = ap (λ r. r.place) f in cc)
         new (Comes u h f i) =
-            let pc : c ≡ net.peer u.0 = arrive_inj _ _ (ap (λ r. r.place) f) in
+            let pc : c ≡ net.far_end u.0 = arrive_inj _ _ (ap (λ r. r.place) f) in
             let pn : n ≡ length (s.sent c) = ap (λ r. r.number) f ∙ ap (λ d. length (s.sent d)) (sym pc) in
             let pt : t ≡ k.time + net.tx u.0 u.1 + net.delay u.0 = ap (λ r. r.time) f in
             let le = counted_at c in
@@ -233,66 +233,66 @@ module _ {P N : Type 0} (net : Net P N) (ok : IsNet net) where
             not_new z (Ends u h f i') = absurd (let w = ap (λ r. r.place) f in cc)
             not_new z (GoesOn u h f i') = absurd (let w = ap (λ r. r.place) f in cc)
             not_new z (Comes u h f i') =
-                let pc : c ≡ net.peer u.0 = arrive_inj _ _ (ap (λ r. r.place) f) in
+                let pc : c ≡ net.far_end u.0 = arrive_inj _ _ (ap (λ r. r.place) f) in
                 let pn : n ≡ length (s.sent c) = ap (λ r. r.number) f ∙ ap (λ d. length (s.sent d)) (sym pc) in
                 let b = below_nth (s.sent c) n (t, y) i in omega arith
 
-        came : (u : ℕ × P) → what.transmission ≡ Some u → c ≡ net.peer u.0 → n ≡ length (s.sent c) → ◌≡◌ {A = ℕ × P} (k.time + net.tx u.0 u.1 + net.delay u.0, u.1) (t, y) → get after.pending (key_of t (Arrive c) n) ≡ Some (Delivery (Arrival c) y)
+        came : (u : ℕ × P) → what.transmission ≡ Some u → c ≡ net.far_end u.0 → n ≡ length (s.sent c) → ◌≡◌ {A = ℕ × P} (k.time + net.tx u.0 u.1 + net.delay u.0, u.1) (t, y) → get after.pending (key_of t (Arrive c) n) ≡ Some (Delivery (Arrival c) y)
         came u h pc pn eq =
             subst (λ q. get after.pending q ≡ Some (Delivery (Arrival c) y)) (sym same) (put_has (λ q. true) (new_events net k s.sent what) (remove s.pending k) _ (Delivery (Arrival c) y) refl among one)
           where
-            same : key_of t (Arrive c) n ≡ key_of (k.time + net.tx u.0 u.1 + net.delay u.0) (Arrive (net.peer u.0)) (length (s.sent (net.peer u.0)))
+            same : key_of t (Arrive c) n ≡ key_of (k.time + net.tx u.0 u.1 + net.delay u.0) (Arrive (net.far_end u.0)) (length (s.sent (net.far_end u.0)))
             same = same_key _ _ (sym (ap (λ z. z.0) eq)) (ap Arrive pc) (pn ∙ ap (λ d. length (s.sent d)) pc)
 
-            its_event : Delivery (Arrival (net.peer u.0)) u.1 ≡ Delivery (Arrival c) y
+            its_event : Delivery (Arrival (net.far_end u.0)) u.1 ≡ Delivery (Arrival c) y
             its_event = ap₂ (λ d z. Delivery (Arrival d) z) (sym pc) (ap (λ z. z.1) eq)
 
-            among : IsAmong (key_of (k.time + net.tx u.0 u.1 + net.delay u.0) (Arrive (net.peer u.0)) (length (s.sent (net.peer u.0)))) (Delivery (Arrival c) y) (new_events net k s.sent what)
-            among = subst (λ v. IsAmong (key_of (k.time + net.tx u.0 u.1 + net.delay u.0) (Arrive (net.peer u.0)) (length (s.sent (net.peer u.0)))) v (new_events net k s.sent what)) its_event (among_comes net k s.sent what u h)
+            among : IsAmong (key_of (k.time + net.tx u.0 u.1 + net.delay u.0) (Arrive (net.far_end u.0)) (length (s.sent (net.far_end u.0)))) (Delivery (Arrival c) y) (new_events net k s.sent what)
+            among = subst (λ v. IsAmong (key_of (k.time + net.tx u.0 u.1 + net.delay u.0) (Arrive (net.far_end u.0)) (length (s.sent (net.far_end u.0)))) v (new_events net k s.sent what)) its_event (among_comes net k s.sent what u h)
 
-            one : (w : Event P) → IsAmong (key_of (k.time + net.tx u.0 u.1 + net.delay u.0) (Arrive (net.peer u.0)) (length (s.sent (net.peer u.0)))) w (new_events net k s.sent what) → w ≡ Delivery (Arrival c) y
+            one : (w : Event P) → IsAmong (key_of (k.time + net.tx u.0 u.1 + net.delay u.0) (Arrive (net.far_end u.0)) (length (s.sent (net.far_end u.0)))) w (new_events net k s.sent what) → w ≡ Delivery (Arrival c) y
             one w a = go (made_among net k s.sent what _ w a)
               where
-                go : IsNew net k s.sent what (key_of (k.time + net.tx u.0 u.1 + net.delay u.0) (Arrive (net.peer u.0)) (length (s.sent (net.peer u.0)))) w → w ≡ Delivery (Arrival c) y
+                go : IsNew net k s.sent what (key_of (k.time + net.tx u.0 u.1 + net.delay u.0) (Arrive (net.far_end u.0)) (length (s.sent (net.far_end u.0)))) w → w ≡ Delivery (Arrival c) y
                 go (Ends v h' f i) = absurd (let z = ap (λ r. r.place) f in cc)
                 go (GoesOn v h' f i) = absurd (let z = ap (λ r. r.place) f in cc)
-                go (Comes v h' f i) = let uv : v ≡ u = cc in i ∙ ap (λ z. Delivery (Arrival (net.peer z.0)) z.1) uv ∙ its_event
+                go (Comes v h' f i) = let uv : v ≡ u = cc in i ∙ ap (λ z. Delivery (Arrival (net.far_end z.0)) z.1) uv ∙ its_event
 
-    idle_after : (i : ℕ) → (after.port i).busy ≡ None → (n : ℕ) (b : ℕ × P) → nth (after.sent (net.peer i)) n ≡ Some b → b.0 ≤ k.time + net.delay i
+    idle_after : (i : ℕ) → (after.port i).busy ≡ None → (n : ℕ) (b : ℕ × P) → nth (after.sent (net.far_end i)) n ≡ Some b → b.0 ≤ k.time + net.delay i
     idle_after i q n b e = ⊎_elim
         (λ t. by_completion i k.time k.number x (pending_at (Complete i) (what_is.turn_idle (i, t.0) t.1 (ap (λ w. w.busy) (sym t.2) ∙ q))) n b (nth_cong _ _ n b same e))
         (λ t. let le = g.idle i (ap (λ w. w.busy) (sym t.1) ∙ q) n b (nth_cong _ _ n b same e) in let z = now_before in omega arith)
         (turned_case s.port what.turn i)
       where
         -- a port that is idle after has transmitting nothing
-        same : after.sent (net.peer i) ≡ s.sent (net.peer i)
+        same : after.sent (net.far_end i) ≡ s.sent (net.far_end i)
         same = ⊎_elim
             (λ c. absurd (let d = what_is.transmission_turn c.0 c.1 in
-            let ij : i ≡ c.0.0 = peer_inj net ok i c.0.0 c.2 in
+            let ij : i ≡ c.0.0 = far_end_inj net ok i c.0.0 c.2 in
             d.2 (ap (λ w. w.busy) (sym (ap (turned s.port what.turn) ij ∙ ap (λ o. turned s.port o c.0.0) d.1 ∙ set_here s.port c.0.0 d.0)) ∙ q)))
             (λ c. c.1)
-            (sent_case net k.time s.sent what.transmission (net.peer i))
+            (sent_case net k.time s.sent what.transmission (net.far_end i))
 
-    underway_after : (i : ℕ) (b : Busy P) → (after.port i).busy ≡ Some b → (n : ℕ) × (y : P) × (suc n ≡ length (after.sent (net.peer i))) × (nth (after.sent (net.peer i)) n ≡ Some (b.completes + net.delay i, y))
+    underway_after : (i : ℕ) (b : Busy P) → (after.port i).busy ≡ Some b → (n : ℕ) × (y : P) × (suc n ≡ length (after.sent (net.far_end i))) × (nth (after.sent (net.far_end i)) n ≡ Some (b.completes + net.delay i, y))
     underway_after i b e = ⊎_elim
         (λ t. ⊎_elim
         (λ c. begins c.0 c.1 c.2)
-        (λ c. stays c.0 c.2 c.3 (ap (λ o. sent_after net k.time s.sent o (net.peer i)) c.1))
+        (λ c. stays c.0 c.2 c.3 (ap (λ o. sent_after net k.time s.sent o (net.far_end i)) c.1))
         (what_is.turn_busy (i, t.0) t.1 b (ap (λ w. w.busy) (sym t.2) ∙ e)))
         (λ t. stays b (ap (λ w. w.busy) (sym t.1) ∙ e) refl (unturned net ok (λ q. true) (all_by_node net) s g.orderly (k, x) is_pending i t.0))
         (turned_case s.port what.turn i)
       where
-        stays : (c : Busy P) → (s.port i).busy ≡ Some c → b.completes ≡ c.completes → after.sent (net.peer i) ≡ s.sent (net.peer i) → (n : ℕ) × (y : P) × (suc n ≡ length (after.sent (net.peer i))) × (nth (after.sent (net.peer i)) n ≡ Some (b.completes + net.delay i, y))
+        stays : (c : Busy P) → (s.port i).busy ≡ Some c → b.completes ≡ c.completes → after.sent (net.far_end i) ≡ s.sent (net.far_end i) → (n : ℕ) × (y : P) × (suc n ≡ length (after.sent (net.far_end i))) × (nth (after.sent (net.far_end i)) n ≡ Some (b.completes + net.delay i, y))
         stays c f t line =
             let a = g.underway i c f in
             (a.0, a.1, a.2 ∙ ap length (sym line), ap (λ l. nth l a.0) line ∙ a.3 ∙ ap (λ u. Some (u + net.delay i, a.1)) (sym t))
 
-        begins : (y : P) → what.transmission ≡ Some (i, y) → b.completes ≡ k.time + net.tx i y → (n : ℕ) × (y : P) × (suc n ≡ length (after.sent (net.peer i))) × (nth (after.sent (net.peer i)) n ≡ Some (b.completes + net.delay i, y))
+        begins : (y : P) → what.transmission ≡ Some (i, y) → b.completes ≡ k.time + net.tx i y → (n : ℕ) × (y : P) × (suc n ≡ length (after.sent (net.far_end i))) × (nth (after.sent (net.far_end i)) n ≡ Some (b.completes + net.delay i, y))
         begins y h t =
-            let line : after.sent (net.peer i) ≡ s.sent (net.peer i) ++ (k.time + net.tx i y + net.delay i, y) ∷ [] = ap (λ o. sent_after net k.time s.sent o (net.peer i)) h ∙ set_here s.sent (net.peer i) _ in
+            let line : after.sent (net.far_end i) ≡ s.sent (net.far_end i) ++ (k.time + net.tx i y + net.delay i, y) ∷ [] = ap (λ o. sent_after net k.time s.sent o (net.far_end i)) h ∙ set_here s.sent (net.far_end i) _ in
             let l1 = ap length line in
-            let l2 = length-append (s.sent (net.peer i)) ((k.time + net.tx i y + net.delay i, y) ∷ []) in
-            (length (s.sent (net.peer i)), y, omega (arith, l1, l2), grown (i, y) h ∙ ap (λ u. Some (u + net.delay i, y)) (sym t))
+            let l2 = length-append (s.sent (net.far_end i)) ((k.time + net.tx i y + net.delay i, y) ∷ []) in
+            (length (s.sent (net.far_end i)), y, omega (arith, l1, l2), grown (i, y) h ∙ ap (λ u. Some (u + net.delay i, y)) (sym t))
 
     orderly_after : IsOrderly net (λ q. true) after
     orderly_after = orderly_step_at net ok (λ q. true) (all_by_node net) s g.orderly (k, x) is_pending

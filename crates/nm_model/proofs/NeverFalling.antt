@@ -81,7 +81,7 @@ module _ {P N : Type 0} (net : Net P N) (ok : IsNet net) (p : ℕ) where
 
     step_rises : (kind : Promising) (c : ℕ) → promise net kind p K k c ≤ promise net kind p K (suc k) c
     step_rises Plain c = let a = is_now in let b = goes_on in omega arith
-    step_rises Tight c = let a = is_now in let b = goes_on in let d = port_goes_on (net.peer c) in omega arith
+    step_rises Tight c = let a = is_now in let b = goes_on in let d = port_goes_on (net.far_end c) in omega arith
 
   -- several
   steps_rise : (K : Knowledge P) (d k : ℕ) → IsWithin net p K (d + k) → (kind : Promising) (c : ℕ) → promise net kind p K k c ≤ promise net kind p K (d + k) c
@@ -109,7 +109,7 @@ module _ {P N : Type 0} (net : Net P N) (ok : IsNet net) (p : ℕ) where
     told_rises Plain c = let a = cause_rises in omega arith
     told_rises Tight c =
         let a = cause_rises in
-        let b = ap (λ (u : State P N). busy_until (u.port (net.peer c)).busy) (books net ok p K J under k w) in omega arith
+        let b = ap (λ (u : State P N). busy_until (u.port (net.far_end c)).busy) (books net ok p K J under k w) in omega arith
 
   pub promise_rises : (kind : Promising) (K J : Knowledge P) → IsUnderAll net p K J → (k m c : ℕ) → k ≤ m → IsWithin net p K k → IsWithin net p J m → promise net kind p K k c ≤ promise net kind p J m c
   promise_rises kind K J under k m c le w v =

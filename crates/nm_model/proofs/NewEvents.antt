@@ -57,17 +57,17 @@ module _ {X : Type 0} where
 
 -- what an event that an event makes is: the end of a transmission, its arrival, or the source's next
 pub data IsNew {P N : Type 0} (net : Net P N) (k : Key) (sent : ℕ → List (ℕ × P)) (e : Effect P N) (q : Key) (y : Event P) : Type 0 where
-  Ends : (t : ℕ × P) → e.transmission ≡ Some t → q ≡ key_of (k.time + net.tx t.0 t.1) (Complete t.0) (length (sent (net.peer t.0))) → y ≡ Completion t.0 → IsNew net k sent e q y
-  Comes : (t : ℕ × P) → e.transmission ≡ Some t → q ≡ key_of (k.time + net.tx t.0 t.1 + net.delay t.0) (Arrive (net.peer t.0)) (length (sent (net.peer t.0))) → y ≡ Delivery (Arrival (net.peer t.0)) t.1 → IsNew net k sent e q y
+  Ends : (t : ℕ × P) → e.transmission ≡ Some t → q ≡ key_of (k.time + net.tx t.0 t.1) (Complete t.0) (length (sent (net.far_end t.0))) → y ≡ Completion t.0 → IsNew net k sent e q y
+  Comes : (t : ℕ × P) → e.transmission ≡ Some t → q ≡ key_of (k.time + net.tx t.0 t.1 + net.delay t.0) (Arrive (net.far_end t.0)) (length (sent (net.far_end t.0))) → y ≡ Delivery (Arrival (net.far_end t.0)) t.1 → IsNew net k sent e q y
   GoesOn : (f : ℕ × ℕ × P) → e.follows ≡ Some f → q ≡ key_of f.1 (Fire f.0) (suc k.number) → y ≡ Delivery (Source f.0) f.2 → IsNew net k sent e q y
 
 module _ {P N : Type 0} (net : Net P N) where
-  pub sent_case : (time : ℕ) (sent : ℕ → List (ℕ × P)) (o : Option (ℕ × P)) (c : ℕ) → ((t : ℕ × P) × (o ≡ Some t) × (c ≡ net.peer t.0) × (sent_after net time sent o c ≡ sent c ++ (time + net.tx t.0 t.1 + net.delay t.0, t.1) ∷ [])) ⊎ (((t : ℕ × P) → o ≡ Some t → c ≢ net.peer t.0) × (sent_after net time sent o c ≡ sent c))
+  pub sent_case : (time : ℕ) (sent : ℕ → List (ℕ × P)) (o : Option (ℕ × P)) (c : ℕ) → ((t : ℕ × P) × (o ≡ Some t) × (c ≡ net.far_end t.0) × (sent_after net time sent o c ≡ sent c ++ (time + net.tx t.0 t.1 + net.delay t.0, t.1) ∷ [])) ⊎ (((t : ℕ × P) → o ≡ Some t → c ≢ net.far_end t.0) × (sent_after net time sent o c ≡ sent c))
   sent_case time sent None c = inr ((λ t e. absurd (cc)), refl)
   sent_case time sent (Some t) c = ⊎_elim
-      (λ e. inl (t, refl, e, subst (λ d. sent_after net time sent (Some t) d ≡ sent d ++ (time + net.tx t.0 t.1 + net.delay t.0, t.1) ∷ []) (sym e) (set_here sent (net.peer t.0) _)))
-      (λ h. inr ((λ u e f. h (f ∙ ap (λ z. net.peer z.0) (let g : u ≡ t = cc in g))), set_there sent (net.peer t.0) _ c h))
-      (same_number c (net.peer t.0))
+      (λ e. inl (t, refl, e, subst (λ d. sent_after net time sent (Some t) d ≡ sent d ++ (time + net.tx t.0 t.1 + net.delay t.0, t.1) ∷ []) (sym e) (set_here sent (net.far_end t.0) _)))
+      (λ h. inr ((λ u e f. h (f ∙ ap (λ z. net.far_end z.0) (let g : u ≡ t = cc in g))), set_there sent (net.far_end t.0) _ c h))
+      (same_number c (net.far_end t.0))
 
   pub sent_prefix : (time : ℕ) (sent : ℕ → List (ℕ × P)) (o : Option (ℕ × P)) (c : ℕ) → IsPrefix (sent c) (sent_after net time sent o c)
   sent_prefix time sent o c = ⊎_elim
@@ -93,11 +93,11 @@ module _ {P N : Type 0} (net : Net P N) where
         (λ b. next_among q y e.follows refl b)
         (among-append q y (transmission_events net k.time sent e.transmission) (next_events k.number e.follows) a)
 
-    pub among_comes : (t : ℕ × P) → e.transmission ≡ Some t → IsAmong (key_of (k.time + net.tx t.0 t.1 + net.delay t.0) (Arrive (net.peer t.0)) (length (sent (net.peer t.0)))) (Delivery (Arrival (net.peer t.0)) t.1) (new_events net k sent e)
-    among_comes t h = among_left _ _ (transmission_events net k.time sent e.transmission) _ (subst (λ o. IsAmong (key_of (k.time + net.tx t.0 t.1 + net.delay t.0) (Arrive (net.peer t.0)) (length (sent (net.peer t.0)))) (Delivery (Arrival (net.peer t.0)) t.1) (transmission_events net k.time sent o)) (sym h) (inr (inl (refl, refl))))
+    pub among_comes : (t : ℕ × P) → e.transmission ≡ Some t → IsAmong (key_of (k.time + net.tx t.0 t.1 + net.delay t.0) (Arrive (net.far_end t.0)) (length (sent (net.far_end t.0)))) (Delivery (Arrival (net.far_end t.0)) t.1) (new_events net k sent e)
+    among_comes t h = among_left _ _ (transmission_events net k.time sent e.transmission) _ (subst (λ o. IsAmong (key_of (k.time + net.tx t.0 t.1 + net.delay t.0) (Arrive (net.far_end t.0)) (length (sent (net.far_end t.0)))) (Delivery (Arrival (net.far_end t.0)) t.1) (transmission_events net k.time sent o)) (sym h) (inr (inl (refl, refl))))
 
-    pub among_ends : (t : ℕ × P) → e.transmission ≡ Some t → IsAmong (key_of (k.time + net.tx t.0 t.1) (Complete t.0) (length (sent (net.peer t.0)))) (Completion t.0) (new_events net k sent e)
-    among_ends t h = among_left _ _ (transmission_events net k.time sent e.transmission) _ (subst (λ o. IsAmong (key_of (k.time + net.tx t.0 t.1) (Complete t.0) (length (sent (net.peer t.0)))) (Completion t.0) (transmission_events net k.time sent o)) (sym h) (inl (refl, refl)))
+    pub among_ends : (t : ℕ × P) → e.transmission ≡ Some t → IsAmong (key_of (k.time + net.tx t.0 t.1) (Complete t.0) (length (sent (net.far_end t.0)))) (Completion t.0) (new_events net k sent e)
+    among_ends t h = among_left _ _ (transmission_events net k.time sent e.transmission) _ (subst (λ o. IsAmong (key_of (k.time + net.tx t.0 t.1) (Complete t.0) (length (sent (net.far_end t.0)))) (Completion t.0) (transmission_events net k.time sent o)) (sym h) (inl (refl, refl)))
 
     -- what is pending after the event
     module _ (here : Place → Bool) (m : FinMap key_cmp (Event P)) where
@@ -133,5 +133,5 @@ module _ {P N : Type 0} (net : Net P N) where
       (λ f. let none = get_empty {X = Event P} q in absurd (cc))
       (put_from (λ p. true) (source_events net net.sources) _ q y e)
 
-pub peer_inj : {P N : Type 0} (net : Net P N) → IsNet net → (i j : ℕ) → net.peer i ≡ net.peer j → i ≡ j
-peer_inj net ok i j e = sym (ok.twice i) ∙ ap net.peer e ∙ ok.twice j
+pub far_end_inj : {P N : Type 0} (net : Net P N) → IsNet net → (i j : ℕ) → net.far_end i ≡ net.far_end j → i ≡ j
+far_end_inj net ok i j e = sym (ok.twice i) ∙ ap net.far_end e ∙ ok.twice j

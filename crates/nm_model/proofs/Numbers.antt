@@ -14,7 +14,7 @@ use Rattle.nm_model.specs.Before.{same_place, is_at, events_at}
 use Rattle.nm_model.proofs.Keys.{key_at, same_key, least_has}
 use Rattle.nm_model.proofs.ListLemmas.{same_time, number_is, number_tied, option_cases}
 use Rattle.nm_model.proofs.Effects.{EffectIs, effect_is}
-use Rattle.nm_model.proofs.NewEvents.{peer_inj, start_pending, turned_case, sent_case, IsNew, Ends, Comes, GoesOn, pending_case}
+use Rattle.nm_model.proofs.NewEvents.{far_end_inj, start_pending, turned_case, sent_case, IsNew, Ends, Comes, GoesOn, pending_case}
 use Rattle.nm_model.proofs.Invariants.{Invariant, arrival_number, came_case}
 use Rattle.nm_model.proofs.Placed.{placed_of}
 use Rattle.nm_model.proofs.Orders.{unstarted, all_by_node}
@@ -65,7 +65,7 @@ module _ {P N : Type 0} (net : Net P N) where
 
   record Numbered (n : ℕ) (s : State P N) : Type 0 where
     arrivals : (c : ℕ) → s.arrived c ≡ events_at net (same_place (Arrive c)) n
-    completions : (i : ℕ) → events_at net (same_place (Complete i)) n + load (s.port i).busy ≡ length (s.sent (net.peer i))
+    completions : (i : ℕ) → events_at net (same_place (Complete i)) n + load (s.port i).busy ≡ length (s.sent (net.far_end i))
     sources : (j t m : ℕ) (y : Event P) → get s.pending (key_of t (Fire j) m) ≡ Some y → m ≡ events_at net (same_place (Fire j)) n
 
   module _ (ok : IsNet net) where
@@ -108,12 +108,12 @@ module _ {P N : Type 0} (net : Net P N) where
           (came_case net ok (one_list net n) good.0 good.1 e.0 e.1 m (one_list net n).arrived c)
 
       -- the line of an interface grows by what starts there
-      transmitting : (i : ℕ) (x : P) → does.transmission ≡ Some (i, x) → (length (next.sent (net.peer i)) ≡ suc (length ((one_list net n).sent (net.peer i)))) × (load (next.port i).busy ≡ 1)
+      transmitting : (i : ℕ) (x : P) → does.transmission ≡ Some (i, x) → (length (next.sent (net.far_end i)) ≡ suc (length ((one_list net n).sent (net.far_end i)))) × (load (next.port i).busy ≡ 1)
       transmitting i x f = (
         ⊎_elim
-            (λ a. let l = ap length a.3 in let k = length-append ((one_list net n).sent (net.peer i)) ((e.0.time + net.tx a.0.0 a.0.1 + net.delay a.0.0, a.0.1) ∷ []) in omega arith)
+            (λ a. let l = ap length a.3 in let k = length-append ((one_list net n).sent (net.far_end i)) ((e.0.time + net.tx a.0.0 a.0.1 + net.delay a.0.0, a.0.1) ∷ []) in omega arith)
             (λ a. absurd (a.0 (i, x) f refl))
-            (sent_case net e.0.time (one_list net n).sent does.transmission (net.peer i)),
+            (sent_case net e.0.time (one_list net n).sent does.transmission (net.far_end i)),
         load_full (next.port i).busy (λ z. ⊎_elim
             (λ a. let d = is.transmission_turn (i, x) f in let w : a.0 ≡ d.0 = let u = a.1 in let v = d.1 in port_same i a.0 d.0 (sym u ∙ v) in d.2 (ap (λ v. v.busy) (sym w) ∙ ap (λ v. v.busy) (sym a.2) ∙ z))
             (λ a. let d = is.transmission_turn (i, x) f in a.0 d.0 d.1)
@@ -125,12 +125,12 @@ module _ {P N : Type 0} (net : Net P N) where
 
       starts_at : (i : ℕ) → ((x : P) × (does.transmission ≡ Some (i, x))) ⊎ ((x : P) → does.transmission ≢ Some (i, x))
       starts_at i = ⊎_elim
-          (λ a. inl (a.0.1, a.1 ∙ ap (λ j. Some (j, a.0.1)) (sym (peer_inj net ok i a.0.0 a.2))))
+          (λ a. inl (a.0.1, a.1 ∙ ap (λ j. Some (j, a.0.1)) (sym (far_end_inj net ok i a.0.0 a.2))))
           (λ a. inr (λ x f. a.0 (i, x) f refl))
-          (sent_case net e.0.time (one_list net n).sent does.transmission (net.peer i))
+          (sent_case net e.0.time (one_list net n).sent does.transmission (net.far_end i))
 
       -- a completion: the port was busy
-      completes : (i : ℕ) → e.0.place ≡ Complete i → events_at net (same_place (Complete i)) n + 1 ≡ length ((one_list net n).sent (net.peer i))
+      completes : (i : ℕ) → e.0.place ≡ Complete i → events_at net (same_place (Complete i)) n + 1 ≡ length ((one_list net n).sent (net.far_end i))
       completes i pl =
           let a = good.1.orderly.completion i e.0.time e.0.number e.1 (has (Complete i) pl) in
           let l = ap load a.2 in
@@ -155,7 +155,7 @@ module _ {P N : Type 0} (net : Net P N) where
           ))
           (turned_case (one_list net n).port does.turn i)
 
-      completions_next : (i : ℕ) → events_at net (same_place (Complete i)) (suc n) + load (next.port i).busy ≡ length (next.sent (net.peer i))
+      completions_next : (i : ℕ) → events_at net (same_place (Complete i)) (suc n) + load (next.port i).busy ≡ length (next.sent (net.far_end i))
       completions_next i = ⊎_elim
           (λ x. let s1 = transmitting i x.0 x.1 in
           ⊎_elim

@@ -20,7 +20,7 @@ use Rattle.nm_model.proofs.ListLemmas.{same_time, some_inj, not_some, bool_cases
 use Rattle.nm_model.proofs.Scheduling.{IsAmong, put_from, put_has, put_elsewhere}
 use Rattle.nm_model.proofs.Placed.{placed_of}
 use Rattle.nm_model.proofs.Effects.{EffectIs, effect_is}
-use Rattle.nm_model.proofs.NewEvents.{source_among, peer_inj, arrive_inj, complete_inj, fire_inj, turned_case, sent_case, sent_prefix, IsNew, Ends, Comes, GoesOn, made_among, among_ends, pending_case, pending_other}
+use Rattle.nm_model.proofs.NewEvents.{source_among, far_end_inj, arrive_inj, complete_inj, fire_inj, turned_case, sent_case, sent_prefix, IsNew, Ends, Comes, GoesOn, made_among, among_ends, pending_case, pending_other}
 
 complete_fire : (i j : ℕ) → Complete i ≡ Fire j → ⊥
 complete_fire i j e = cc
@@ -37,13 +37,13 @@ fire_arrive i j e = cc
 module _ {P N : Type 0} (net : Net P N) (ok : IsNet net) (here : Place → Bool) (by_node : IsByNode net here) where
   -- messages by channels
   abbrev pub IsInbox : List (Key × Event P) → Type 0
-  IsInbox l = (q : Key) (y : Event P) → IsAmong q y l → (c : ℕ) × (x : P) × (q.place ≡ Arrive c) × (y ≡ Delivery (Arrival c) x) × (here (Arrive c) ≡ true) × (here (Arrive (net.peer c)) ≡ false)
+  IsInbox l = (q : Key) (y : Event P) → IsAmong q y l → (c : ℕ) × (x : P) × (q.place ≡ Arrive c) × (y ≡ Delivery (Arrival c) x) × (here (Arrive c) ≡ true) × (here (Arrive (net.far_end c)) ≡ false)
 
   module _ (messages : List (Key × Event P)) (inbox : IsInbox messages) where
     abbrev begun : State P N
     begun = start net here messages
 
-    begun_from : (q : Key) (y : Event P) → get begun.pending q ≡ Some y → ((i : ℕ) × (q.place ≡ Fire i) × (q.number ≡ 0) × (z : P) × (y ≡ Delivery (Source i) z) × (net.source i 0 ≡ Some (q.time, z))) ⊎ ((c : ℕ) × (x : P) × (q.place ≡ Arrive c) × (y ≡ Delivery (Arrival c) x) × (here (Arrive c) ≡ true) × (here (Arrive (net.peer c)) ≡ false))
+    begun_from : (q : Key) (y : Event P) → get begun.pending q ≡ Some y → ((i : ℕ) × (q.place ≡ Fire i) × (q.number ≡ 0) × (z : P) × (y ≡ Delivery (Source i) z) × (net.source i 0 ≡ Some (q.time, z))) ⊎ ((c : ℕ) × (x : P) × (q.place ≡ Arrive c) × (y ≡ Delivery (Arrival c) x) × (here (Arrive c) ≡ true) × (here (Arrive (net.far_end c)) ≡ false))
     begun_from q y e = ⊎_elim
         (λ a. inl (source_among net net.sources q y a))
         (λ f. ⊎_elim
@@ -58,7 +58,7 @@ module _ {P N : Type 0} (net : Net P N) (ok : IsNet net) (here : Place → Bool)
       busy = λ i b h e. absurd (cc);
       completion = λ i t n y e. absurd (⊎_elim (λ r. let z = r.1 in let w : Complete i ≡ Fire r.0 = z in complete_fire i r.0 w) (λ r. complete_arrive i r.0 r.2) (begun_from (key_of t (Complete i) n) y e));
       arrival = λ c t n y e. ⊎_elim (λ r. absurd (arrive_fire c r.0 r.1)) (λ r. (r.1, r.3 ∙ ap (λ d. Delivery (Arrival d) r.1) (sym (arrive_inj c r.0 r.2)))) (begun_from (key_of t (Arrive c) n) y e);
-      inner = λ c t n y h e. absurd (⊎_elim (λ r. arrive_fire c r.0 r.1) (λ r. let z = arrive_inj c r.0 r.2 in true≢false (sym h ∙ ap (λ d. here (Arrive (net.peer d))) z ∙ r.5)) (begun_from (key_of t (Arrive c) n) y e));
+      inner = λ c t n y h e. absurd (⊎_elim (λ r. arrive_fire c r.0 r.1) (λ r. let z = arrive_inj c r.0 r.2 in true≢false (sym h ∙ ap (λ d. here (Arrive (net.far_end d))) z ∙ r.5)) (begun_from (key_of t (Arrive c) n) y e));
       source = λ j t n y e. ⊎_elim (λ r. (r.3, r.4 ∙ ap (λ i. Delivery (Source i) r.3) (sym (fire_inj j r.0 r.1)), ap₂ net.source (fire_inj j r.0 r.1) r.2 ∙ r.5)) (λ r. absurd (fire_arrive j r.0 r.2)) (begun_from (key_of t (Fire j) n) y e);
       one_source = λ j t u m n y z e f. first j t m y e ∙ sym (first j u n z f);
     }
@@ -102,19 +102,19 @@ module _ {P N : Type 0} (net : Net P N) (ok : IsNet net) (here : Place → Bool)
     same_transmission u v f g = some_inj u v (sym f ∙ g)
 
     -- what is put on the far end
-    line : (u : ℕ × P) → does.transmission ≡ Some u → length (after.sent (net.peer u.0)) ≡ suc (length (s.sent (net.peer u.0)))
+    line : (u : ℕ × P) → does.transmission ≡ Some u → length (after.sent (net.far_end u.0)) ≡ suc (length (s.sent (net.far_end u.0)))
     line u h =
-        let l = ap length (ap (λ z. sent_after net e.0.time s.sent z (net.peer u.0)) h ∙ set_here s.sent (net.peer u.0) _) in
-        let m = length-append (s.sent (net.peer u.0)) ((e.0.time + net.tx u.0 u.1 + net.delay u.0, u.1) ∷ []) in omega arith
+        let l = ap length (ap (λ z. sent_after net e.0.time s.sent z (net.far_end u.0)) h ∙ set_here s.sent (net.far_end u.0) _) in
+        let m = length-append (s.sent (net.far_end u.0)) ((e.0.time + net.tx u.0 u.1 + net.delay u.0, u.1) ∷ []) in omega arith
 
-    pub unstarted : (i : ℕ) → ((x : P) → does.transmission ≢ Some (i, x)) → after.sent (net.peer i) ≡ s.sent (net.peer i)
+    pub unstarted : (i : ℕ) → ((x : P) → does.transmission ≢ Some (i, x)) → after.sent (net.far_end i) ≡ s.sent (net.far_end i)
     unstarted i none = ⊎_elim
-        (λ a. absurd (none a.0.1 (a.1 ∙ ap (λ j. Some (j, a.0.1)) (sym (peer_inj net ok i a.0.0 a.2)))))
+        (λ a. absurd (none a.0.1 (a.1 ∙ ap (λ j. Some (j, a.0.1)) (sym (far_end_inj net ok i a.0.0 a.2)))))
         (λ a. a.1)
-        (sent_case net e.0.time s.sent does.transmission (net.peer i))
+        (sent_case net e.0.time s.sent does.transmission (net.far_end i))
 
     -- nothing starts at an interface whose port doesn't change
-    pub unturned : (i : ℕ) → ((w : Port P) → does.turn ≢ Some (i, w)) → after.sent (net.peer i) ≡ s.sent (net.peer i)
+    pub unturned : (i : ℕ) → ((w : Port P) → does.turn ≢ Some (i, w)) → after.sent (net.far_end i) ≡ s.sent (net.far_end i)
     unturned i none = unstarted i (λ x h. let d = is.transmission_turn (i, x) h in none d.0 d.1)
 
     -- two completions of an interface are one
@@ -126,22 +126,22 @@ module _ {P N : Type 0} (net : Net P N) (ok : IsNet net) (here : Place → Bool)
         same_key _ _ (sym a.3 ∙ ap (λ z. z.completes) same ∙ b.3) (sym pl) (omega (arith, a.4, b.4))
 
     -- an interface at which nothing starts and no transmission completes
-    pub going_on : (i : ℕ) (b : Busy P) → (s.port i).busy ≡ Some b → (e.0.place ≢ Complete i) → (c : Busy P) × ((after.port i).busy ≡ Some c) × (c.completes ≡ b.completes) × (after.sent (net.peer i) ≡ s.sent (net.peer i))
+    pub going_on : (i : ℕ) (b : Busy P) → (s.port i).busy ≡ Some b → (e.0.place ≢ Complete i) → (c : Busy P) × ((after.port i).busy ≡ Some c) × (c.completes ≡ b.completes) × (after.sent (net.far_end i) ≡ s.sent (net.far_end i))
     going_on i b f ne = ⊎_elim
         (λ t. ⊎_elim
         (λ z. absurd (ne (is.turn_idle (i, t.0) t.1 z)))
         (λ z. ⊎_elim
         (λ a. absurd (⊎_elim (λ free. not_some b (sym free ∙ f)) ne (is.transmission_free (i, a.0) a.1)))
-        (λ a. (z.0, ap (λ w. w.busy) t.2 ∙ z.1, a.3 ∙ ap (λ c. c.completes) (some_inj a.0 b (sym a.2 ∙ f)), ap (λ v. sent_after net e.0.time s.sent v (net.peer i)) a.1))
+        (λ a. (z.0, ap (λ w. w.busy) t.2 ∙ z.1, a.3 ∙ ap (λ c. c.completes) (some_inj a.0 b (sym a.2 ∙ f)), ap (λ v. sent_after net e.0.time s.sent v (net.far_end i)) a.1))
         (is.turn_busy (i, t.0) t.1 z.0 z.1))
         (option_cases t.0.busy))
         (λ t. (b, ap (λ w. w.busy) t.1 ∙ f, refl, unturned i t.0))
         (turned_case s.port does.turn i)
 
-    completion_after : (i t n : ℕ) (y : Event P) → get after.pending (key_of t (Complete i) n) ≡ Some y → (b : Busy P) × (y ≡ Completion i) × ((after.port i).busy ≡ Some b) × (b.completes ≡ t) × (suc n ≡ length (after.sent (net.peer i)))
+    completion_after : (i t n : ℕ) (y : Event P) → get after.pending (key_of t (Complete i) n) ≡ Some y → (b : Busy P) × (y ≡ Completion i) × ((after.port i).busy ≡ Some b) × (b.completes ≡ t) × (suc n ≡ length (after.sent (net.far_end i)))
     completion_after i t n y g = ⊎_elim new (λ h. old h.0 h.1) (pending_case net e.0 s.sent does here s.pending (key_of t (Complete i) n) y g)
       where
-        old : key_of t (Complete i) n ≢ e.0 → get s.pending (key_of t (Complete i) n) ≡ Some y → (b : Busy P) × (y ≡ Completion i) × ((after.port i).busy ≡ Some b) × (b.completes ≡ t) × (suc n ≡ length (after.sent (net.peer i)))
+        old : key_of t (Complete i) n ≢ e.0 → get s.pending (key_of t (Complete i) n) ≡ Some y → (b : Busy P) × (y ≡ Completion i) × ((after.port i).busy ≡ Some b) × (b.completes ≡ t) × (suc n ≡ length (after.sent (net.far_end i)))
         old ne h =
             let a = o.completion i t n y h in
             let c = going_on i a.0 a.2 (λ pl. ne (one_completion i t n y h pl)) in
@@ -167,26 +167,26 @@ module _ {P N : Type 0} (net : Net P N) (ok : IsNet net) (here : Place → Bool)
             (is.turn_busy (u.0, d.0) d.1 z.0 z.1))
             (option_cases d.0.busy)
 
-        new : IsNew net e.0 s.sent does (key_of t (Complete i) n) y → (b : Busy P) × (y ≡ Completion i) × ((after.port i).busy ≡ Some b) × (b.completes ≡ t) × (suc n ≡ length (after.sent (net.peer i)))
+        new : IsNew net e.0 s.sent does (key_of t (Complete i) n) y → (b : Busy P) × (y ≡ Completion i) × ((after.port i).busy ≡ Some b) × (b.completes ≡ t) × (suc n ≡ length (after.sent (net.far_end i)))
         new (Comes u h q z) = absurd (let w = ap (λ r. r.place) q in cc)
         new (GoesOn u h q z) = absurd (let w = ap (λ r. r.place) q in cc)
         new (Ends u h q z) =
             let iu : i ≡ u.0 = complete_inj _ _ (ap (λ r. r.place) q) in
             let b = at_start u h in
             let l = line u h in
-            let num : n ≡ length (s.sent (net.peer u.0)) = ap (λ r. r.number) q in
-            (b.0, z ∙ ap Completion (sym iu), ap (λ j. (after.port j).busy) iu ∙ b.1, b.2 ∙ sym (ap (λ r. r.time) q), ap suc num ∙ sym l ∙ ap (λ j. length (after.sent (net.peer j))) (sym iu))
+            let num : n ≡ length (s.sent (net.far_end u.0)) = ap (λ r. r.number) q in
+            (b.0, z ∙ ap Completion (sym iu), ap (λ j. (after.port j).busy) iu ∙ b.1, b.2 ∙ sym (ap (λ r. r.time) q), ap suc num ∙ sym l ∙ ap (λ j. length (after.sent (net.far_end j))) (sym iu))
 
-    busy_after : (i : ℕ) (b : Busy P) → here (Complete i) ≡ true → (after.port i).busy ≡ Some b → (n : ℕ) × (suc n ≡ length (after.sent (net.peer i))) × (get after.pending (key_of b.completes (Complete i) n) ≡ Some (Completion i))
+    busy_after : (i : ℕ) (b : Busy P) → here (Complete i) ≡ true → (after.port i).busy ≡ Some b → (n : ℕ) × (suc n ≡ length (after.sent (net.far_end i))) × (get after.pending (key_of b.completes (Complete i) n) ≡ Some (Completion i))
     busy_after i b mn f = ⊎_elim
         (λ t. ⊎_elim
         (λ a. begins a.0 a.1 a.2)
-        (λ a. stays a.0 a.2 a.3 (ap (λ v. sent_after net e.0.time s.sent v (net.peer i)) a.1) a.4)
+        (λ a. stays a.0 a.2 a.3 (ap (λ v. sent_after net e.0.time s.sent v (net.far_end i)) a.1) a.4)
         (is.turn_busy (i, t.0) t.1 b (ap (λ w. w.busy) (sym t.2) ∙ f)))
         (λ t. stays b (ap (λ w. w.busy) (sym t.1) ∙ f) refl (unturned i t.0) (λ pl ev. let w = is.completes i pl ev in t.0 w.0 w.1))
         (turned_case s.port does.turn i)
       where
-        stays : (c : Busy P) → (s.port i).busy ≡ Some c → b.completes ≡ c.completes → after.sent (net.peer i) ≡ s.sent (net.peer i) → (e.0.place ≡ Complete i → e.1 ≡ Completion i → ⊥) → (n : ℕ) × (suc n ≡ length (after.sent (net.peer i))) × (get after.pending (key_of b.completes (Complete i) n) ≡ Some (Completion i))
+        stays : (c : Busy P) → (s.port i).busy ≡ Some c → b.completes ≡ c.completes → after.sent (net.far_end i) ≡ s.sent (net.far_end i) → (e.0.place ≡ Complete i → e.1 ≡ Completion i → ⊥) → (n : ℕ) × (suc n ≡ length (after.sent (net.far_end i))) × (get after.pending (key_of b.completes (Complete i) n) ≡ Some (Completion i))
         stays c g t same still =
             let a = o.busy i c mn g in (
               a.0,
@@ -199,23 +199,23 @@ module _ {P N : Type 0} (net : Net P N) (ok : IsNet net) (here : Place → Bool)
                 let g' : get s.pending e.0 ≡ Some (Completion i) = ap (get s.pending) (sym eq) ∙ h in
                 still (sym (ap (λ r. r.place) eq)) (some_inj e.1 (Completion i) (sym has ∙ g'))
 
-            not_new : (n : ℕ) (c : Busy P) → suc n ≡ length (s.sent (net.peer i)) → (z : Event P) → ¬ (IsNew net e.0 s.sent does (key_of c.completes (Complete i) n) z)
+            not_new : (n : ℕ) (c : Busy P) → suc n ≡ length (s.sent (net.far_end i)) → (z : Event P) → ¬ (IsNew net e.0 s.sent does (key_of c.completes (Complete i) n) z)
             not_new n c m z (Comes u h q i') = absurd (let w = ap (λ r. r.place) q in cc)
             not_new n c m z (GoesOn u h q i') = absurd (let w = ap (λ r. r.place) q in cc)
             not_new n c m z (Ends u h q i') =
                 let iu : i ≡ u.0 = complete_inj _ _ (ap (λ r. r.place) q) in
-                let num : n ≡ length (s.sent (net.peer i)) = ap (λ r. r.number) q ∙ ap (λ j. length (s.sent (net.peer j))) (sym iu) in
+                let num : n ≡ length (s.sent (net.far_end i)) = ap (λ r. r.number) q ∙ ap (λ j. length (s.sent (net.far_end j))) (sym iu) in
                 omega arith
 
-        begins : (x : P) → does.transmission ≡ Some (i, x) → b.completes ≡ e.0.time + net.tx i x → (n : ℕ) × (suc n ≡ length (after.sent (net.peer i))) × (get after.pending (key_of b.completes (Complete i) n) ≡ Some (Completion i))
+        begins : (x : P) → does.transmission ≡ Some (i, x) → b.completes ≡ e.0.time + net.tx i x → (n : ℕ) × (suc n ≡ length (after.sent (net.far_end i))) × (get after.pending (key_of b.completes (Complete i) n) ≡ Some (Completion i))
         begins x h t = (
-          length (s.sent (net.peer i)),
+          length (s.sent (net.far_end i)),
           sym (line (i, x) h),
-          ap (λ u. get after.pending (key_of u (Complete i) (length (s.sent (net.peer i))))) t
+          ap (λ u. get after.pending (key_of u (Complete i) (length (s.sent (net.far_end i))))) t
               ∙ put_has here (new_events net e.0 s.sent does) (remove s.pending e.0) _ (Completion i) mn (among_ends net e.0 s.sent does (i, x) h) (λ w a. only w (made_among net e.0 s.sent does _ w a)),
         )
           where
-            only : (w : Event P) → IsNew net e.0 s.sent does (key_of (e.0.time + net.tx i x) (Complete i) (length (s.sent (net.peer i)))) w → w ≡ Completion i
+            only : (w : Event P) → IsNew net e.0 s.sent does (key_of (e.0.time + net.tx i x) (Complete i) (length (s.sent (net.far_end i)))) w → w ≡ Completion i
             only w (Ends v h' q z) = z ∙ ap Completion (sym (complete_inj _ _ (ap (λ r. r.place) q)))
             only w (Comes v h' q z) = absurd (let r = ap (λ r. r.place) q in cc)
             only w (GoesOn v h' q z) = absurd (let r = ap (λ r. r.place) q in cc)
@@ -228,16 +228,16 @@ module _ {P N : Type 0} (net : Net P N) (ok : IsNet net) (here : Place → Bool)
         new (GoesOn u h q z) = absurd (let w = ap (λ r. r.place) q in cc)
         new (Comes u h q z) = (u.1, z ∙ ap (λ d. Delivery (Arrival d) u.1) (sym (arrive_inj _ _ (ap (λ r. r.place) q))))
 
-    inner_after : (c t n : ℕ) (y : Event P) → here (Arrive (net.peer c)) ≡ true → get after.pending (key_of t (Arrive c) n) ≡ Some y → n < length (after.sent c)
+    inner_after : (c t n : ℕ) (y : Event P) → here (Arrive (net.far_end c)) ≡ true → get after.pending (key_of t (Arrive c) n) ≡ Some y → n < length (after.sent c)
     inner_after c t n y mn g = ⊎_elim new (λ h. let l = o.inner c t n y mn h.1 in let m = prefix_length _ _ (sent_prefix net e.0.time s.sent does.transmission c) in omega arith) (pending_case net e.0 s.sent does here s.pending (key_of t (Arrive c) n) y g)
       where
         new : IsNew net e.0 s.sent does (key_of t (Arrive c) n) y → n < length (after.sent c)
         new (Ends u h q z) = absurd (let w = ap (λ r. r.place) q in cc)
         new (GoesOn u h q z) = absurd (let w = ap (λ r. r.place) q in cc)
         new (Comes u h q z) =
-            let cu : c ≡ net.peer u.0 = arrive_inj _ _ (ap (λ r. r.place) q) in
+            let cu : c ≡ net.far_end u.0 = arrive_inj _ _ (ap (λ r. r.place) q) in
             let l = line u h in
-            let num : n ≡ length (s.sent (net.peer u.0)) = ap (λ r. r.number) q in
+            let num : n ≡ length (s.sent (net.far_end u.0)) = ap (λ r. r.number) q in
             let m = ap (λ d. length (after.sent d)) cu in omega arith
 
     -- the source's own event, and the next one
@@ -302,10 +302,10 @@ module _ {P N : Type 0} (net : Net P N) (ok : IsNet net) (here : Place → Bool)
       where
         taken : (q : Key) (z : Event P) → q ≢ e.0 → get s.pending q ≡ Some z → IsNew net e.0 s.sent does q y → ⊥
         taken q z ne g (Ends u h f i) =
-            let a = o.completion u.0 (e.0.time + net.tx u.0 u.1) (length (s.sent (net.peer u.0))) z (ap (get s.pending) (sym f) ∙ g) in omega (arith, a.4)
+            let a = o.completion u.0 (e.0.time + net.tx u.0 u.1) (length (s.sent (net.far_end u.0))) z (ap (get s.pending) (sym f) ∙ g) in omega (arith, a.4)
         taken q z ne g (Comes u h f i) =
-            let far : here (Arrive (net.peer (net.peer u.0))) ≡ true = ap (λ j. here (Arrive j)) (ok.twice u.0) ∙ start_here u h in
-            let l = o.inner (net.peer u.0) (e.0.time + net.tx u.0 u.1 + net.delay u.0) (length (s.sent (net.peer u.0))) z far (ap (get s.pending) (sym f) ∙ g) in omega arith
+            let far : here (Arrive (net.far_end (net.far_end u.0))) ≡ true = ap (λ j. here (Arrive j)) (ok.twice u.0) ∙ start_here u h in
+            let l = o.inner (net.far_end u.0) (e.0.time + net.tx u.0 u.1 + net.delay u.0) (length (s.sent (net.far_end u.0))) z far (ap (get s.pending) (sym f) ∙ g) in omega arith
         taken q z ne g (GoesOn u h f i) =
             let a = is.follows_is u h in
             let at : get s.pending (key_of u.1 (Fire u.0) (suc e.0.number)) ≡ Some z = ap (get s.pending) (sym f) ∙ g in
@@ -321,7 +321,7 @@ module _ {P N : Type 0} (net : Net P N) (ok : IsNet net) (here : Place → Bool)
 
 module _ {P N : Type 0} (net : Net P N) (here : Place → Bool) where
   -- a message that comes by a channel
-  pub orderly_put : (s : State P N) → IsOrderly net here s → (c t n : ℕ) (x : P) → here (Arrive c) ≡ true → here (Arrive (net.peer c)) ≡ false → IsOrderly net here (record s { pending = insert s.pending (key_of t (Arrive c) n) (Delivery (Arrival c) x) })
+  pub orderly_put : (s : State P N) → IsOrderly net here s → (c t n : ℕ) (x : P) → here (Arrive c) ≡ true → here (Arrive (net.far_end c)) ≡ false → IsOrderly net here (record s { pending = insert s.pending (key_of t (Arrive c) n) (Delivery (Arrival c) x) })
   orderly_put s h c t n x mn far = record {
     own = λ q f. other q (λ e. true≢false (sym mn ∙ ap here (sym (ap (λ r. r.place) e)) ∙ f)) ∙ h.own q f;
     busy = λ i b f g. let a = h.busy i b f g in (a.0, a.1, other (key_of b.completes (Complete i) a.0) (λ e. let z = ap (λ r. r.place) e in complete_arrive i c z) ∙ a.2);
@@ -330,7 +330,7 @@ module _ {P N : Type 0} (net : Net P N) (here : Place → Bool) where
         (λ f. (x, some_inj y (Delivery (Arrival c) x) (sym (ap (get (insert s.pending (key_of t (Arrive c) n) (Delivery (Arrival c) x))) (sym f) ∙ e) ∙ insert_same s.pending (key_of t (Arrive c) n) (Delivery (Arrival c) x)) ∙ ap (λ i. Delivery (Arrival i) x) (sym (arrive_inj d c (ap (λ r. r.place) f)))))
         (λ f. h.arrival d u m y (sym (other (key_of u (Arrive d) m) f) ∙ e))
         (key_decides (key_of u (Arrive d) m) (key_of t (Arrive c) n));
-    inner = λ d u m y g e. h.inner d u m y g (sym (other (key_of u (Arrive d) m) (λ f. let z = arrive_inj d c (ap (λ r. r.place) f) in true≢false (sym g ∙ ap (λ j. here (Arrive (net.peer j))) z ∙ far))) ∙ e);
+    inner = λ d u m y g e. h.inner d u m y g (sym (other (key_of u (Arrive d) m) (λ f. let z = arrive_inj d c (ap (λ r. r.place) f) in true≢false (sym g ∙ ap (λ j. here (Arrive (net.far_end j))) z ∙ far))) ∙ e);
     source = λ j u m y e. h.source j u m y (sym (other (key_of u (Fire j) m) (λ f. let z = ap (λ r. r.place) f in fire_arrive j c z)) ∙ e);
     one_source = λ j u v m k y z e f. h.one_source j u v m k y z (sym (other (key_of u (Fire j) m) (λ g. let z = ap (λ r. r.place) g in fire_arrive j c z)) ∙ e) (sym (other (key_of v (Fire j) k) (λ g. let z = ap (λ r. r.place) g in fire_arrive j c z)) ∙ f);
   }
@@ -345,14 +345,14 @@ module _ {P N : Type 0} (net : Net P N) where
   apart k sent None (Some v) m zero f g lt a b = absurd (omega arith)
   apart k sent None (Some v) m (suc n) f g lt a b = absurd (cc)
   apart k sent (Some u) None m zero f g lt a b = absurd (omega arith)
-  apart k sent (Some u) None zero (suc zero) f g lt a b = λ e. complete_arrive u.0 (net.peer u.0) (ap (λ z. z.0.place) (some_inj _ f a) ∙ e ∙ ap (λ z. z.0.place) (sym (some_inj _ g b)))
+  apart k sent (Some u) None zero (suc zero) f g lt a b = λ e. complete_arrive u.0 (net.far_end u.0) (ap (λ z. z.0.place) (some_inj _ f a) ∙ e ∙ ap (λ z. z.0.place) (sym (some_inj _ g b)))
   apart k sent (Some u) None (suc m) (suc zero) f g lt a b = absurd (omega arith)
   apart k sent (Some u) None m (suc (suc n)) f g lt a b = absurd (cc)
   apart k sent (Some u) (Some v) m zero f g lt a b = absurd (omega arith)
-  apart k sent (Some u) (Some v) zero (suc zero) f g lt a b = λ e. complete_arrive u.0 (net.peer u.0) (ap (λ z. z.0.place) (some_inj _ f a) ∙ e ∙ ap (λ z. z.0.place) (sym (some_inj _ g b)))
+  apart k sent (Some u) (Some v) zero (suc zero) f g lt a b = λ e. complete_arrive u.0 (net.far_end u.0) (ap (λ z. z.0.place) (some_inj _ f a) ∙ e ∙ ap (λ z. z.0.place) (sym (some_inj _ g b)))
   apart k sent (Some u) (Some v) (suc m) (suc zero) f g lt a b = absurd (omega arith)
   apart k sent (Some u) (Some v) zero (suc (suc zero)) f g lt a b = λ e. complete_fire u.0 v.0 (ap (λ z. z.0.place) (some_inj _ f a) ∙ e ∙ ap (λ z. z.0.place) (sym (some_inj _ g b)))
-  apart k sent (Some u) (Some v) (suc zero) (suc (suc zero)) f g lt a b = λ e. arrive_fire (net.peer u.0) v.0 (ap (λ z. z.0.place) (some_inj _ f a) ∙ e ∙ ap (λ z. z.0.place) (sym (some_inj _ g b)))
+  apart k sent (Some u) (Some v) (suc zero) (suc (suc zero)) f g lt a b = λ e. arrive_fire (net.far_end u.0) v.0 (ap (λ z. z.0.place) (some_inj _ f a) ∙ e ∙ ap (λ z. z.0.place) (sym (some_inj _ g b)))
   apart k sent (Some u) (Some v) (suc (suc m)) (suc (suc zero)) f g lt a b = absurd (omega arith)
   apart k sent (Some u) (Some v) m (suc (suc (suc n))) f g lt a b = absurd (cc)
 

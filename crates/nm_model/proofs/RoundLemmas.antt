@@ -143,7 +143,7 @@ module _ {P N : Type 0} (net : Net P N) (ok : IsNet net) (same : P → P → Boo
     ran_on : (q : ℕ) → (b j q).ran ≤ k q
     ran_on q = within_only net ok q (K q) (b j q).ran (k q) (rounds.runs j q) (h.within q)
 
-    own_end : (c : ℕ) → in_part net (sender_of net c) (Arrive (net.peer c)) ≡ true
+    own_end : (c : ℕ) → in_part net (sender_of net c) (Arrive (net.far_end c)) ≡ true
     own_end c = number_tied (sender_of net c)
 
     given_begins : (c : ℕ) → IsPrefix (given net mid c) (history net last c)

@@ -50,10 +50,10 @@ module _ {P N : Type 0} (net : Net P N) (ok : IsNet net) (parted : IsParted net)
   receiver_there c lt = parted.ifaces c lt
 
   sender_there : (c : ℕ) → c < net.ifaces → sender_of net c < net.parts
-  sender_there c lt = parted.ifaces (net.peer c) (⊎_elim
+  sender_there c lt = parted.ifaces (net.far_end c) (⊎_elim
       (λ h. h)
-      (λ le. absurd (let e : net.peer c ≡ c = sym (ok.outside (net.peer c) le) ∙ ok.twice c in omega arith))
-      (cases_lt (net.peer c) net.ifaces))
+      (λ le. absurd (let e : net.far_end c ≡ c = sym (ok.outside (net.far_end c) le) ∙ ok.twice c in omega arith))
+      (cases_lt (net.far_end c) net.ifaces))
 
   -- what comes into a partition goes out of another, and into no third
   goes_too : (p c : ℕ) → comes_in net p c ≡ true → goes_out net (sender_of net c) c ≡ true

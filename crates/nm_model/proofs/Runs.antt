@@ -39,7 +39,7 @@ module _ {P N : Type 0} (net : Net P N) where
   pub record Since (s : State P N) (t : ℕ) (u : State P N) : Type 0 where
     pub from : (q : Key) (y : Event P) → get u.pending q ≡ Some y → t ≤ q.time
     pub grows : (c : ℕ) → IsPrefix (s.sent c) (u.sent c)
-    pub late : (c m : ℕ) (b : ℕ × P) → length (s.sent c) ≤ m → nth (u.sent c) m ≡ Some b → t + net.tx (net.peer c) b.1 + net.delay (net.peer c) ≤ b.0
+    pub late : (c m : ℕ) (b : ℕ × P) → length (s.sent c) ≤ m → nth (u.sent c) m ≡ Some b → t + net.tx (net.far_end c) b.1 + net.delay (net.far_end c) ≤ b.0
 
   -- of any run, of the whole network or of a part
   module _ (ok : IsNet net) (here : Place → Bool) (by_node : IsByNode net here) where
@@ -55,9 +55,9 @@ module _ {P N : Type 0} (net : Net P N) where
           (λ z. ⊎_elim
           (λ i. h.late c l b le i)
           (λ i. let w : e.0.time + net.tx z.0.0 z.0.1 + net.delay z.0.0 ≡ b.0 = ap (λ v. v.0) i.1 in
-          let pp : net.peer c ≡ z.0.0 = ap net.peer z.2 ∙ ok.twice z.0.0 in
+          let pp : net.far_end c ≡ z.0.0 = ap net.far_end z.2 ∙ ok.twice z.0.0 in
           let pe = ap net.delay pp in
-          let pt : net.tx (net.peer c) b.1 ≡ net.tx z.0.0 z.0.1 = ap₂ net.tx pp (sym (ap (λ v. v.1) i.1)) in
+          let pt : net.tx (net.far_end c) b.1 ≡ net.tx z.0.0 z.0.1 = ap₂ net.tx pp (sym (ap (λ v. v.1) i.1)) in
           omega (arith, late))
           (nth_push (u.sent c) _ b l (nth_cong _ _ l b z.3 f)))
           (λ z. h.late c l b le (nth_cong _ _ l b z.1 f))

@@ -67,7 +67,7 @@ module _ {P N : Type 0} (net : Net P N) (p : ℕ) where
 
         by_kind : (z : Promising) → promise net z p J k c ≡ promise net z p K k c
         by_kind Plain = ap₂ (λ t (s : State P N). next_time (min net.stop t) (least s.pending) + lookahead net Plain c) safe (same_state k w)
-        by_kind Tight = ap₂ (λ t (s : State P N). max (next_time (min net.stop t) (least s.pending)) (busy_until (s.port (net.peer c)).busy) + lookahead net Tight c) safe (same_state k w)
+        by_kind Tight = ap₂ (λ t (s : State P N). max (next_time (min net.stop t) (least s.pending)) (busy_until (s.port (net.far_end c)).busy) + lookahead net Tight c) safe (same_state k w)
 
   pub same_count : IsNet net → (K J : Knowledge P) → ((c : ℕ) → comes_in net p c ≡ true → K c ≡ J c) → (j k : ℕ) → IsCount net p K j → IsCount net p J k → j ≡ k
   same_count ok K J e j k a b =

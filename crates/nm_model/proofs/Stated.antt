@@ -72,10 +72,10 @@ module _ {P N : Type 0} (net : Net P N) (ok : IsNet net) where
       pub exact : (k n : ℕ) → IsCount net p K k → IsBefore net (safe_time net p K) n → (from_scratch net p K k).records ≡ trace net p n
       exact k n c b = let l = before net.stop in trace_exact net ok p K l.0 l.1.over (valid l.0 l.1) k n c.first c.over b.over b.first
 
-      pub out_begins : (k last c : ℕ) → IsWithin net p K k → IsBefore net net.stop last → in_part net p (Arrive (net.peer c)) ≡ true → IsPrefix ((from_scratch net p K k).sent c) (history net last c)
+      pub out_begins : (k last c : ℕ) → IsWithin net p K k → IsBefore net net.stop last → in_part net p (Arrive (net.far_end c)) ≡ true → IsPrefix ((from_scratch net p K k).sent c) (history net last c)
       out_begins k last c w b mc = out_prefix net ok p K last b.over (valid last b) k c w mc
 
-      pub out_goes_on : (k last c : ℕ) → IsWithin net p K k → IsBefore net net.stop last → in_part net p (Arrive (net.peer c)) ≡ true → (i : ℕ) (b : ℕ × P) → length ((from_scratch net p K k).sent c) ≤ i → nth (history net last c) i ≡ Some b → (kind : Promising) → promise net kind p K k c ≤ b.0
+      pub out_goes_on : (k last c : ℕ) → IsWithin net p K k → IsBefore net net.stop last → in_part net p (Arrive (net.far_end c)) ≡ true → (i : ℕ) (b : ℕ × P) → length ((from_scratch net p K k).sent c) ≤ i → nth (history net last c) i ≡ Some b → (kind : Promising) → promise net kind p K k c ≤ b.0
       out_goes_on k last c w d mc i b le e kind = out_later net ok p K last d.over (valid last d) k c w mc i b le e kind
 
 -- every state is orderly

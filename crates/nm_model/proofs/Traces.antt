@@ -18,7 +18,7 @@ use Rattle.nm_model.specs.Partition.{is_own_record}
 use Rattle.nm_model.proofs.Keys.{least_has, least_min, up_to_time}
 use Rattle.nm_model.proofs.ListLemmas.{number_is, number_tied, number_apart, nth_prefix, prefix_nth, prefix_push, prefix_trans}
 use Rattle.nm_model.proofs.Effects.{EffectIs, effect_is}
-use Rattle.nm_model.proofs.NewEvents.{peer_inj, arrived_case, sent_case, sent_prefix, pending_case}
+use Rattle.nm_model.proofs.NewEvents.{far_end_inj, arrived_case, sent_case, sent_prefix, pending_case}
 use Rattle.nm_model.proofs.Invariants.{Invariant, arrival_number}
 use Rattle.nm_model.proofs.Runs.{invariant_run}
 use Rattle.nm_model.specs.Orderly.{IsByNode, IsOrderly}
@@ -107,16 +107,16 @@ module _ {P N : Type 0} (net : Net P N) (ok : IsNet net) (i : ℕ) where
   put_on_nth (b ∷ l) (suc n) t x e = put_on_nth l n t x e
 
   module _ (here : Place → Bool) where
-    starts_step : (s : State P N) → s.sent (net.peer i) ≡ put_on (passed Out i s.records) → (o : Option (Key × Event P)) → (step_at net here s o).sent (net.peer i) ≡ put_on (passed Out i (step_at net here s o).records)
+    starts_step : (s : State P N) → s.sent (net.far_end i) ≡ put_on (passed Out i s.records) → (o : Option (Key × Event P)) → (step_at net here s o).sent (net.far_end i) ≡ put_on (passed Out i (step_at net here s o).records)
     starts_step s h None = h
     starts_step s h (Some e) = ⊎_elim
-        (λ a. let same : a.0.0 ≡ i = peer_inj net ok a.0.0 i (sym a.2) in
+        (λ a. let same : a.0.0 ≡ i = far_end_inj net ok a.0.0 i (sym a.2) in
         a.3 ∙ ap₂ (λ k b. k ++ b ∷ []) h (ap (λ j. (e.0.time + net.tx j a.0.1 + net.delay j, a.0.1)) same)
         ∙ sym (put_on-append (passed Out i s.records) ((e.0.time, a.0.1) ∷ []))
         ∙ ap (λ z. put_on (passed Out i s.records ++ z)) (sym (ap (λ o. passed Out i (out_record e.0.time o)) (a.1 ∙ ap (λ j. Some (j, a.0.1)) same) ∙ out_here e.0.time i a.0.1))
         ∙ ap put_on (sym rest))
-        (λ a. a.1 ∙ h ∙ ap put_on (sym (rest ∙ ap (λ z. passed Out i s.records ++ z) (out_there e.0.time i does.transmission (λ t f g. a.0 t f (ap net.peer g))) ∙ append-nil _)))
-        (sent_case net e.0.time s.sent does.transmission (net.peer i))
+        (λ a. a.1 ∙ h ∙ ap put_on (sym (rest ∙ ap (λ z. passed Out i s.records ++ z) (out_there e.0.time i does.transmission (λ t f g. a.0 t f (ap net.far_end g))) ∙ append-nil _)))
+        (sent_case net e.0.time s.sent does.transmission (net.far_end i))
       where
         does : Effect P N
         does = effect net s.node s.port e.0.time e.0.number e.1
@@ -124,7 +124,7 @@ module _ {P N : Type 0} (net : Net P N) (ok : IsNet net) (i : ℕ) where
         rest : passed Out i (step_at net here s (Some e)).records ≡ passed Out i s.records ++ passed Out i (out_record e.0.time does.transmission)
         rest = passed_out e.0.time i s.records does.came does.transmission
 
-    pub starts_are : (messages : List (Key × Event P)) (n : ℕ) → (run net here n (start net here messages)).sent (net.peer i) ≡ put_on (passed Out i (run net here n (start net here messages)).records)
+    pub starts_are : (messages : List (Key × Event P)) (n : ℕ) → (run net here n (start net here messages)).sent (net.far_end i) ≡ put_on (passed Out i (run net here n (start net here messages)).records)
     starts_are messages zero = refl
     starts_are messages (suc n) = starts_step (run net here n (start net here messages)) (starts_are messages n) _
 
@@ -161,22 +161,22 @@ module _ {P N : Type 0} (net : Net P N) (ok : IsNet net) (c : ℕ) where
 
 module _ {P N : Type 0} (net : Net P N) (ok : IsNet net) (n : ℕ) where
   -- what starts arrives
-  pub out_then_in : (t : ℕ) → pends_before t (one_list net n) ≡ false → (i m s : ℕ) (x : P) → nth (passed Out i (one_list net n).records) m ≡ Some (s, x) → s + net.tx i x + net.delay i < t → nth (passed In (net.peer i) (one_list net n).records) m ≡ Some (s + net.tx i x + net.delay i, x)
+  pub out_then_in : (t : ℕ) → pends_before t (one_list net n) ≡ false → (i m s : ℕ) (x : P) → nth (passed Out i (one_list net n).records) m ≡ Some (s, x) → s + net.tx i x + net.delay i < t → nth (passed In (net.far_end i) (one_list net n).records) m ≡ Some (s + net.tx i x + net.delay i, x)
   out_then_in t over i m s x e lt =
-      let at : nth ((one_list net n).sent (net.peer i)) m ≡ Some (s + net.tx i x + net.delay i, x) = ap (λ l. nth l m) (starts_are net ok i (λ q. true) [] n) ∙ nth_put_on net ok i _ m (s, x) e in
+      let at : nth ((one_list net n).sent (net.far_end i)) m ≡ Some (s + net.tx i x + net.delay i, x) = ap (λ l. nth l m) (starts_are net ok i (λ q. true) [] n) ∙ nth_put_on net ok i _ m (s, x) e in
       let g = (invariant_run net ok n).1 in
-      let count = arrived_counts net (λ q. true) (net.peer i) [] n in
-      nth_prefix _ _ m _ (arrivals_begin net ok (net.peer i) n) (⊎_elim
+      let count = arrived_counts net (λ q. true) (net.far_end i) [] n in
+      nth_prefix _ _ m _ (arrivals_begin net ok (net.far_end i) n) (⊎_elim
       (λ h. h)
-      (λ le. absurd (let late = quiet t (one_list net n) over _ _ (g.arrival_has (net.peer i) (s + net.tx i x + net.delay i) m x (omega arith) at) in omega arith))
-      (cases_lt m (length (passed In (net.peer i) (one_list net n).records)))) at
+      (λ le. absurd (let late = quiet t (one_list net n) over _ _ (g.arrival_has (net.far_end i) (s + net.tx i x + net.delay i) m x (omega arith) at) in omega arith))
+      (cases_lt m (length (passed In (net.far_end i) (one_list net n).records)))) at
 
   -- what arrives had transmitting
-  pub in_after_out : (c m t : ℕ) (x : P) → nth (passed In c (one_list net n).records) m ≡ Some (t, x) → (s : ℕ) × (nth (passed Out (net.peer c) (one_list net n).records) m ≡ Some (s, x)) × (t ≡ s + net.tx (net.peer c) x + net.delay (net.peer c))
+  pub in_after_out : (c m t : ℕ) (x : P) → nth (passed In c (one_list net n).records) m ≡ Some (t, x) → (s : ℕ) × (nth (passed Out (net.far_end c) (one_list net n).records) m ≡ Some (s, x)) × (t ≡ s + net.tx (net.far_end c) x + net.delay (net.far_end c))
   in_after_out c m t x e =
       let at = prefix_nth _ _ m (t, x) (arrivals_begin net ok c n) e in
-      let line : (one_list net n).sent (net.peer (net.peer c)) ≡ (one_list net n).sent c = ap (one_list net n).sent (ok.twice c) in
-      put_on_nth net ok (net.peer c) (passed Out (net.peer c) (one_list net n).records) m t x (ap (λ l. nth l m) (sym (starts_are net ok (net.peer c) (λ q. true) [] n) ∙ line) ∙ at)
+      let line : (one_list net n).sent (net.far_end (net.far_end c)) ≡ (one_list net n).sent c = ap (one_list net n).sent (ok.twice c) in
+      put_on_nth net ok (net.far_end c) (passed Out (net.far_end c) (one_list net n).records) m t x (ap (λ l. nth l m) (sym (starts_are net ok (net.far_end c) (λ q. true) [] n) ∙ line) ∙ at)
 
   -- transmissions of an interface do not overlap
   pub one_at_a_time : (i m k s t : ℕ) (x y : P) → m < k → nth (passed Out i (one_list net n).records) m ≡ Some (s, x) → nth (passed Out i (one_list net n).records) k ≡ Some (t, y) → s + net.tx i x ≤ t
@@ -184,8 +184,8 @@ module _ {P N : Type 0} (net : Net P N) (ok : IsNet net) (n : ℕ) where
       let line = starts_are net ok i (λ q. true) [] n in
       let a = ap (λ l. nth l m) line ∙ nth_put_on net ok i _ m (s, x) e in
       let b = ap (λ l. nth l k) line ∙ nth_put_on net ok i _ k (t, y) f in
-      let g = (invariant_run net ok n).1.spaced (net.peer i) m k (s + net.tx i x + net.delay i, x) (t + net.tx i y + net.delay i, y) lt a b in
-      let z : net.tx (net.peer (net.peer i)) y ≡ net.tx i y = ap (λ j. net.tx j y) (ok.twice i) in
+      let g = (invariant_run net ok n).1.spaced (net.far_end i) m k (s + net.tx i x + net.delay i, x) (t + net.tx i y + net.delay i, y) lt a b in
+      let z : net.tx (net.far_end (net.far_end i)) y ≡ net.tx i y = ap (λ j. net.tx j y) (ok.twice i) in
       omega arith
 
 -- records stand in the order of time

@@ -1,6 +1,6 @@
 -- How knowledge of a channel takes a message or a null message (Misra, section 3). A refusal
 -- changes nothing.
-use Rattle.std.specs.Prelude.{◌≡◌, ℕ, Bool, true, false, cond, ◌&&◌, ◌==◌, ltb, leb, length, List, [], ◌∷◌, ◌++◌, Option, Some, None}
+use Rattle.std.specs.Prelude.{◌≡◌, ℕ, Bool, true, false, if◌then◌else◌, ◌&&◌, ◌==◌, ltb, leb, length, List, [], ◌∷◌, ◌++◌, Option, Some, None}
 use Rattle.nm_model.specs.Lists.{nth}
 use Rattle.nm_model.specs.Knowledge.{Know}
 
@@ -44,30 +44,30 @@ same_message same a b = (a.0 == b.0) && same a.1 b.1
 abbrev pub data_at : {P : Type 0} → (P → P → Bool) → Option (ℕ × P) → Know P → ℕ → ℕ × P
     → Accepted P
 data_at same (Some m) a n b = record {
-  answer = cond (same_message same m b) Known (Differs n);
+  answer = if same_message same m b then Known else Differs n;
   after = a;
 }
 data_at same None a n b =
-    cond (n == length a.list)
-    (cond (ltb b.0 a.clock)
-    (record { answer = Late a.clock; after = a })
-    (cond (last_from b.0 a.list)
-    (record { answer = NotRising; after = a })
-    (record { answer = New; after = record { list = a.list ++ b ∷ []; clock = b.0 } })))
-    (record { answer = Gap (length a.list); after = a })
+    if n == length a.list then
+    (if ltb b.0 a.clock then record { answer = Late a.clock; after = a }
+    else if last_from b.0 a.list then record { answer = NotRising; after = a }
+    else record { answer = New; after = record { list = a.list ++ b ∷ []; clock = b.0 } })
+    else record { answer = Gap (length a.list); after = a }
 
 -- message n of the channel is b
 abbrev pub accept_data : {P : Type 0} → (P → P → Bool) → Know P → ℕ → ℕ × P → Accepted P
 accept_data same a n b = data_at same (nth a.list n) a n b
 
 abbrev pub null_at : {P : Type 0} → Option (ℕ × P) → Know P → ℕ → ℕ → Accepted P
-null_at (Some m) a count t = record { answer = cond (ltb m.0 t) (Contrary count) Known; after = a }
+null_at (Some m) a count t = record {
+  answer = if ltb m.0 t then Contrary count else Known;
+  after = a;
+}
 null_at None a count t =
-    cond (count == length a.list)
-    (cond (ltb a.clock t)
-    (record { answer = Raised; after = record a { clock = t } })
-    (record { answer = Known; after = a }))
-    (record { answer = Gap (length a.list); after = a })
+    if count == length a.list then
+    (if ltb a.clock t then record { answer = Raised; after = record a { clock = t } }
+    else record { answer = Known; after = a })
+    else record { answer = Gap (length a.list); after = a }
 
 -- a null message: all messages of the channel from number count on have times from t on
 abbrev pub accept_null : {P : Type 0} → Know P → ℕ → ℕ → Accepted P

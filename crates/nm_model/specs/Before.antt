@@ -1,5 +1,5 @@
 -- The network before a time, its traces and histories, and what a partition can know and do.
-use Rattle.std.specs.Prelude.{◌≡◌, ℕ, zero, suc, ◌<◌, Bool, true, false, cond, ◌==◌, List, [], Option, Some, None}
+use Rattle.std.specs.Prelude.{◌≡◌, ℕ, zero, suc, ◌<◌, Bool, true, false, if◌then◌else◌, ◌==◌, List, [], Option, Some, None}
 use Rattle.nm_base.specs.declared.key.Place.{Place}
 use Rattle.nm_base.specs.declared.key.Place.TheVariants.{Arrive, Complete, Fire}
 use Rattle.nm_base.specs.declared.key.Key.{Key}
@@ -48,7 +48,9 @@ module _ {P N : Type 0} (net : Net P N) where
   abbrev pub events_at : (Place → Bool) → ℕ → ℕ
   events_at here zero = 0
   events_at here (suc n) =
-      cond (is_at here (least (one_list net n).pending)) (suc (events_at here n)) (events_at here n)
+      if is_at here (least (one_list net n).pending)
+      then suc (events_at here n)
+      else events_at here n
 
   module _ (p : ℕ) where
     -- K is valid for the histories of the partition's channels

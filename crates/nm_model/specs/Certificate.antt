@@ -1,6 +1,6 @@
 -- The certificate: when finished books agree with one another, with no premise on who told them
 -- what they know.
-use Rattle.std.specs.Prelude.{◌≡◌, ◌≢◌, ◌⊎◌, ℕ, zero, suc, ◌<◌, ◌≤◌, Bool, true, false, cond, not, ◌&&◌, ◌||◌, ◌==◌, ltb, length, List, [], ◌∷◌, Option, Some, None}
+use Rattle.std.specs.Prelude.{◌≡◌, ◌≢◌, ◌⊎◌, ℕ, zero, suc, ◌<◌, ◌≤◌, Bool, true, false, if◌then◌else◌, not, ◌&&◌, ◌||◌, ◌==◌, ltb, length, List, [], ◌∷◌, Option, Some, None}
 use Rattle.nm_model.specs.Lists.{nth, IsPrefix}
 use Rattle.nm_model.specs.Network.{Net}
 use Rattle.nm_model.specs.Run.{pends_before}
@@ -89,16 +89,16 @@ abbrev pub prefix_fault : {P : Type 0} → (P → P → Bool) → ℕ → ℕ �
 prefix_fault same c n [] l = None
 prefix_fault same c n (x ∷ k) [] = Some (PrefixFault c n)
 prefix_fault same c n (x ∷ k) (y ∷ l) =
-    cond (same_message same x y) (prefix_fault same c (suc n) k l) (Some (PrefixFault c n))
+    if same_message same x y then prefix_fault same c (suc n) k l else Some (PrefixFault c n)
 
 -- the clock is past a promise, and past the last message
 abbrev pub promise_fault : {P : Type 0} → ℕ → Know P → ℕ → Option CertificateFault
 promise_fault c a promised =
-    cond (ltb promised a.clock && not (last_from a.clock a.list)) (Some (PromiseFault c)) None
+    if ltb promised a.clock && not (last_from a.clock a.list) then Some (PromiseFault c) else None
 
 abbrev pub clock_fault : {P : Type 0} → ℕ → ℕ → Option (ℕ × P) → Option CertificateFault
 clock_fault c t None = None
-clock_fault c t (Some b) = cond (ltb b.0 t) (Some (ClockFault c)) None
+clock_fault c t (Some b) = if ltb b.0 t then Some (ClockFault c) else None
 
 module _ {P N : Type 0} (net : Net P N) (same : P → P → Bool) (kind : Promising) where
   abbrev pub channel_fault : ℕ → Book P → Book P → Option CertificateFault
@@ -112,19 +112,22 @@ module _ {P N : Type 0} (net : Net P N) (same : P → P → Bool) (kind : Promis
   -- by receiving book, then channel, then sending book
   abbrev pub book_fault : List (Book P) → Book P → Option CertificateFault
   book_fault books r =
-      first_below (λ c. cond (comes_in net r.part c)
-      (first_of (λ s. cond (s.part == sender_of net c) (channel_fault c r s) None) books) None)
+      first_below
+      (λ c.
+      if comes_in net r.part c
+      then first_of (λ s. if s.part == sender_of net c then channel_fault c r s else None) books
+      else None)
       net.ifaces
 
   -- the certificate's first fault: a partition with no book, a book that isn't done, a channel
   -- on which two books don't match
   abbrev pub certify : List (Book P) → Option CertificateFault
   certify books =
-      or_else (first_below (λ p. cond (has_part p books) None (Some (MissingPart p))) net.parts)
+      or_else (first_below (λ p. if has_part p books then None else Some (MissingPart p)) net.parts)
       (or_else
       (first_of
-      (λ (b : Book P). cond (is_done net b.part b.replica) None
-      (Some (UnfinishedPart b.part))) books)
+      (λ (b : Book P). if is_done net b.part b.replica then None else Some (UnfinishedPart b.part))
+      books)
       (first_of (book_fault books) books))
 
 module _ {P N : Type 0} (net : Net P N) (kind : Promising) where

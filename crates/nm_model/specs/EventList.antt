@@ -1,6 +1,6 @@
 -- The event list (Misra, section 1): a finite map from keys to pending events, from which the
 -- least key is taken.
-use Rattle.std.specs.Prelude.{◌≡◌, ℕ, Bool, false, cond, ltb, min, List, [], ◌∷◌, Option, Some, None}
+use Rattle.std.specs.Prelude.{◌≡◌, ℕ, Bool, false, if◌then◌else◌, ltb, min, List, [], ◌∷◌, Option, Some, None}
 use Rattle.std.specs.Ordering.{is_gt}
 use Rattle.std.specs.FinMap.{FinMap, entries, insert}
 use Rattle.nm_base.specs.declared.key.Place.{Place}
@@ -24,7 +24,7 @@ abbrev pub schedule : {X : Type 0} → (Place → Bool) → List (Key × X) → 
     → FinMap key_cmp X
 schedule here [] m = m
 schedule here (e ∷ es) m =
-    cond (here e.0.place) (insert (schedule here es m) e.0 e.1) (schedule here es m)
+    if here e.0.place then insert (schedule here es m) e.0 e.1 else schedule here es m
 
 abbrev pub is_before : {X : Type 0} → ℕ → Option (Key × X) → Bool
 is_before t None = false

@@ -1,5 +1,5 @@
 -- How two replicas' knowledge of one channel is joined, and when it cannot be.
-use Rattle.std.specs.Prelude.{◌≡◌, ◌≢◌, ◌⊎◌, ℕ, zero, suc, ◌<◌, max, Bool, cond, ltb, leb, length, List, [], ◌∷◌, Option, Some, None}
+use Rattle.std.specs.Prelude.{◌≡◌, ◌≢◌, ◌⊎◌, ℕ, zero, suc, ◌<◌, max, Bool, if◌then◌else◌, ltb, leb, length, List, [], ◌∷◌, Option, Some, None}
 use Rattle.nm_model.specs.Lists.{nth}
 use Rattle.nm_model.specs.Knowledge.{Knowledge, Know}
 use Rattle.nm_model.specs.Accept.{Answer, Differs, Late, same_message}
@@ -7,7 +7,7 @@ use Rattle.nm_model.specs.Accept.{Answer, Differs, Late, same_message}
 -- the longer list and the greater clock
 abbrev pub join : {P : Type 0} → Know P → Know P → Know P
 join a b = record {
-  list = cond (leb (length a.list) (length b.list)) b.list a.list;
+  list = if leb (length a.list) (length b.list) then b.list else a.list;
   clock = max a.clock b.clock;
 }
 
@@ -20,7 +20,7 @@ abbrev pub first_differs : {P : Type 0} → (P → P → Bool) → ℕ → List 
 first_differs same n [] l = None
 first_differs same n (x ∷ k) [] = None
 first_differs same n (x ∷ k) (y ∷ l) =
-    cond (same_message same x y) (first_differs same (suc n) k l) (Some n)
+    if same_message same x y then first_differs same (suc n) k l else Some n
 
 abbrev pub or_else : {A : Type 0} → Option A → Option A → Option A
 or_else None p = p
@@ -32,7 +32,7 @@ differs_at (Some n) = Some (Differs n)
 
 abbrev pub late_past : {P : Type 0} → ℕ → Option (ℕ × P) → Option Answer
 late_past t None = None
-late_past t (Some m) = cond (ltb m.0 t) (Some (Late t)) None
+late_past t (Some m) = if ltb m.0 t then Some (Late t) else None
 
 -- why two can't be joined: messages of one number differ, or the first that one has past the
 -- other's end is before the other's clock

@@ -1,5 +1,5 @@
 -- Lists read at a number, their beginnings, and functions changed at a number.
-use Rattle.std.specs.Prelude.{◌≡◌, ℕ, zero, suc, ◌<◌, Bool, cond, ◌==◌, List, [], ◌∷◌, ◌++◌, Option, Some, None}
+use Rattle.std.specs.Prelude.{◌≡◌, ℕ, zero, suc, ◌<◌, Bool, if◌then◌else◌, ◌==◌, List, [], ◌∷◌, ◌++◌, Option, Some, None}
 
 -- member n, counted from 0
 abbrev pub nth : {A : Type 0} → List A → ℕ → Option A
@@ -12,11 +12,11 @@ IsPrefix {A} xs ys = (rest : List A) × (xs ++ rest ≡ ys)
 
 -- f, with v at i
 unfoldable pub set_at : {A : Type 0} → (ℕ → A) → ℕ → A → ℕ → A
-set_at f i v j = cond (j == i) v (f j)
+set_at f i v j = if j == i then v else f j
 
 abbrev pub keep_where : {A : Type 0} → (A → Bool) → List A → List A
 keep_where p [] = []
-keep_where p (x ∷ xs) = cond (p x) (x ∷ keep_where p xs) (keep_where p xs)
+keep_where p (x ∷ xs) = if p x then x ∷ keep_where p xs else keep_where p xs
 
 -- messages (time, packet) whose times strictly rise
 abbrev pub IsRising : {P : Type 0} → List (ℕ × P) → Type 0

@@ -16,7 +16,7 @@ pub record Net (P N : Type 0) : Type 0 where
   -- transmission takes and takes at least, and whether there is room for a packet behind those
   -- that wait
   pub owner : ℕ → ℕ
-  pub peer : ℕ → ℕ
+  pub far_end : ℕ → ℕ
   pub delay : ℕ → ℕ
   pub tx : ℕ → P → ℕ
   pub least_tx : ℕ → ℕ
@@ -36,8 +36,8 @@ pub record IsNet {P N : Type 0} (net : Net P N) : Type 0 where
   pub own : (v : ℕ) (n : N) (o : Origin) (x : P) (s : ℕ × P) → (net.react v n o x).1 ≡ Some s
       → net.owner s.0 ≡ v
   -- a link has two ends, and a number that names no interface is its own far end
-  pub twice : (i : ℕ) → net.peer (net.peer i) ≡ i
-  pub outside : (i : ℕ) → net.ifaces ≤ i → net.peer i ≡ i
+  pub twice : (i : ℕ) → net.far_end (net.far_end i) ≡ i
+  pub outside : (i : ℕ) → net.ifaces ≤ i → net.far_end i ≡ i
   -- each transmission takes time
   pub takes_time : (i : ℕ) (x : P) → 1 ≤ net.tx i x
   pub takes_least : (i : ℕ) (x : P) → net.least_tx i ≤ net.tx i x

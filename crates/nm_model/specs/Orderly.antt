@@ -23,16 +23,16 @@ pub record IsOrderly {P N : Type 0} (net : Net P N) (here : Place → Bool)
   pub own : (q : Key) → here q.place ≡ false → get s.pending q ≡ None
   -- a busy port's completion is pending
   pub busy : (i : ℕ) (b : Busy P) → here (Complete i) ≡ true → (s.port i).busy ≡ Some b
-      → (n : ℕ) × (suc n ≡ length (s.sent (net.peer i)))
+      → (n : ℕ) × (suc n ≡ length (s.sent (net.far_end i)))
       × (get s.pending (key_of b.completes (Complete i) n) ≡ Some (Completion i))
   -- and no other completion is
   pub completion : (i t n : ℕ) (y : Event P) → get s.pending (key_of t (Complete i) n) ≡ Some y
       → (b : Busy P) × (y ≡ Completion i) × ((s.port i).busy ≡ Some b) × (b.completes ≡ t)
-      × (suc n ≡ length (s.sent (net.peer i)))
+      × (suc n ≡ length (s.sent (net.far_end i)))
   -- arrivals bring packets, and by a link within the part those that were put on it
   pub arrival : (c t n : ℕ) (y : Event P) → get s.pending (key_of t (Arrive c) n) ≡ Some y
       → (x : P) × (y ≡ Delivery (Arrival c) x)
-  pub inner : (c t n : ℕ) (y : Event P) → here (Arrive (net.peer c)) ≡ true
+  pub inner : (c t n : ℕ) (y : Event P) → here (Arrive (net.far_end c)) ≡ true
       → get s.pending (key_of t (Arrive c) n) ≡ Some y → n < length (s.sent c)
   -- of a source one event is pending at most, the one of its number
   pub source : (j t n : ℕ) (y : Event P) → get s.pending (key_of t (Fire j) n) ≡ Some y

@@ -15,11 +15,11 @@ module _ {P N : Type 0} (net : Net P N) (p : ℕ) where
 
   -- a channel into the partition
   abbrev pub comes_in : ℕ → Bool
-  comes_in c = in_part (Arrive c) && not (in_part (Arrive (net.peer c)))
+  comes_in c = in_part (Arrive c) && not (in_part (Arrive (net.far_end c)))
 
   -- a channel out of the partition
   abbrev pub goes_out : ℕ → Bool
-  goes_out c = in_part (Arrive (net.peer c)) && not (in_part (Arrive c))
+  goes_out c = in_part (Arrive (net.far_end c)) && not (in_part (Arrive c))
 
   -- arrivals by a channel
   abbrev pub is_inbox : Place → Bool
@@ -32,7 +32,7 @@ module _ {P N : Type 0} (net : Net P N) (p : ℕ) where
 
 -- the partitions at both ends of a channel
 abbrev pub sender_of : {P N : Type 0} → Net P N → ℕ → ℕ
-sender_of net c = net.part (net.owner (net.peer c))
+sender_of net c = net.part (net.owner (net.far_end c))
 
 abbrev pub receiver_of : {P N : Type 0} → Net P N → ℕ → ℕ
 receiver_of net c = net.part (net.owner c)

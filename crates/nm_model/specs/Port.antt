@@ -1,6 +1,6 @@
 -- Ports: an interface transmits one packet at a time, and further ones wait behind it or are
 -- dropped (drop-tail).
-use Rattle.std.specs.Prelude.{ℕ, ◌+◌, Bool, false, cond, not, List, [], ◌∷◌, ◌++◌, Option, Some, None}
+use Rattle.std.specs.Prelude.{ℕ, ◌+◌, Bool, false, if◌then◌else◌, not, List, [], ◌∷◌, ◌++◌, Option, Some, None}
 
 -- when the transmission under way completes, and the packets that wait behind it, front first
 pub record Busy (P : Type 0) : Type 0 where
@@ -33,14 +33,13 @@ abbrev pub offered : {P : Type 0} → (List P → P → Bool) → (P → ℕ) �
     → Port P × Option P
 offered room tx now x dropped None = transmitting tx now dropped x []
 offered room tx now x dropped (Some b) =
-    cond (room b.waiting x) (
+    if room b.waiting x then (
       record {
         busy = Some (record { completes = b.completes; waiting = b.waiting ++ x ∷ [] });
         dropped = dropped;
       },
       None,
-    )
-    (record { busy = Some b; dropped = dropped + 1 }, None)
+    ) else (record { busy = Some b; dropped = dropped + 1 }, None)
 
 -- the front of those that wait is next
 abbrev pub next_transmitting : {P : Type 0} → (P → ℕ) → ℕ → ℕ → List P → Port P × Option P
@@ -93,12 +92,12 @@ module _ {P : Type 0} (room : List P → P → Bool) (tx : P → ℕ) where
   abbrev pub taken_by : List (PortEvent P) → Port P → List P
   taken_by [] w = []
   taken_by (Offer now x ∷ es) w =
-      cond (is_refused room x w.busy) [] (x ∷ []) ++ taken_by es (port_turn (Offer now x) w).0
+      (if is_refused room x w.busy then [] else x ∷ []) ++ taken_by es (port_turn (Offer now x) w).0
   taken_by (Done now ∷ es) w = taken_by es (port_turn (Done now) w).0
 
   -- how many were dropped
   abbrev pub dropped_by : List (PortEvent P) → Port P → ℕ
   dropped_by [] w = 0
   dropped_by (Offer now x ∷ es) w =
-      cond (is_refused room x w.busy) 1 0 + dropped_by es (port_turn (Offer now x) w).0
+      (if is_refused room x w.busy then 1 else 0) + dropped_by es (port_turn (Offer now x) w).0
   dropped_by (Done now ∷ es) w = dropped_by es (port_turn (Done now) w).0

@@ -15,8 +15,8 @@ pub data Promising : Type 0 where
 module _ {P N : Type 0} (net : Net P N) where
   -- how long after its cause a message comes by channel c
   abbrev pub lookahead : Promising → ℕ → ℕ
-  lookahead Plain c = net.delay (net.peer c)
-  lookahead Tight c = net.least_tx (net.peer c) + net.delay (net.peer c)
+  lookahead Plain c = net.delay (net.far_end c)
+  lookahead Tight c = net.least_tx (net.far_end c) + net.delay (net.far_end c)
 
   -- no further event of the part is before it
   abbrev pub next_cause : ℕ → Knowledge P → ℕ → ℕ
@@ -27,7 +27,7 @@ module _ {P N : Type 0} (net : Net P N) where
   abbrev pub next_start : Promising → ℕ → Knowledge P → ℕ → ℕ → ℕ
   next_start Plain p K k c = next_cause p K k
   next_start Tight p K k c =
-      max (next_cause p K k) (busy_until ((from_scratch net p K k).port (net.peer c)).busy)
+      max (next_cause p K k) (busy_until ((from_scratch net p K k).port (net.far_end c)).busy)
 
   -- no further message comes by channel c before it
   abbrev pub promise : Promising → ℕ → Knowledge P → ℕ → ℕ → ℕ

@@ -18,10 +18,10 @@ module _ {P N : Type 0} (net : Net P N) where
   -- it, and what the network sends past it keeps the promise
   pub record KeepsPromises (p : ℕ) (K : Knowledge P) : Type 0 where
     pub prefix : (k last c : ℕ) → IsWithin net p K k → IsBefore net net.stop last
-        → in_part net p (Arrive (net.peer c)) ≡ true
+        → in_part net p (Arrive (net.far_end c)) ≡ true
         → IsPrefix ((from_scratch net p K k).sent c) (history net last c)
     pub later : (k last c : ℕ) → IsWithin net p K k → IsBefore net net.stop last
-        → in_part net p (Arrive (net.peer c)) ≡ true → (i : ℕ) (b : ℕ × P)
+        → in_part net p (Arrive (net.far_end c)) ≡ true → (i : ℕ) (b : ℕ × P)
         → length ((from_scratch net p K k).sent c) ≤ i → nth (history net last c) i ≡ Some b
         → (kind : Promising) → promise net kind p K k c ≤ b.0
 
@@ -34,13 +34,13 @@ module _ {P N : Type 0} (net : Net P N) where
   -- what the promises of partition p after k events are at least, and what may cause its next
   -- message
   pub record PromisesAtLeast (p : ℕ) (K : Knowledge P) (k : ℕ) : Type 0 where
-    pub plain : (c : ℕ) → promise net Plain p K k c ≡ next_cause net p K k + net.delay (net.peer c)
+    pub plain : (c : ℕ) → promise net Plain p K k c ≡ next_cause net p K k + net.delay (net.far_end c)
     pub caused : (c : ℕ)
-        → next_cause net p K k + net.least_tx (net.peer c) + net.delay (net.peer c)
+        → next_cause net p K k + net.least_tx (net.far_end c) + net.delay (net.far_end c)
         ≤ promise net Tight p K k c
     pub under_way : (c : ℕ)
-        → busy_until ((from_scratch net p K k).port (net.peer c)).busy
-        + net.least_tx (net.peer c) + net.delay (net.peer c) ≤ promise net Tight p K k c
+        → busy_until ((from_scratch net p K k).port (net.far_end c)).busy
+        + net.least_tx (net.far_end c) + net.delay (net.far_end c) ≤ promise net Tight p K k c
     pub cause : (next_cause net p K k ≡ net.stop) ⊎ (next_cause net p K k ≡ safe_time net p K)
         ⊎ ((e : Key × Event P) × (least (from_scratch net p K k).pending ≡ Some e)
         × (next_cause net p K k ≡ e.0.time))

@@ -1,5 +1,5 @@
 -- What a partition computes from its knowledge alone: a logical process (Misra, section 2).
-use Rattle.std.specs.Prelude.{◌≡◌, ◌==◌, ℕ, zero, suc, ◌<◌, min, Bool, true, false, cond, leb, length, List, [], ◌∷◌, ◌++◌}
+use Rattle.std.specs.Prelude.{◌≡◌, ◌==◌, ℕ, zero, suc, ◌<◌, min, Bool, true, false, if◌then◌else◌, leb, length, List, [], ◌∷◌, ◌++◌}
 use Rattle.std.specs.FinMap.{get}
 use Rattle.nm_base.specs.declared.key.Place.{Place}
 use Rattle.nm_base.specs.declared.key.Place.TheVariants.{Arrive, Complete, Fire}
@@ -30,7 +30,7 @@ module _ {P N : Type 0} (net : Net P N) (p : ℕ) where
   abbrev pub inbox_below : Knowledge P → ℕ → List (Key × Event P)
   inbox_below K zero = []
   inbox_below K (suc c) =
-      cond (comes_in net p c) (message_events c 0 (K c).list) [] ++ inbox_below K c
+      (if comes_in net p c then message_events c 0 (K c).list else []) ++ inbox_below K c
 
   abbrev pub inbox_events : Knowledge P → List (Key × Event P)
   inbox_events K = inbox_below K net.ifaces
@@ -42,7 +42,8 @@ module _ {P N : Type 0} (net : Net P N) (p : ℕ) where
 
   abbrev pub safe_among : Knowledge P → ℕ → ℕ
   safe_among K zero = net.stop
-  safe_among K (suc c) = cond (comes_in net p c) (min (K c).clock (safe_among K c)) (safe_among K c)
+  safe_among K (suc c) =
+      if comes_in net p c then min (K c).clock (safe_among K c) else safe_among K c
 
   -- The safe time, the least of the incoming clocks and stop: events before it may be done.
   abbrev pub safe_time : Knowledge P → ℕ
@@ -68,7 +69,7 @@ module _ {P N : Type 0} (net : Net P N) (p : ℕ) where
   pub record Agrees (g s : State P N) : Type 0 where
     pub node : (v : ℕ) → (net.part v == p) ≡ true → g.node v ≡ s.node v
     pub port : (i : ℕ) → in_part net p (Arrive i) ≡ true → g.port i ≡ s.port i
-    pub sent : (c : ℕ) → in_part net p (Arrive (net.peer c)) ≡ true → g.sent c ≡ s.sent c
+    pub sent : (c : ℕ) → in_part net p (Arrive (net.far_end c)) ≡ true → g.sent c ≡ s.sent c
     pub arrived : (c : ℕ) → in_part net p (Arrive c) ≡ true → g.arrived c ≡ s.arrived c
     -- pending arrivals by channels are left aside
     pub own : (q : Key) → in_part net p q.place ≡ true → is_inbox net p q.place ≡ false

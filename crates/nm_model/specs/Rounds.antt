@@ -1,5 +1,5 @@
 -- Rounds: all partitions run what is safe, and then each hears all that the others have for it.
-use Rattle.std.specs.Prelude.{◌≡◌, ℕ, suc, ◌+◌, ◌-◌, ◌/◌, Bool, cond, length, drop, List, [], ◌∷◌}
+use Rattle.std.specs.Prelude.{◌≡◌, ℕ, suc, ◌+◌, ◌-◌, ◌/◌, Bool, if◌then◌else◌, length, drop, List, [], ◌∷◌}
 use Rattle.nm_model.specs.Network.{Net}
 use Rattle.nm_model.specs.Knowledge.{Know}
 use Rattle.nm_model.specs.Accept.{accept_data, accept_null}
@@ -39,9 +39,9 @@ module _ {P N : Type 0} (net : Net P N) (books : ℕ → Replica P) where
 module _ {P N : Type 0} (net : Net P N) (same : P → P → Bool) (kind : Promising) where
   abbrev pub heard_on : (ℕ → Replica P) → ℕ → ℕ → Know P
   heard_on books p c =
-      cond (comes_in net p c)
-      (hear same ((books p).knowledge c) (given net books c) (promised net books kind c))
-      ((books p).knowledge c)
+      if comes_in net p c
+      then hear same ((books p).knowledge c) (given net books c) (promised net books kind c)
+      else (books p).knowledge c
 
   -- the books, by partition, after each round
   pub record IsRounds (b : ℕ → ℕ → Replica P) : Type 0 where

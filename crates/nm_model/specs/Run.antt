@@ -132,16 +132,16 @@ module _ {P N : Type 0} (net : Net P N) where
   abbrev pub sent_after : ℕ → (ℕ → List (ℕ × P)) → Option (ℕ × P) → ℕ → List (ℕ × P)
   sent_after time sent None = sent
   sent_after time sent (Some s) =
-      set_at sent (net.peer s.0)
-      (sent (net.peer s.0) ++ (time + net.tx s.0 s.1 + net.delay s.0, s.1) ∷ [])
+      set_at sent (net.far_end s.0)
+      (sent (net.far_end s.0) ++ (time + net.tx s.0 s.1 + net.delay s.0, s.1) ∷ [])
 
   -- its completion and its arrival
   abbrev pub transmission_events : ℕ → (ℕ → List (ℕ × P)) → Option (ℕ × P) → List (Key × Event P)
   transmission_events time sent None = []
   transmission_events time sent (Some s) =
-      let n = length (sent (net.peer s.0)) in
+      let n = length (sent (net.far_end s.0)) in
       keyed (time + net.tx s.0 s.1) n (Completion s.0)
-      ∷ keyed (time + net.tx s.0 s.1 + net.delay s.0) n (Delivery (Arrival (net.peer s.0)) s.1)
+      ∷ keyed (time + net.tx s.0 s.1 + net.delay s.0) n (Delivery (Arrival (net.far_end s.0)) s.1)
       ∷ []
 
   -- the events that an event makes

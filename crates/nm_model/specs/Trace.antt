@@ -1,5 +1,5 @@
 -- What the records of a trace say of an interface.
-use Rattle.std.specs.Prelude.{ℕ, Bool, true, false, cond, ◌&&◌, ◌==◌, List, [], ◌∷◌}
+use Rattle.std.specs.Prelude.{ℕ, Bool, true, false, if◌then◌else◌, ◌&&◌, ◌==◌, List, [], ◌∷◌}
 use Rattle.nm_base.specs.declared.record.Dir.{Dir}
 use Rattle.nm_base.specs.declared.record.Dir.TheVariants.{In, Out}
 use Rattle.nm_base.specs.declared.record.Record.{Record}
@@ -15,4 +15,4 @@ same_dir Out Out = true
 abbrev pub passed : {P : Type 0} → Dir → ℕ → List (Record P) → List (ℕ × P)
 passed d i [] = []
 passed d i (r ∷ l) =
-    cond (same_dir r.dir d && (i == r.iface)) ((r.time, r.packet) ∷ passed d i l) (passed d i l)
+    if same_dir r.dir d && (i == r.iface) then (r.time, r.packet) ∷ passed d i l else passed d i l

@@ -24,12 +24,12 @@ module _ {P N : Type 0} (net : Net P N) where
     pub arrives : (t n : ℕ) → pends_before t (one_list net n) ≡ false → (i m s : ℕ) (x : P)
         → nth (passed Out i (one_list net n).records) m ≡ Some (s, x)
         → s + net.tx i x + net.delay i < t
-        → nth (passed In (net.peer i) (one_list net n).records) m
+        → nth (passed In (net.far_end i) (one_list net n).records) m
         ≡ Some (s + net.tx i x + net.delay i, x)
     pub transmitting : (n i m t : ℕ) (x : P)
         → nth (passed In i (one_list net n).records) m ≡ Some (t, x)
-        → (s : ℕ) × (nth (passed Out (net.peer i) (one_list net n).records) m ≡ Some (s, x))
-        × (t ≡ s + net.tx (net.peer i) x + net.delay (net.peer i))
+        → (s : ℕ) × (nth (passed Out (net.far_end i) (one_list net n).records) m ≡ Some (s, x))
+        × (t ≡ s + net.tx (net.far_end i) x + net.delay (net.far_end i))
     pub apart : (n i m k s t : ℕ) (x y : P) → m < k
         → nth (passed Out i (one_list net n).records) m ≡ Some (s, x)
         → nth (passed Out i (one_list net n).records) k ≡ Some (t, y) → s + net.tx i x ≤ t

@@ -1,5 +1,5 @@
 -- Replicas that run, send, hear, merge and restart, over every schedule. Each step is atomic.
-use Rattle.std.specs.Prelude.{◌≡◌, ◌⊎◌, ℕ, zero, suc, ◌-◌, Bool, cond, ◌&&◌, ltb, leb, length, drop, List, [], ◌∷◌, ◌++◌, Option, Some, None}
+use Rattle.std.specs.Prelude.{◌≡◌, ◌⊎◌, ℕ, zero, suc, ◌-◌, Bool, if◌then◌else◌, ◌&&◌, ltb, leb, length, drop, List, [], ◌∷◌, ◌++◌, Option, Some, None}
 use Rattle.nm_model.specs.Lists.{nth, set_at}
 use Rattle.nm_model.specs.Network.{Net}
 use Rattle.nm_model.specs.Run.{State, pends_before}
@@ -116,7 +116,7 @@ module _ {P N : Type 0} (net : Net P N) where
   abbrev pub advance : ℕ → Knowledge P → ℕ → ℕ → ℕ
   advance p K zero k = k
   advance p K (suc n) k =
-      cond (pends_before (safe_time net p K) (from_scratch net p K k)) (advance p K n (suc k)) k
+      if pends_before (safe_time net p K) (from_scratch net p K k) then advance p K n (suc k) else k
 
   abbrev pub is_replica : ℕ → ℕ → Bool
   is_replica p r = ltb p net.parts && ltb r 2
@@ -131,8 +131,9 @@ module _ {P N : Type 0} (net : Net P N) where
   abbrev pub runs : World P → ℕ → ℕ → Replica P → ℕ → World P × Outcome
   runs w p r x k = (
     put_replica w p r (record { knowledge = x.knowledge; ran = k }),
-    cond (pends_before (safe_time net p x.knowledge) (from_scratch net p x.knowledge k))
-        (Limit (k - x.ran)) (All (k - x.ran)),
+    (if pends_before (safe_time net p x.knowledge) (from_scratch net p x.knowledge k)
+        then Limit (k - x.ran)
+        else All (k - x.ran)),
   )
 
   module _ (same : P → P → Bool) where
@@ -140,40 +141,44 @@ module _ {P N : Type 0} (net : Net P N) where
     delivers w r None = (w, NoSuch)
     delivers w r (Some (DataFrame c n b)) =
         let p = receiver_of net c in
-        cond (is_replica p r) (told w p r c (accept_data same ((w.replica p r).knowledge c) n b))
-        (w, NoSuch)
+        if is_replica p r
+        then told w p r c (accept_data same ((w.replica p r).knowledge c) n b)
+        else (w, NoSuch)
     delivers w r (Some (NullFrame c count t)) =
         let p = receiver_of net c in
-        cond (is_replica p r) (told w p r c (accept_null ((w.replica p r).knowledge c) count t))
-        (w, NoSuch)
+        if is_replica p r
+        then told w p r c (accept_null ((w.replica p r).knowledge c) count t)
+        else (w, NoSuch)
 
     abbrev pub happens : World P → Step → World P × Outcome
     happens w (Run p r n) =
         let x = w.replica p r in
-        cond (is_replica p r) (runs w p r x (advance p x.knowledge n x.ran)) (w, NoSuch)
+        if is_replica p r then runs w p r x (advance p x.knowledge n x.ran) else (w, NoSuch)
     happens w (Data p r c n) =
-        cond (is_replica p r && goes_out net p c)
-        (sends w c n (nth (outgoing p (w.replica p r) c) n)) (w, NoSuch)
+        if is_replica p r && goes_out net p c
+        then sends w c n (nth (outgoing p (w.replica p r) c) n)
+        else (w, NoSuch)
     happens w (Resend p r c n) =
         let l = outgoing p (w.replica p r) c in
-        cond (is_replica p r && goes_out net p c && leb n (length l))
-        (put_frames w (data_frames c n (drop n l)), Frames (length l - n))
-        (w, NoSuch)
+        if is_replica p r && goes_out net p c && leb n (length l)
+        then (put_frames w (data_frames c n (drop n l)), Frames (length l - n))
+        else (w, NoSuch)
     happens w (Null kind p r c) =
         let x = w.replica p r in
-        cond (is_replica p r && goes_out net p c) (
+        if is_replica p r && goes_out net p c then (
           put_frames w
               (NullFrame c (length (outgoing p x c))
               (promise net kind p x.knowledge x.ran c) ∷ []),
           Frames 1,
-        )
-        (w, NoSuch)
+        ) else (w, NoSuch)
     happens w (Deliver i r) = delivers w r (nth w.bag i)
     happens w (Merge p r) =
         let J = (w.replica p (sister r)).knowledge in
-        cond (is_replica p r)
-        (merges w p r J (join_faults same (w.replica p r).knowledge J net.ifaces)) (w, NoSuch)
-    happens w (Restart p r) = cond (is_replica p r) (put_replica w p r fresh, Emptied) (w, NoSuch)
+        if is_replica p r
+        then merges w p r J (join_faults same (w.replica p r).knowledge J net.ifaces)
+        else (w, NoSuch)
+    happens w (Restart p r) =
+        if is_replica p r then (put_replica w p r fresh, Emptied) else (w, NoSuch)
 
     -- the world after a list of steps, and the answers
     abbrev pub world : List Step → World P → World P

@@ -23,7 +23,7 @@ pub fn every_state_is_orderly<P, N>()
 /// A message that is put by a channel keeps a state orderly.
 pub fn a_message_keeps_order<P, N>()
     ensures { (net : Net P N) (here : Place → Bool) (s : State P N) → IsOrderly net here s
-        → (c t n : ℕ) (x : P) → here (Arrive c) ≡ true → here (Arrive (net.peer c)) ≡ false
+        → (c t n : ℕ) (x : P) → here (Arrive c) ≡ true → here (Arrive (net.far_end c)) ≡ false
         → IsOrderly net here
         (record s { pending = insert s.pending (key_of t (Arrive c) n) (Delivery (Arrival c) x) }) }
 {}

@@ -15,7 +15,7 @@ pub fn promises_kept<P, N>()
     ensures kept { (net : Net P N) → IsNet net → (p : ℕ) (K : Knowledge P) → IsKnowledge net p K
         → KeepsPromises net p K }
     ensures tighter { (net : Net P N) (p : ℕ) (K : Knowledge P) (k c : ℕ)
-        → promise net Plain p K k c + net.least_tx (net.peer c) ≤ promise net Tight p K k c }
+        → promise net Plain p K k c + net.least_tx (net.far_end c) ≤ promise net Tight p K k c }
 {}
 
 /// The safe time and the promises never fall, whatever is done and whatever more is known.

@@ -8,7 +8,7 @@ use Rattle.nm_topology.specs.PartValues.{IfaceValue}
 use Rattle.nm_topology.specs.Topology.{topology_of}
 use Rattle.nm_topology.specs.TopologyValue.{TopologyValue}
 use Rattle.nm_sim.specs.Trace.{IsTraceBefore}
-use Rattle.nm_command.specs.declared.words.AllWords.{AllWords}
+use Rattle.nm_command.specs.declared.arguments.AllArguments.{AllArguments}
 use Rattle.nm_command.specs.declared.status.Status.{Status}
 use Rattle.nm_command.specs.declared.status.Status.TheVariants.{Done, NoInterface, File, Memory}
 use Rattle.nm_files.specs.Names.{file_name}
@@ -27,7 +27,9 @@ is_asked_for names iface =
 -- order of the text
 abbrev pub wanted_file : List (List ℕ) → List ℕ → List (Record (List ℕ)) → ℕ × IfaceValue → Files
 wanted_file names folder records i =
-    if is_asked_for names i.1 then (file_name folder i.1, trace_file Octets i.0 records) ∷ [] else []
+    if is_asked_for names i.1
+    then (file_name folder i.1, trace_file Octets i.0 records) ∷ []
+    else []
 
 abbrev pub wanted_files : TopologyValue → List (List ℕ) → List ℕ → List (Record (List ℕ)) → Files
 wanted_files t names folder records =
@@ -57,7 +59,7 @@ pub record AllAsked : Type 0 where
   pub folder : List ℕ
   pub names : List (List ℕ)
 
-abbrev pub all_asked : AllWords → AllAsked
+abbrev pub all_asked : AllArguments → AllAsked
 all_asked w = record {
   topology = w.topology.now;
   folder = w.folder.now;

@@ -26,8 +26,8 @@ use crate::inputs::Inputs;
 use crate::reading::read_topology;
 use crate::trace_file::go_on;
 use crate::traces::named_iface;
-use nm_base::{IfaceNo, Sink};
-use nm_command::{AllWords, Status};
+use nm_base::Sink;
+use nm_command::{AllArguments, Status};
 use nm_files::names::name_of;
 use nm_files::placing::place_all;
 use nm_files::{Outputs, TraceFiles};
@@ -36,7 +36,6 @@ use nm_sim::Tracer;
 use nm_sim::trace::every_topology_has_a_trace;
 use nm_topology::Topology;
 use nm_topology::parts::Iface;
-use nm_topology::topology::accepted_topologies_are_in_order;
 use std::alloc::Global;
 
 /// Trace files that are asked for: of which network, where, and of interfaces of which names.
@@ -100,8 +99,7 @@ fn open_wanted<F: Outputs>(
     ensures same { F.made outputs.new ≡ F.made outputs.old }
     ensures fault { IfErr result (λ s. (s ≡ File) ⊎ (s ≡ Memory)) }
 {
-    accepted_topologies_are_in_order(wanted.network); // law: there are few interfaces
-    let iface = IfaceNo::new(number as u32);
+    let iface = wanted.network.iface_number(number);
     if !is_asked_for(wanted.names, wanted.network.iface(iface)) {
         return Ok(files.skip()?);
     }
@@ -178,8 +176,7 @@ fn close_wanted<F: Outputs>(
     ensures same { F.made outputs.new ≡ F.made outputs.old }
     ensures fault { IfErr result (λ s. (s ≡ File) ⊎ (s ≡ Memory)) }
 {
-    accepted_topologies_are_in_order(wanted.network); // law: there are few interfaces
-    let iface = IfaceNo::new(number as u32);
+    let iface = wanted.network.iface_number(number);
     let Some(file) = files.take(iface) else {
         return Ok(None);
     };
@@ -264,7 +261,7 @@ fn make_files<F: Outputs>(
 /// Makes the trace files of interfaces of the network of an input.
 fn make_all<I: Inputs, F: Outputs>(
     alloc: Global,
-    words: &AllWords<'_>,
+    words: &AllArguments<'_>,
     inputs: &mut NamedInputs<I>,
     outputs: &mut F,
     progress: &Progress,
@@ -288,7 +285,7 @@ fn make_all<I: Inputs, F: Outputs>(
 /// of all where there are none.
 pub fn write_all_traces<I: Inputs, F: Outputs>(
     alloc: Global,
-    words: &AllWords<'_>,
+    words: &AllArguments<'_>,
     inputs: &mut NamedInputs<I>,
     outputs: &mut F,
     progress: &Progress,

@@ -4,13 +4,12 @@ ghost use Rattle.std.specs.Prelude.{◌≡◌, ℕ, ◌<◌, ◌++◌, OnOk, Som
 ghost use Rattle.nm_topology.specs.PartValues.{IfaceValue};
 ghost use Rattle.nm_offline.specs.Lines.{AreOfPartitions, AreTotals, iface_line, iface_lines};
 
-use nm_base::{IfaceNo, push_number, push_text};
+use nm_base::{push_number, push_text};
 use nm_book::Book;
 use nm_book::channels::partition_of;
 use nm_sim::network::every_topology_is_a_network;
 use nm_topology::Topology;
 use nm_topology::parts::Iface;
-use nm_topology::topology::accepted_topologies_are_in_order;
 use std::alloc::AllocError;
 
 /// Appends the line of an interface that has so many records and octets of its trace file.
@@ -46,9 +45,8 @@ fn push_line_of(
         → OnOk result (text.new.items
         ≡ text.old.items ++ iface_line iface (totals number)) }
 {
-    accepted_topologies_are_in_order(topology); // law: there are few interfaces
     every_topology_is_a_network(topology); // law: an interface's partition is there
-    let iface = IfaceNo::new(number as u32);
+    let iface = topology.iface_number(number);
     let partition = partition_of(topology, iface);
     let (records, octets) = books[partition.index()].totals(iface);
     push_iface_line(text, topology.iface(iface), records, octets)

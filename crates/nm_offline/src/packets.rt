@@ -10,7 +10,7 @@ use crate::inputs::Inputs;
 use crate::output::{Output, end};
 use crate::reading::read_topology;
 use nm_base::Sink;
-use nm_command::{PacketsWords, Status};
+use nm_command::{PacketsArguments, Status};
 use nm_progress::Progress;
 use nm_series::packets_text;
 use std::alloc::Global;
@@ -18,7 +18,7 @@ use std::alloc::Global;
 /// The ways of the packets of a source.
 fn packets_said<I: Inputs>(
     alloc: Global,
-    words: &PacketsWords<'_>,
+    words: &PacketsArguments<'_>,
     inputs: &mut NamedInputs<I>,
     progress: &Progress,
 ) -> Result<Output, Status>
@@ -43,7 +43,7 @@ fn packets_said<I: Inputs>(
 /// Says the ways of the packets of a source.
 pub fn say_packets<I: Inputs, O: Sink + Drop>(
     alloc: Global,
-    words: &PacketsWords<'_>,
+    words: &PacketsArguments<'_>,
     inputs: &mut NamedInputs<I>,
     out: O,
     progress: &Progress,

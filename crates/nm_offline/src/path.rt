@@ -12,13 +12,12 @@ use crate::inputs::Inputs;
 use crate::output::{Output, end};
 use crate::reading::read_topology;
 use nm_base::{NodeNo, Sink};
-use nm_command::{PathWords, Status};
+use nm_command::{PathArguments, Status};
 use nm_packet::Address;
 use nm_paths::path_text;
 use nm_topology::Topology;
 use nm_topology::parse::forms::usable_address_of;
 use nm_topology::parts::Node;
-use nm_topology::topology::accepted_topologies_are_in_order;
 use std::alloc::Global;
 
 /// Where a node of this name stands.
@@ -33,15 +32,14 @@ fn index_of_node(nodes: &[Node], name: &str) -> Option<usize>
 fn find_node(topology: &Topology, name: &str) -> Option<NodeNo>
     ensures { result ≡ node_named topology.now.nodes name.now }
 {
-    accepted_topologies_are_in_order(topology); // law: nodes have numbers of 32 bits
     let index = index_of_node(topology.nodes(), name)?;
-    Some(NodeNo::new(index as u32))
+    Some(topology.node_number(index))
 }
 
 /// The topology whose text the input of a name has, its node of a name, and an address.
 fn read_ends<I: Inputs>(
     alloc: Global,
-    words: &PathWords<'_>,
+    words: &PathArguments<'_>,
     inputs: &mut NamedInputs<I>,
 ) -> Result<(Topology, NodeNo, Address), Status>
     ensures there { IfOk result (λ there. HasTopology (inputs_seen I.seen inputs.old)
@@ -61,7 +59,7 @@ fn read_ends<I: Inputs>(
 /// The way from a node to an address.
 fn path_said<I: Inputs>(
     alloc: Global,
-    words: &PathWords<'_>,
+    words: &PathArguments<'_>,
     inputs: &mut NamedInputs<I>,
 ) -> Result<Output, Status>
     ensures said { IfOk result (λ output. SaysOfInput (inputs_seen I.seen inputs.old)
@@ -78,7 +76,7 @@ fn path_said<I: Inputs>(
 /// Says the way from a node to an address.
 pub fn say_path<I: Inputs, O: Sink + Drop>(
     alloc: Global,
-    words: &PathWords<'_>,
+    words: &PathArguments<'_>,
     inputs: &mut NamedInputs<I>,
     out: O,
 ) -> (Status, O)

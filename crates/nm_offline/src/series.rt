@@ -10,19 +10,19 @@ ghost use Rattle.nm_series.specs.Steps.{steps_in};
 ghost use Rattle.nm_series.specs.declared.steps.TheConstants.{MAX_ROWS};
 ghost use Rattle.nm_offline.specs.Input.{HasTopology, inputs_seen};
 ghost use Rattle.nm_offline.specs.Output.{FailsOfInput, exchange, output_seen};
-ghost use Rattle.nm_offline.specs.Series.{EndsSeries, HasFewRows, HasManyRows, TellsOf, WritesSteps};
-ghost use Rattle.nm_offline.specs.Series.{columns_of, rows_in};
+ghost use Rattle.nm_offline.specs.Series.{EndsSeries, HasFewRows, HasManyRows, TellsOf};
+ghost use Rattle.nm_offline.specs.Series.{WritesSteps, columns_of, rows_in};
 
 use crate::input::NamedInputs;
 use crate::inputs::Inputs;
 use crate::reading::read_topology;
 use nm_base::Sink;
 use nm_base::sink::write_all;
-use nm_command::{SeriesWords, Status, Subject};
+use nm_command::{SeriesArguments, Status, Subject};
 use nm_measure::{FlowTotals, IfaceTotals};
 use nm_progress::Progress;
 use nm_series::steps::{MAX_ROWS, steps_in};
-use nm_series::{Series, Told};
+use nm_series::{Series, Totals};
 use nm_topology::Topology;
 use nm_topology::topology::accepted_topologies_are_in_order;
 use std::alloc::Global;
@@ -78,7 +78,7 @@ fn put<S: Sink>(sink: &mut S, octets: &[u8]) -> Result<(), Status>
 }
 
 /// Writes the steps of a series from its begin.
-fn write_from_begin<T: Told, S: Sink>(
+fn write_from_begin<T: Totals, S: Sink>(
     alloc: Global,
     topology: &Topology,
     subject: Subject,
@@ -103,7 +103,7 @@ fn write_from_begin<T: Told, S: Sink>(
 }
 
 /// Writes what is told of interfaces or of sources, step by step.
-fn write_all_steps<T: Told, S: Sink>(
+fn write_all_steps<T: Totals, S: Sink>(
     alloc: Global,
     topology: &Topology,
     subject: Subject,
@@ -123,7 +123,7 @@ fn write_all_steps<T: Told, S: Sink>(
 fn write_steps<S: Sink>(
     alloc: Global,
     topology: &Topology,
-    words: &SeriesWords<'_>,
+    words: &SeriesArguments<'_>,
     sink: &mut S,
     progress: &Progress,
 ) -> Result<(), Status>
@@ -144,7 +144,7 @@ fn write_steps<S: Sink>(
 /// The topology whose series is asked for, which has not too many rows.
 fn read_series<I: Inputs>(
     alloc: Global,
-    words: &SeriesWords<'_>,
+    words: &SeriesArguments<'_>,
     inputs: &mut NamedInputs<I>,
 ) -> Result<Topology, Status>
     requires some { 1 ≤ words.now.step }
@@ -168,7 +168,7 @@ fn read_series<I: Inputs>(
 /// series is written: what its steps need is kept of it, however long it runs.
 pub fn write_series<I: Inputs, O: Sink + Drop>(
     alloc: Global,
-    words: &SeriesWords<'_>,
+    words: &SeriesArguments<'_>,
     inputs: &mut NamedInputs<I>,
     out: O,
     progress: &Progress,

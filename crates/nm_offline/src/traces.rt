@@ -12,20 +12,19 @@ use crate::inputs::Inputs;
 use crate::reading::read_topology;
 use crate::trace_file::{Traced, write_trace_file};
 use nm_base::{IfaceNo, Sink};
-use nm_command::{Status, TraceWords};
+use nm_command::{Status, TraceArguments};
 use nm_files::trace_file::TraceFault;
 use nm_progress::Progress;
 use nm_sim::trace::every_topology_has_a_trace;
 use nm_topology::Topology;
 use nm_topology::parts::Iface;
-use nm_topology::topology::accepted_topologies_are_in_order;
 use std::alloc::Global;
 
 /// Writes the trace file of an interface in a form, with the packets that go these ways: of the one
 /// that has this name, or of interface 0 where there is no name.
 pub fn write_trace<I: Inputs, O: Sink + Drop>(
     alloc: Global,
-    words: &TraceWords<'_>,
+    words: &TraceArguments<'_>,
     inputs: &mut NamedInputs<I>,
     out: O,
     progress: &Progress,
@@ -98,9 +97,8 @@ fn find_iface(topology: &Topology, name: Option<&str>) -> Option<IfaceNo>
 pub(crate) fn named_iface(topology: &Topology, name: &str) -> Option<IfaceNo>
     ensures { result ≡ position (λ i. bytes_eq i.name name.now) topology.now.ifaces }
 {
-    accepted_topologies_are_in_order(topology); // law: interfaces have numbers of 32 bits
     let index = index_of(topology.ifaces(), name)?;
-    Some(IfaceNo::new(index as u32))
+    Some(topology.iface_number(index))
 }
 
 /// Where an interface of this name stands.

@@ -44,7 +44,7 @@ abbrev pub node_of_iface : List IfaceValue → ℕ → ℕ
 node_of_iface ifaces i = option_map_or (λ x. x.node) (slice_get ifaces i) 0
 
 abbrev pub linked_to : List IfaceValue → ℕ → ℕ
-linked_to ifaces i = option_map_or (λ x. x.far.peer) (slice_get ifaces i) 0
+linked_to ifaces i = option_map_or (λ x. x.far.iface) (slice_get ifaces i) 0
 
 abbrev pub node_behind : List IfaceValue → ℕ → ℕ
 node_behind ifaces via = node_of_iface ifaces (linked_to ifaces via)

@@ -2,10 +2,8 @@
 
 use nm_base::Time;
 use nm_packet::Address;
+use nm_packet::limits::HEADERS;
 use nm_topology::traffic::{Flow, Traffic};
-
-/// Octets of the IPv4 header and of the UDP or ICMP header of a source's packet.
-const HEADERS: u64 = 28;
 
 /// Bits in an octet, times nanoseconds in a second.
 const BIT_NANOSECONDS: u64 = 8_000_000_000;

@@ -1,6 +1,6 @@
 //! What ends a way, in words.
 
-use crate::places::{Return, first_return, last_node, node_name, nodes_of};
+use crate::places::{Return, first_return, last_node, nodes_of};
 use crate::turn::WalkEnd;
 use crate::ways::Way;
 use nm_base::NodeNo;
@@ -42,7 +42,7 @@ fn loop_text(
 ) -> Result<String, AllocError> {
     let nodes = nodes_of(alloc, topology, from, way)?;
     let node = nodes.get(found.again).copied().unwrap_or(from);
-    let name = node_name(topology, node);
+    let name = topology.node_name(node);
     let Return { before, again } = found;
     format!(in alloc; "routing loop, \"{name}\" is hop {before} and again hop {again}")
 }
@@ -57,7 +57,7 @@ pub fn ending_text(
     if let Some(found) = loop_of(alloc, topology, aim.from, way)? {
         return loop_text(alloc, topology, aim.from, way, found);
     }
-    let name = node_name(topology, last_node(topology, aim.from, way));
+    let name = topology.node_name(last_node(topology, aim.from, way));
     let (to, time_to_live) = (aim.to, aim.time_to_live);
     match way.ending {
         WalkEnd::Arrived => format!(in alloc; "\"{name}\" has {to}"),

@@ -13,7 +13,6 @@ mod load;
 mod path;
 mod places;
 mod raw;
-mod remarks;
 mod sender;
 mod survey;
 pub mod tables;

@@ -1,9 +1,8 @@
 //! What the sources ask of each link.
 
 use crate::demand::{end_of, rate_of};
-use crate::remarks::Remarks;
 use crate::ways::Way;
-use nm_base::Time;
+use nm_base::{Remarks, Time};
 use nm_topology::Topology;
 use nm_topology::traffic::Flow;
 use std::alloc::{AllocError, Global};
@@ -180,5 +179,5 @@ fn push_peak(
     let remark = format!(in alloc;
         "iface {number} (\"{name}\"): {asked}, its link has {capacity}"
     )?;
-    remarks.add(remark.as_str())
+    remarks.add(remark.as_bytes())
 }

@@ -3,7 +3,7 @@
 ghost use Rattle.std.specs.Prelude.{◌≡◌, ◌∷◌, ◌++◌, ℕ, IfOk, List, []};
 
 use crate::ending::{Aim, ending_text, loop_of};
-use crate::places::{arrival, node_name};
+use crate::places::arrival;
 use crate::tables::Tables;
 use crate::ways::{Way, walk};
 use nm_base::{IfaceNo, NodeNo};
@@ -25,7 +25,7 @@ fn push_hop(
     let Some(iface) = arrival(topology, via) else {
         return Ok(());
     };
-    let node = node_name(topology, iface.node());
+    let node = topology.node_name(iface.node());
     let name = iface.name();
     let address = iface.address();
     writeln!(text, "{number} {node} {name} {address}")

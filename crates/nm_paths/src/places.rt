@@ -6,14 +6,6 @@ use nm_topology::Topology;
 use nm_topology::parts::Iface;
 use std::alloc::{AllocError, Global};
 
-/// The name of a node.
-pub fn node_name(topology: &Topology, node: NodeNo) -> &str {
-    match topology.nodes().get(node.index()) {
-        Some(node) => node.name(),
-        None => "",
-    }
-}
-
 /// Whether something listens at this UDP port of a node.
 pub fn listens(topology: &Topology, node: NodeNo, port: u16) -> bool {
     match topology.nodes().get(node.index()) {

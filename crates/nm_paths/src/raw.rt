@@ -4,13 +4,12 @@ ghost use Rattle.std.specs.Prelude.{◌≡◌};
 ghost use Rattle.nm_paths.specs.Walks.{routes_of_all};
 
 use crate::ending::Aim;
-use crate::places::{last_node, listens, node_name};
-use crate::remarks::Remarks;
-use crate::sender::{Sender, Sending, remark, see_end, see_times};
+use crate::places::{last_node, listens};
+use crate::sender::{Sender, Sending, Walked, remark, see_end, see_times};
 use crate::tables::Tables;
 use crate::turn::WalkEnd;
-use crate::ways::{node_behind, walk_by};
-use nm_base::{IfaceNo, NodeNo, Packet, Time};
+use crate::ways::{Way, node_behind, walk_by};
+use nm_base::{IfaceNo, NodeNo, Packet, Remarks, Time};
 use nm_packet::{Address, HeaderFault, Ipv4, Ipv4View, Udp, UdpFault, udp};
 use nm_topology::Topology;
 use nm_topology::traffic::Raw;
@@ -106,7 +105,7 @@ fn see_drop(
     remarks: &mut Remarks,
 ) -> Result<(), AllocError> {
     let number = handed.number;
-    let name = node_name(topology, node);
+    let name = topology.node_name(node);
     let what = format!(in alloc; "packet {number}: \"{name}\" drops it: {reason}")?;
     remark(alloc, topology, handed.sender, what.as_str(), remarks)
 }
@@ -123,7 +122,7 @@ fn see_payload(
     match payload {
         Payload::Datagram(port) if !listens(topology, node, *port) => {
             let number = handed.number;
-            let name = node_name(topology, node);
+            let name = topology.node_name(node);
             let what = format!(in alloc;
                 "packet {number}: UDP port {port} of \"{name}\" is not open"
             )?;
@@ -137,16 +136,15 @@ fn see_payload(
     }
 }
 
-/// Looks at the way of a packet with this payload: how often it leaves an interface.
+/// Looks at the way of a packet, and whether it leads where it should.
 fn see_way(
     alloc: Global,
     topology: &Topology,
     tables: &Tables,
     handed: &Handed<'_>,
     aim: &Aim,
-    payload: &Payload,
     remarks: &mut Remarks,
-) -> Result<u64, AllocError>
+) -> Result<Way, AllocError>
     requires { tables.now ≡ routes_of_all topology.now }
 {
     let number = handed.number;
@@ -159,20 +157,13 @@ fn see_way(
         aim.time_to_live,
     )?;
     let which = format!(in alloc; "the way of packet {number}")?;
-    see_end(
-        alloc,
-        topology,
-        handed.sender,
-        which.as_str(),
+    let walked = Walked {
+        which: which.as_str(),
         aim,
-        &way,
-        remarks,
-    )?;
-    if way.ending == WalkEnd::Arrived {
-        let last = last_node(topology, aim.from, &way);
-        see_payload(alloc, topology, handed, last, payload, remarks)?;
-    }
-    Ok(way.hops.len() as u64)
+        way: &way,
+    };
+    see_end(alloc, topology, handed.sender, walked, remarks)?;
+    Ok(way)
 }
 
 /// Looks at a packet with this content: how often it leaves an interface.
@@ -193,7 +184,12 @@ fn see_packet(
                 to: *to,
                 time_to_live: *time_to_live,
             };
-            return see_way(alloc, topology, tables, handed, &aim, payload, remarks);
+            let way = see_way(alloc, topology, tables, handed, &aim, remarks)?;
+            if way.ending == WalkEnd::Arrived {
+                let last = last_node(topology, aim.from, &way);
+                see_payload(alloc, topology, handed, last, payload, remarks)?;
+            }
+            return Ok(way.hops.len() as u64);
         }
         Content::Unsound(fault) => format!(in alloc; "{fault}")?,
         Content::Martian(to) => format!(in alloc; "its destination, {to}, is a martian")?,

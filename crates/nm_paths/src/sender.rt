@@ -1,11 +1,9 @@
 //! A source, and remarks on it.
 
 use crate::ending::{Aim, ending_text};
-use crate::places::node_name;
-use crate::remarks::Remarks;
 use crate::turn::WalkEnd;
 use crate::ways::Way;
-use nm_base::{NodeNo, Time};
+use nm_base::{NodeNo, Remarks, Time};
 use nm_topology::Topology;
 use std::alloc::{AllocError, Global};
 
@@ -30,7 +28,7 @@ pub struct Sending {
 /// How a remark on a source begins.
 fn sender_text(alloc: Global, topology: &Topology, sender: &Sender) -> Result<String, AllocError> {
     let number = sender.number;
-    let name = node_name(topology, sender.node);
+    let name = topology.node_name(sender.node);
     format!(in alloc; "source {number} (node \"{name}\")")
 }
 
@@ -44,7 +42,7 @@ pub fn remark(
 ) -> Result<(), AllocError> {
     let source = sender_text(alloc, topology, sender)?;
     let remark = format!(in alloc; "{source}: {what}")?;
-    remarks.add(remark.as_str())
+    remarks.add(remark.as_bytes())
 }
 
 /// Remarks on when a source sends.
@@ -69,16 +67,24 @@ pub fn see_times(
     remark(alloc, topology, sender, what.as_str(), remarks)
 }
 
-/// Remarks on a way that does not lead where it should. `which` says which of them it is.
+/// A way to where a packet is to go.
+#[derive(Clone, Copy)]
+pub struct Walked<'a> {
+    /// Which of the ways of a source it is, in words.
+    pub which: &'a str,
+    pub aim: &'a Aim,
+    pub way: &'a Way,
+}
+
+/// Remarks on a way that does not lead where it should.
 pub fn see_end(
     alloc: Global,
     topology: &Topology,
     sender: &Sender,
-    which: &str,
-    aim: &Aim,
-    way: &Way,
+    walked: Walked<'_>,
     remarks: &mut Remarks,
 ) -> Result<(), AllocError> {
+    let Walked { which, aim, way } = walked;
     if way.ending == WalkEnd::Arrived {
         return Ok(());
     }

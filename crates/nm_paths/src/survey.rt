@@ -9,14 +9,13 @@ use crate::demand::{Demand, demand_of, packets_before};
 use crate::ending::Aim;
 use crate::load::Load;
 use crate::path::DEFAULT_TIME_TO_LIVE;
-use crate::places::{last_node, listens, node_name};
+use crate::places::{last_node, listens};
 use crate::raw::see_raw;
-use crate::remarks::Remarks;
-use crate::sender::{Sender, Sending, remark, see_end, see_times};
+use crate::sender::{Sender, Sending, Walked, remark, see_end, see_times};
 use crate::tables::Tables;
 use crate::turn::WalkEnd;
 use crate::ways::{Way, walk};
-use nm_base::{IfaceNo, NodeNo, Time};
+use nm_base::{IfaceNo, NodeNo, Remarks, Time};
 use nm_packet::Address;
 use nm_topology::Topology;
 use nm_topology::traffic::{Flow, Traffic};
@@ -62,7 +61,7 @@ fn see_arrived(
     way: &Way,
     remarks: &mut Remarks,
 ) -> Result<(), AllocError> {
-    let name = node_name(topology, node);
+    let name = topology.node_name(node);
     let (sender, to) = (&asking.sender, asking.demand.to);
     if way.hops.is_empty() {
         let what = format!(in alloc; "{to} is an address of its own node, and nothing is sent")?;
@@ -102,12 +101,12 @@ fn see_back(
     topology: &Topology,
     tables: &Tables,
     asking: &Asking,
-    from: NodeNo,
     there: &Way,
     seen: &mut Seen,
 ) -> Result<(), AllocError>
     requires { tables.now ≡ routes_of_all topology.now }
 {
+    let from = last_node(topology, asking.sender.node, there);
     let Some(via) = there.hops.first() else {
         return Ok(());
     };
@@ -120,15 +119,12 @@ fn see_back(
         time_to_live: DEFAULT_TIME_TO_LIVE,
     };
     let back = walk(alloc, topology, tables, from, to, DEFAULT_TIME_TO_LIVE)?;
-    see_end(
-        alloc,
-        topology,
-        &asking.sender,
-        "the way back",
-        &aim,
-        &back,
-        &mut seen.remarks,
-    )?;
+    let walked = Walked {
+        which: "the way back",
+        aim: &aim,
+        way: &back,
+    };
+    see_end(alloc, topology, &asking.sender, walked, &mut seen.remarks)?;
     note_way(topology, &asking.demand.flow, &back, seen)
 }
 
@@ -157,22 +153,19 @@ fn see_ways(
         to,
         time_to_live,
     };
-    see_end(
-        alloc,
-        topology,
-        &asking.sender,
-        "the way",
-        &aim,
-        &there,
-        &mut seen.remarks,
-    )?;
+    let walked = Walked {
+        which: "the way",
+        aim: &aim,
+        way: &there,
+    };
+    see_end(alloc, topology, &asking.sender, walked, &mut seen.remarks)?;
     if there.ending != WalkEnd::Arrived {
         return Ok(());
     }
     let last = last_node(topology, from, &there);
     see_arrived(alloc, topology, asking, last, &there, &mut seen.remarks)?;
     if asking.demand.port.is_none() {
-        return see_back(alloc, topology, tables, asking, last, &there, seen);
+        return see_back(alloc, topology, tables, asking, &there, seen);
     }
     Ok(())
 }
@@ -229,7 +222,7 @@ fn see_partitions(
         let mut nodes = topology.nodes().iter();
         if !nodes.any(|node| node.partition().number() == partition) {
             let remark = format!(in alloc; "partition {partition} has no node")?;
-            remarks.add(remark.as_str())?;
+            remarks.add(remark.as_bytes())?;
         }
     }
     Ok(())
@@ -251,7 +244,7 @@ fn see_windows(
     let remark = format!(in alloc;
         "the least lookahead, {lookahead} ns, {what}: fewer partitions may be faster"
     )?;
-    remarks.add(remark.as_str())
+    remarks.add(remark.as_bytes())
 }
 
 /// What can be said of a network's traffic before it is simulated: at most 20 remarks, a line each,
@@ -265,7 +258,7 @@ pub fn way_remarks(
 ) -> Result<Vec<u8>, AllocError> {
     let tables = Tables::new(alloc, topology)?;
     let mut seen = Seen {
-        remarks: Remarks::new(alloc),
+        remarks: Remarks::behind(Vec::new(alloc)),
         load: Load::new(alloc),
         events: 0,
     };

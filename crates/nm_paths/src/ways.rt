@@ -40,7 +40,7 @@ pub(crate) fn linked_to(ifaces: &[Iface], iface: IfaceNo) -> IfaceNo
     ensures { result ≡ linked_to ifaces.now iface }
 {
     match ifaces.get(iface.index()) {
-        Some(there) => there.far().peer,
+        Some(there) => there.far().iface,
         None => IfaceNo::new(0),
     }
 }

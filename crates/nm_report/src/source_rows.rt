@@ -3,7 +3,7 @@
 ghost use Rattle.std.specs.Prelude.{OnOk};
 ghost use Rattle.nm_measure.specs.Lines.{EndsLine};
 
-use crate::source_tables::{fates, flow_of, kind_of, node_name, push_destination};
+use crate::source_tables::{fates, flow_of, kind_of, push_destination};
 use crate::units::PERCENTILES;
 use nm_base::{SourceNo, push_number, push_text};
 use nm_measure::{Appended, Delays, FlowCounts, FlowTimes, Measured, end_line};
@@ -41,7 +41,7 @@ fn push_source(text: &mut Vec<u8>, topology: &Topology, source: &Source, number:
     push_text(text, b",")?;
     push_text(text, kind_of(source).as_bytes())?;
     push_text(text, b",")?;
-    push_text(text, node_name(topology, source).as_bytes())?;
+    push_text(text, topology.node_name(source.node).as_bytes())?;
     push_text(text, b",")?;
     push_destination(text, source)
 }

@@ -75,14 +75,6 @@ pub(crate) fn kind_of(source: &Source) -> &'static str {
     }
 }
 
-/// The name of the node of a source.
-pub(crate) fn node_name<'a>(topology: &'a Topology, source: &Source) -> &'a str {
-    match topology.nodes().get(source.node.index()) {
-        Some(node) => node.name(),
-        None => "-",
-    }
-}
-
 /// Appends where the packets of a source go; `-` for raw packets, which say it themselves.
 pub(crate) fn push_destination(text: &mut Vec<u8>, source: &Source) -> Appended {
     match &source.traffic {
@@ -102,7 +94,7 @@ fn add_source(
 ) -> Appended {
     table.number(number.index() as u64)?;
     table.text(kind_of(source).as_bytes())?;
-    table.text(node_name(topology, source).as_bytes())?;
+    table.text(topology.node_name(source.node).as_bytes())?;
     let mut to = Vec::new(alloc);
     push_destination(&mut to, source)?;
     table.text(to.as_slice())

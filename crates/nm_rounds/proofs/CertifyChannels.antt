@@ -18,7 +18,7 @@ use Rattle.nm_rounds.proofs.CertifySteps.{first_is, none_below, same_net, same_r
 
 -- of a channel that comes in somewhere: who sends on it is whom it goes out of
 pub sends : {P N : Type 0} (net : Net P N) (p q i : ℕ) → comes_in net q i ≡ true → goes_out net p i ≡ (p == sender_of net i)
-sends net p q i comes = apart (net.part (net.owner (net.peer i))) (net.part (net.owner i)) comes
+sends net p q i comes = apart (net.part (net.owner (net.far_end i))) (net.part (net.owner i)) comes
   where
     apart : (a b : ℕ) → ((b == q) && not (a == q)) ≡ true → ((a == p) && not (b == p)) ≡ (p == a)
     apart a b h = grind (arith, nat_tests, h)

@@ -68,7 +68,7 @@ module _ (t : TopologyValue) where
       here = slice_get_read steps (length steps) n s refl low is
 
       -- it was done
-      pub goes_on : (a : StepAnswer) → DoesStep t old bag s (Ok a) new more → IsReplaying (n + 1) (answers ++ a ∷ []) new more
+      pub goes_on : (a : StepAnswer) → DoesStep t (old, bag) s (Ok a) (new, more) → IsReplaying (n + 1) (answers ++ a ∷ []) new more
       goes_on a did =
           let now = did (world_after t (first_steps t steps n)) h.stands in
           let did_more = steps_more n s here in
@@ -84,7 +84,7 @@ module _ (t : TopologyValue) where
           })
 
       -- it names what is not there
-      pub named_nothing : (why : Stop) → why ≡ stop.NoSuch → DoesStep t old bag s (Err why) new more → IsReplay t steps answers new (ending.NoSuch n)
+      pub named_nothing : (why : Stop) → why ≡ stop.NoSuch → DoesStep t (old, bag) s (Err why) (new, more) → IsReplay t steps answers new (ending.NoSuch n)
       named_nothing why same did =
           let now = subst (λ y. Steps t (world_after t (first_steps t steps n)) s (Err y) new more) same (did (world_after t (first_steps t steps n)) h.stands) in
           record {
@@ -95,7 +95,7 @@ module _ (t : TopologyValue) where
           }
 
       -- memory was refused
-      pub was_interrupted : (why : Stop) → why ≡ stop.Memory → DoesStep t old bag s (Err why) new more → IsReplay t steps answers new (ending.Memory n)
+      pub was_interrupted : (why : Stop) → why ≡ stop.Memory → DoesStep t (old, bag) s (Err why) (new, more) → IsReplay t steps answers new (ending.Memory n)
       was_interrupted why same did = go s here (subst (λ y. Steps t (world_after t (first_steps t steps n)) s (Err y) new more) same (did (world_after t (first_steps t steps n)) h.stands))
         where
           as_was : (s : WorldStep) → slice_get steps n ≡ Some s → IsInterrupted (Some s) (first_steps t steps n) (first_steps t steps n) → IsWorld t new more (world_after t (first_steps t steps n)) → IsReplay t steps answers new (ending.Memory n)

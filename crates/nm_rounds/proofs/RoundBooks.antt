@@ -18,7 +18,7 @@ use Rattle.nm_model.specs.World.{Replica, fresh}
 use Rattle.nm_sim.specs.Network.{net_of}
 use Rattle.nm_book.specs.Book.{BookValue, is_incoming, is_outgoing, knowledge_of, promise_on, sent_over}
 use Rattle.nm_book.specs.declared.message.ChannelMessage.{ChannelMessage}
-use Rattle.nm_book.proofs.Incoming.{goes_out_at, ifaces_are, peer_there}
+use Rattle.nm_book.proofs.Incoming.{goes_out_at, ifaces_are, far_end_there}
 use Rattle.nm_book.proofs.Tellings.{known_here}
 use Rattle.nm_rounds.specs.World.{IsReplicaOf}
 use Rattle.nm_rounds.specs.Rounds.{AreAllNews, AreBooks, AreNews, AreNewsOf, RunsAll, told_all}
@@ -111,7 +111,7 @@ module _ (t : TopologyValue) (ok : IsNet (net_of t)) (parted : IsParted (net_of 
   receiver_there = let h = parted.ifaces i within in let e = parts_are t in omega (arith, h, e)
 
   pub sender_there : sender_of (net_of t) i < t.partitions
-  sender_there = let h = parted.ifaces ((net_of t).peer i) (peer_there (net_of t) ok i within) in let e = parts_are t in omega (arith, h, e)
+  sender_there = let h = parted.ifaces ((net_of t).far_end i) (far_end_there (net_of t) ok i within) in let e = parts_are t in omega (arith, h, e)
 
 -- a book at the end of a channel at which it goes in or out
 pub comes_into : (t : TopologyValue) (x : Replica (List ℕ)) (p c : ℕ) (b : BookValue) → IsReplicaOf t p 0 b x → (v : Bool) → comes_in (net_of t) p (receiving_iface t c) ≡ v → is_incoming b c ≡ v

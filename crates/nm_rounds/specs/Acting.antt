@@ -17,11 +17,11 @@ use Rattle.nm_rounds.specs.declared.world.Stop.{Stop}
 abbrev pub HaveWorld : TopologyValue → List BookValue → List ChannelMessage → Type 0
 HaveWorld t books bag = (w : model.World (List ℕ)) × IsWorld t books bag w
 
--- over each such world the step answers so, and leaves these books and messages
-abbrev pub DoesStep : TopologyValue → List BookValue → List ChannelMessage → WorldStep
-    → Result StepAnswer Stop → List BookValue → List ChannelMessage → Type 0
-DoesStep t books bag s result new more =
-    (w : model.World (List ℕ)) → IsWorld t books bag w → Steps t w s result new more
+-- over each world of these books and messages the step answers so, and leaves those
+abbrev pub DoesStep : TopologyValue → List BookValue × List ChannelMessage → WorldStep
+    → Result StepAnswer Stop → List BookValue × List ChannelMessage → Type 0
+DoesStep t old s result new =
+    (w : model.World (List ℕ)) → IsWorld t old.0 old.1 w → Steps t w s result new.0 new.1
 
 -- the promise in the model's words, and the step that sends such a message
 abbrev pub kind_of : Promise → Promising

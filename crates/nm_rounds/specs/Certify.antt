@@ -1,5 +1,5 @@
 -- What a certificate says of books, and what each of its faults shows.
-use Rattle.std.specs.Prelude.{◌≡◌, ℕ, ◌==◌, ◌&&◌, Bool, false, cond, ltb, not, All, Contains, codes, List, length, map, Option, Some, None, Result, Ok, Err}
+use Rattle.std.specs.Prelude.{◌≡◌, ℕ, ◌==◌, ◌&&◌, Bool, false, if◌then◌else◌, ltb, not, All, Contains, codes, List, length, map, Option, Some, None, Result, Ok, Err}
 use Rattle.nm_topology.specs.Topology.{receiving_iface}
 use Rattle.nm_topology.specs.TopologyValue.{TopologyValue}
 use Rattle.nm_model.specs.Before.{IsBefore, trace}
@@ -68,10 +68,10 @@ FindsFault t found (Err e) =
 
 -- a partition has no book; a book is not done
 abbrev pub missing : List BookValue → ℕ → Option CertificateFault
-missing books p = cond (has_part p (books_of books)) None (Some (MissingPart p))
+missing books p = if has_part p (books_of books) then None else Some (MissingPart p)
 
 abbrev pub unfinished : TopologyValue → Book (List ℕ) → Option CertificateFault
-unfinished t b = cond (is_done (net_of t) b.part b.replica) None (Some (UnfinishedPart b.part))
+unfinished t b = if is_done (net_of t) b.part b.replica then None else Some (UnfinishedPart b.part)
 
 -- each event that the book did was before the safe time
 abbrev pub IsWithinSafe : TopologyValue → BookValue → Type 0
@@ -88,19 +88,23 @@ abbrev pub list_fault : ℕ → Know (List ℕ) → List (ℕ × List ℕ) → �
 list_fault c a sent promised =
     or_else (prefix_fault same_octets c 0 a.list sent)
     (or_else (clock_fault c a.clock (nth sent (length a.list)))
-    (cond (ltb promised a.clock && not (last_from a.clock a.list)) (Some (PromiseFault c)) None))
+    (if ltb promised a.clock && not (last_from a.clock a.list)
+    then Some (PromiseFault c)
+    else None))
 
 -- the fault of channel c between the receiving book r and book s, if that sends on it; and beside
 -- each of the books, if it comes into r
 abbrev pub sender_fault : TopologyValue → ℕ → Book (List ℕ) → Book (List ℕ)
     → Option CertificateFault
 sender_fault t c r s =
-    cond (s.part == sender_of (net_of t) c) (channel_fault (net_of t) same_octets Tight c r s) None
+    if s.part == sender_of (net_of t) c
+    then channel_fault (net_of t) same_octets Tight c r s
+    else None
 
 abbrev pub incoming_fault : TopologyValue → List BookValue → Book (List ℕ) → ℕ
     → Option CertificateFault
 incoming_fault t books r c =
-    cond (comes_in (net_of t) r.part c) (first_of (sender_fault t c r) (books_of books)) None
+    if comes_in (net_of t) r.part c then first_of (sender_fault t c r) (books_of books) else None
 
 -- the number by which reports name the fault
 abbrev pub cert_fault_number : CertFault → ℕ

@@ -9,7 +9,7 @@ ghost use Rattle.nm_rounds.specs.World.{merge_answer_of, refusal_of};
 ghost use Rattle.nm_rounds.specs.declared.step.WorldStep.TheVariants as step;
 
 use crate::messages::messages_from;
-use crate::places::{place_of, sending_place};
+use crate::places::{Outlet, place_of, sending_place};
 use crate::step::StepAnswer;
 use crate::world::Stop;
 use nm_base::{ChanNo, PartNo};
@@ -36,8 +36,8 @@ pub(crate) fn run(
     limit: u64,
 ) -> Result<StepAnswer, Stop>
     requires { (bag : List Message) × HaveWorld topology.now books.old.items bag }
-    ensures { (bag : List Message) → DoesStep topology.now books.old.items bag
-        (step.Run partition replica limit) result books.new.items bag }
+    ensures { (bag : List Message) → DoesStep topology.now (books.old.items, bag)
+        (step.Run partition replica limit) result (books.new.items, bag) }
 {
     let Some(place) = place_of(topology, partition, replica) else {
         return Err(Stop::NoSuch);
@@ -63,15 +63,19 @@ pub(crate) fn send(
     topology: &Topology,
     books: &[Book],
     bag: &mut Vec<ChannelMessage>,
-    partition: PartNo,
-    replica: u8,
-    channel: ChanNo,
+    outlet: Outlet,
     number: u64,
 ) -> Result<StepAnswer, Stop>
     requires { HaveWorld topology.now books.now bag.old.items }
-    ensures { DoesStep topology.now books.now bag.old.items
-        (step.Data partition replica channel number) result books.now bag.new.items }
+    ensures { DoesStep topology.now (books.now, bag.old.items)
+        (step.Data outlet.partition outlet.replica outlet.channel number) result
+        (books.now, bag.new.items) }
 {
+    let Outlet {
+        partition,
+        replica,
+        channel,
+    } = outlet;
     let Some(place) = sending_place(topology, partition, replica, channel) else {
         return Err(Stop::NoSuch);
     };
@@ -88,15 +92,19 @@ pub(crate) fn send_again(
     topology: &Topology,
     books: &[Book],
     bag: &mut Vec<ChannelMessage>,
-    partition: PartNo,
-    replica: u8,
-    channel: ChanNo,
+    outlet: Outlet,
     number: u64,
 ) -> Result<StepAnswer, Stop>
     requires { HaveWorld topology.now books.now bag.old.items }
-    ensures { DoesStep topology.now books.now bag.old.items
-        (step.Resend partition replica channel number) result books.now bag.new.items }
+    ensures { DoesStep topology.now (books.now, bag.old.items)
+        (step.Resend outlet.partition outlet.replica outlet.channel number) result
+        (books.now, bag.new.items) }
 {
+    let Outlet {
+        partition,
+        replica,
+        channel,
+    } = outlet;
     let Some(place) = sending_place(topology, partition, replica, channel) else {
         return Err(Stop::NoSuch);
     };
@@ -138,14 +146,18 @@ pub(crate) fn send_null(
     books: &[Book],
     bag: &mut Vec<ChannelMessage>,
     promise: Promise,
-    partition: PartNo,
-    replica: u8,
-    channel: ChanNo,
+    outlet: Outlet,
 ) -> Result<StepAnswer, Stop>
     requires { HaveWorld topology.now books.now bag.old.items }
-    ensures { DoesStep topology.now books.now bag.old.items
-        (null_step promise partition replica channel) result books.now bag.new.items }
+    ensures { DoesStep topology.now (books.now, bag.old.items)
+        (null_step promise outlet.partition outlet.replica outlet.channel) result
+        (books.now, bag.new.items) }
 {
+    let Outlet {
+        partition,
+        replica,
+        channel,
+    } = outlet;
     let Some(place) = sending_place(topology, partition, replica, channel) else {
         return Err(Stop::NoSuch);
     };
@@ -175,8 +187,8 @@ pub(crate) fn deliver(
     replica: u8,
 ) -> Result<StepAnswer, Stop>
     requires { HaveWorld topology.now books.old.items bag.now }
-    ensures { DoesStep topology.now books.old.items bag.now (step.Deliver frame replica) result
-        books.new.items bag.now }
+    ensures { DoesStep topology.now (books.old.items, bag.now) (step.Deliver frame replica)
+        result (books.new.items, bag.now) }
 {
     let Some(message) = bag.get(frame as usize) else {
         return Err(Stop::NoSuch);
@@ -220,8 +232,8 @@ pub(crate) fn merge(
     replica: u8,
 ) -> Result<StepAnswer, Stop>
     requires { (bag : List Message) × HaveWorld topology.now books.old.items bag }
-    ensures { (bag : List Message) → DoesStep topology.now books.old.items bag
-        (step.Merge partition replica) result books.new.items bag }
+    ensures { (bag : List Message) → DoesStep topology.now (books.old.items, bag)
+        (step.Merge partition replica) result (books.new.items, bag) }
 {
     let Some(place) = place_of(topology, partition, replica) else {
         return Err(Stop::NoSuch);
@@ -244,8 +256,8 @@ pub(crate) fn restart(
     replica: u8,
 ) -> Result<StepAnswer, Stop>
     requires { (bag : List Message) × HaveWorld (arc_value topology.now) books.old.items bag }
-    ensures { (bag : List Message) → DoesStep (arc_value topology.now) books.old.items bag
-        (step.Restart partition replica) result books.new.items bag }
+    ensures { (bag : List Message) → DoesStep (arc_value topology.now)
+        (books.old.items, bag) (step.Restart partition replica) result (books.new.items, bag) }
 {
     let Some(place) = place_of(topology, partition, replica) else {
         return Err(Stop::NoSuch);

@@ -308,7 +308,7 @@ fn check_book(topology: &Topology, books: &[&Book], receiver: &Book) -> Result<(
     channels_are_those_of_the_network(topology); // law: what comes in is a channel
     channels_are_numbered_by_their_receivers(topology); // law: its interface is there
     for number in 0..topology.receivers().len() {
-        let channel = ChanNo::new(number as u32);
+        let channel = topology.channel_number(number);
         check_senders(topology, books, receiver, channel)?;
     }
     Ok(())

@@ -11,6 +11,30 @@ use nm_base::{ChanNo, PartNo};
 use nm_book::channels::goes_out;
 use nm_topology::Topology;
 
+/// A channel that goes out of a replica, or is said to.
+#[derive(Clone, Copy)]
+pub(crate) struct Outlet {
+    pub partition: PartNo,
+    pub replica: u8,
+    pub channel: ChanNo,
+}
+
+impl Outlet {
+    pub(crate) fn of(partition: PartNo, replica: u8, channel: ChanNo) -> Self
+        ensures { result ≡ record {
+          partition = partition;
+          replica = replica;
+          channel = channel;
+        } }
+    {
+        Outlet {
+            partition,
+            replica,
+            channel,
+        }
+    }
+}
+
 /// Where a replica of a partition stands among all: replica r of partition p is the one of number
 /// 2p + r. `None` where there is no such replica.
 pub(crate) fn place_of(topology: &Topology, partition: PartNo, replica: u8) -> Option<usize>

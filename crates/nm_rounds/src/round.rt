@@ -22,9 +22,7 @@ use nm_knowledge::KnowFault;
 use nm_model::run::times_pass;
 use nm_sim::network::{channels_are_those_of_the_network, every_topology_is_a_network};
 use nm_topology::Topology;
-use nm_topology::topology::{
-    accepted_topologies_are_in_order, channels_are_numbered_by_their_receivers,
-};
+use nm_topology::topology::channels_are_numbered_by_their_receivers;
 use std::alloc::{AllocError, Global};
 
 /// A book does all that is safe. `Book::run_safe` ends a run as for want of memory at 2^62 events,
@@ -140,10 +138,9 @@ fn all_news(
         → AreAllNews topology.now x (length topology.now.receivers)
         (map (λ messages. messages.items) news.items)) }
 {
-    accepted_topologies_are_in_order(topology); // law: channels have numbers of 32 bits
     let mut news = Vec::new(alloc);
     for number in 0..topology.receivers().len() {
-        let messages = news_of(alloc, topology, books, ChanNo::new(number as u32))?;
+        let messages = news_of(alloc, topology, books, topology.channel_number(number))?;
         news.push(messages)?;
     }
     Ok(news)
@@ -208,11 +205,10 @@ fn hear_all(
         books.new.items) }
 {
     every_topology_is_a_network(topology); // law: each interface is of a partition that is there
-    accepted_topologies_are_in_order(topology); // law: channels have numbers of 32 bits
     channels_are_numbered_by_their_receivers(topology); // law: a channel has its own interface
     channels_are_those_of_the_network(topology); // law: what comes in is a channel
     for number in 0..news.len() {
-        let receiver = receiver_of(topology, ChanNo::new(number as u32));
+        let receiver = receiver_of(topology, topology.channel_number(number));
         tell_all(&mut books[receiver.index()], &news[number])?;
     }
     Ok(())

@@ -9,6 +9,7 @@ ghost use Rattle.nm_rounds.specs.declared.world.Stop.TheVariants.{Memory};
 
 use crate::acting::Promise::{Plain, Tight};
 use crate::acting::{deliver, merge, restart, run, send, send_again, send_null};
+use crate::places::Outlet;
 use crate::step::{StepAnswer, WorldStep};
 use nm_base::PartNo;
 use nm_base::limits::MAX_REPLICAS;
@@ -80,8 +81,8 @@ pub(crate) fn do_step(
     step: &WorldStep,
 ) -> Result<StepAnswer, Stop>
     requires { HaveWorld (arc_value topology.now) books.old.items bag.old.items }
-    ensures { DoesStep (arc_value topology.now) books.old.items bag.old.items step.now result
-        books.new.items bag.new.items }
+    ensures { DoesStep (arc_value topology.now) (books.old.items, bag.old.items) step.now
+        result (books.new.items, bag.new.items) }
 {
     match *step {
         WorldStep::Run {
@@ -94,25 +95,44 @@ pub(crate) fn do_step(
             replica,
             channel,
             number,
-        } => send(topology, books, bag, partition, replica, channel, number),
+        } => send(
+            topology,
+            books,
+            bag,
+            Outlet::of(partition, replica, channel),
+            number,
+        ),
         WorldStep::Resend {
             partition,
             replica,
             channel,
             number,
-        } => send_again(
-            alloc, topology, books, bag, partition, replica, channel, number,
-        ),
+        } => {
+            let outlet = Outlet::of(partition, replica, channel);
+            send_again(alloc, topology, books, bag, outlet, number)
+        }
         WorldStep::Null {
             partition,
             replica,
             channel,
-        } => send_null(topology, books, bag, Tight, partition, replica, channel),
+        } => send_null(
+            topology,
+            books,
+            bag,
+            Tight,
+            Outlet::of(partition, replica, channel),
+        ),
         WorldStep::OldNull {
             partition,
             replica,
             channel,
-        } => send_null(topology, books, bag, Plain, partition, replica, channel),
+        } => send_null(
+            topology,
+            books,
+            bag,
+            Plain,
+            Outlet::of(partition, replica, channel),
+        ),
         WorldStep::Deliver { frame, replica } => deliver(topology, books, bag, frame, replica),
         WorldStep::Merge { partition, replica } => {
             merge(alloc, topology, books, partition, replica)

@@ -10,7 +10,7 @@ use Rattle.nm_script.specs.declared.line.Line.{Line}
 use Rattle.nm_script.specs.declared.line.Line.TheVariants.{Skipped, Step}
 use Rattle.nm_script.specs.Grammar.{IsStep, Says, is_idle, words_of}
 use Rattle.nm_script.specs.Script.{IsScript, Said, steps_in}
-use Rattle.nm_script.specs.Words.{step_said}
+use Rattle.nm_script.specs.Tokens.{step_said}
 use Rattle.nm_script.proofs.Parts.{same_numbers}
 use Rattle.nm_script.proofs.Steps.{one_word}
 

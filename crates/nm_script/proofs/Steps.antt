@@ -2,7 +2,7 @@
 use Rattle.std.proofs.Common.{◌≡◌, ℕ, ◌≤◌, List, [], ◌∷◌, length, map, decimal, Option, Some, None, IfSome, sym, arith}
 use Rattle.nm_rounds.specs.declared.step.WorldStep.{WorldStep}
 use Rattle.nm_script.specs.Grammar.{IsStep, words_of}
-use Rattle.nm_script.specs.Words.{step_said}
+use Rattle.nm_script.specs.Tokens.{step_said}
 use Rattle.nm_script.proofs.Parts.{AreSmall}
 
 -- no step has more than four numbers

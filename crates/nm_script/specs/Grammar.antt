@@ -6,7 +6,7 @@ use Rattle.nm_base.specs.Text.{parts_at}
 use Rattle.nm_rounds.specs.declared.step.WorldStep.{WorldStep}
 use Rattle.nm_script.specs.declared.line.Line.{Line}
 use Rattle.nm_script.specs.declared.line.Line.TheVariants.{Skipped, Step}
-use Rattle.nm_script.specs.Words.{step_said}
+use Rattle.nm_script.specs.Tokens.{step_said}
 
 -- the words of a line, which one space parts
 abbrev pub words_of : List ℕ → List (List ℕ)

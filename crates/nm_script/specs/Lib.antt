@@ -1,4 +1,4 @@
-pub mod Words
+pub mod Tokens
 pub mod Grammar
 pub mod Script
 pub mod Printed

@@ -7,7 +7,7 @@ pub mod line;
 mod numbers;
 pub mod report;
 pub mod script;
-mod words;
+mod tokens;
 
 pub use fault::{BadLine, ScriptFault};
 pub use report::report_text;

@@ -6,7 +6,7 @@ ghost use Rattle.nm_script.specs.Grammar.{IsStep, Says, is_idle};
 ghost use Rattle.nm_script.specs.declared.line.Line.{Line as LineValue};
 
 use crate::numbers::numbers_of;
-use crate::words::step_of;
+use crate::tokens::step_of;
 use nm_base::split_once;
 use nm_rounds::WorldStep;
 

@@ -5,7 +5,7 @@ ghost use Rattle.nm_measure.specs.Lines.{EndsLine};
 ghost use Rattle.nm_series.specs.Flows.{AreLines};
 
 use crate::cells::push_cell;
-use crate::series::{Span, Told};
+use crate::series::{Span, Totals};
 use nm_base::{SourceNo, Time, push_number};
 use nm_measure::{FlowTotals, Measured, end_line};
 use nm_topology::Topology;
@@ -64,7 +64,7 @@ fn push_rows(
     Ok(())
 }
 
-impl Told for FlowTotals {
+impl Totals for FlowTotals {
     // Nothing is said of what sources had.
     ghost had = { λ t time all. Unit {0} };
 

@@ -7,11 +7,10 @@ ghost use Rattle.nm_series.specs.Rows.{AreIfaceTotals, HadIfaces, IsIfaceStep, c
 ghost use Rattle.nm_series.specs.Rows.{iface_row, rows_of, seen_text};
 
 use crate::cells::{end_row, push_cell};
-use crate::series::{Span, Told};
+use crate::series::{Span, Totals};
 use nm_base::{IfaceNo, Time, push_number, push_text};
 use nm_measure::{IfaceTotals, Measured, thousandths};
 use nm_topology::Topology;
-use nm_topology::topology::accepted_topologies_are_in_order;
 use std::alloc::{AllocError, Global};
 
 /// What was seen of an interface in a step.
@@ -127,9 +126,8 @@ fn push_rows(
         → AreIfaceTotals topology.now new after.now → text.new.items ≡ text.old.items
         ++ rows_of span.now.from old new 0 topology.now.ifaces seen)) }
 {
-    accepted_topologies_are_in_order(topology); // law: there are few interfaces
     for number in 0..topology.ifaces().len() {
-        let iface = IfaceNo::new(number as u32);
+        let iface = topology.iface_number(number);
         let seen = seen_of(
             measured,
             iface,
@@ -149,7 +147,7 @@ fn push_rows(
     Ok(())
 }
 
-impl Told for IfaceTotals {
+impl Totals for IfaceTotals {
     ghost had = { λ t time all. HadIfaces t time all };
 
     ghost are_rows = { λ t from until text. IsIfaceStep t from until text };
@@ -160,10 +158,9 @@ impl Told for IfaceTotals {
         measured: &Measured,
         time: Time,
     ) -> Result<Vec<IfaceTotals>, AllocError> {
-        accepted_topologies_are_in_order(topology); // law: there are few interfaces
         let mut all = Vec::new(alloc);
         for number in 0..topology.ifaces().len() {
-            all.push(measured.totals(IfaceNo::new(number as u32), time))?;
+            all.push(measured.totals(topology.iface_number(number), time))?;
         }
         Ok(all)
     }

@@ -12,4 +12,4 @@ pub mod steps;
 
 pub use buckets::delays_text;
 pub use packets::packets_text;
-pub use series::{Series, Span, Told};
+pub use series::{Series, Span, Totals};

@@ -6,7 +6,7 @@ ghost use Rattle.nm_measure.specs.Measured.{IsMeasuredBefore};
 
 use crate::cells::{push_cell, push_word};
 use crate::steps::end_of;
-use nm_base::{Dir, IfaceNo, NodeNo, SourceNo, Time, push_number, push_text};
+use nm_base::{Dir, SourceNo, Time, push_number, push_text};
 use nm_measure::courses::{EndPlace, Ended, Reason};
 use nm_measure::{Course, Hop, Measured, PacketOutcome, end_line};
 use nm_progress::Progress;
@@ -38,25 +38,9 @@ fn reason_word(reason: Reason) -> &'static str {
     }
 }
 
-/// The name of an interface.
-fn iface_name(topology: &Topology, iface: IfaceNo) -> &str {
-    match topology.ifaces().get(iface.index()) {
-        Some(iface) => iface.name(),
-        None => "-",
-    }
-}
-
-/// The name of a node.
-fn node_name(topology: &Topology, node: NodeNo) -> &str {
-    match topology.nodes().get(node.index()) {
-        Some(node) => node.name(),
-        None => "-",
-    }
-}
-
 /// Appends that a packet arrived at an interface, or that its transmission started there.
 fn push_hop(text: &mut Vec<u8>, topology: &Topology, hop: &Hop) -> Result<(), AllocError> {
-    push_text(text, iface_name(topology, hop.iface).as_bytes())?;
+    push_text(text, topology.iface_name(hop.iface).as_bytes())?;
     push_text(
         text,
         match hop.dir {
@@ -97,8 +81,8 @@ fn push_ended(text: &mut Vec<u8>, topology: &Topology, ended: &Ended) -> Result<
     push_word(text, outcome_word(ended.end.outcome))?;
     push_word(text, reason_word(ended.end.reason))?;
     match ended.end.place {
-        EndPlace::Node(node) => push_word(text, node_name(topology, node))?,
-        EndPlace::Iface(iface) => push_word(text, iface_name(topology, iface))?,
+        EndPlace::Node(node) => push_word(text, topology.node_name(node))?,
+        EndPlace::Iface(iface) => push_word(text, topology.iface_name(iface))?,
     }
     push_cell(text, ended.end.time.nanoseconds())?;
     push_way(text, topology, ended.course.hops.as_slice())

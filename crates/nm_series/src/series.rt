@@ -30,9 +30,9 @@ impl Span {
     }
 }
 
-/// What one of a kind had up to a time. What all of the kind had more at the end of a step than at
-/// its begin is told in rows.
-pub trait Told: Drop {
+/// What one of a kind had up to a time. The rows of a step say what all of the kind had more at its
+/// end than at its begin.
+pub trait Totals: Drop {
     // What all of the kind had before a time of the run, by number.
     ghost had: { TopologyValue → ℕ → List Self → Type 0 };
 
@@ -89,7 +89,7 @@ impl<T> Model for Series<T> {
     } };
 }
 
-impl<T: Told> Series<T> {
+impl<T: Totals> Series<T> {
     /// The series at the begin of a run, in steps of so many nanoseconds.
     ///
     /// # Errors

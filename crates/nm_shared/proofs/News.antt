@@ -142,15 +142,15 @@ and_not : (q : Bool) → (q && not q) ≡ false
 and_not true = refl
 and_not false = refl
 
-own_peer : (t : TopologyValue) (i : ℕ) → length t.ifaces ≤ i → (net_of t).peer i ≡ i
+own_far_end : (t : TopologyValue) (i : ℕ) → length t.ifaces ≤ i → (net_of t).far_end i ≡ i
 unfolding net_of
-own_peer t i le = ap (λ (o : Option IfaceValue). (far_from i o).peer) (none_past t.ifaces i le)
+own_far_end t i le = ap (λ (o : Option IfaceValue). (far_from i o).iface) (none_past t.ifaces i le)
 
 none_comes : (t : TopologyValue) (p c : ℕ) → length t.receivers ≤ c → comes_in (net_of t) p (receiving_iface t c) ≡ false
 none_comes t p c le =
     let i = length t.ifaces in
     let at : receiving_iface t c ≡ i = past t.receivers c i le in
-    let none : comes_in (net_of t) p i ≡ false = ap (λ j. in_part (net_of t) p (Arrive i) && not (in_part (net_of t) p (Arrive j))) (own_peer t i (omega arith)) ∙ and_not (in_part (net_of t) p (Arrive i)) in
+    let none : comes_in (net_of t) p i ≡ false = ap (λ j. in_part (net_of t) p (Arrive i) && not (in_part (net_of t) p (Arrive j))) (own_far_end t i (omega arith)) ∙ and_not (in_part (net_of t) p (Arrive i)) in
     ap (comes_in (net_of t) p) at ∙ none
 
 below_last : (t : TopologyValue) (p c : ℕ) → comes_in (net_of t) p (receiving_iface t c) ≡ true → c < length t.receivers

@@ -1,5 +1,5 @@
 -- Why a book only grows, whatever a call of it answers.
-use Rattle.std.specs.Prelude.{◌≡◌, ℕ, zero, suc, ◌+◌, ◌≤◌, Bool, true, false, cond, if◌then◌else◌, List, [], ◌∷◌, ◌++◌, length, slice_index_or, slice_set, Option, Some, None, Result, Ok, Err, refl}
+use Rattle.std.specs.Prelude.{◌≡◌, ℕ, zero, suc, ◌+◌, ◌≤◌, Bool, true, false, if◌then◌else◌, List, [], ◌∷◌, ◌++◌, length, slice_index_or, slice_set, Option, Some, None, Result, Ok, Err, refl}
 use Rattle.std.proofs.Common.{⊎_elim, ◌<◌, leb, sym, subst, ap, arith, length-append}
 use Rattle.std.proofs.lemmas.Bool.{cases_lt, leb-true}
 use Rattle.nm_base.specs.declared.fault.Fault.{Fault}
@@ -78,7 +78,7 @@ Rises : Know (List ℕ) → model.Accepted (List ℕ) → Type 0
 Rises a x = length a.list ≤ length x.after.list
 
 rises_either : (a : Know (List ℕ)) (q : Bool) (x y : model.Accepted (List ℕ)) → Rises a x
-    → Rises a y → Rises a (cond q x y)
+    → Rises a y → Rises a (if q then x else y)
 rises_either a true x y h k = h
 rises_either a false x y h k = k
 
@@ -175,7 +175,7 @@ join_rises : (a b : Know (List ℕ)) → length a.list ≤ length (join a b).lis
 join_rises a b = pick (leb (length a.list) (length b.list)) refl
   where
     pick : (q : Bool) → leb (length a.list) (length b.list) ≡ q
-        → length a.list ≤ length (cond q b.list a.list)
+        → length a.list ≤ length (if q then b.list else a.list)
     pick true e = leb-true _ _ e
     pick false e = omega arith
 

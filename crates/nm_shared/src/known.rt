@@ -26,7 +26,7 @@ pub fn messages(book: &Book) -> u64
     accepted_topologies_are_in_order(book.topology()); // law: there are at most 512 channels
     let mut sum = 0;
     for channel in 0..book.topology().receivers().len() {
-        sum += messages_of_channel(book, ChanNo::new(channel as u32));
+        sum += messages_of_channel(book, book.topology().channel_number(channel));
     }
     sum
 }

@@ -10,7 +10,7 @@ use Rattle.nm_topology.specs.TopologyValue.{TopologyValue}
 use Rattle.nm_model.specs.Network.{IsNet}
 use Rattle.nm_model.specs.Partition.{comes_in, receiver_of}
 use Rattle.nm_sim.specs.Network.{far_from, net_of}
-use Rattle.nm_sim.proofs.Beginnings.{peer_is}
+use Rattle.nm_sim.proofs.Beginnings.{far_end_is}
 use Rattle.nm_sim.proofs.Networks.{all_at, mapped_at, owner_is}
 
 pub part_is : (t : TopologyValue) (v : ℕ) → v < length t.nodes → (net_of t).part v ≡ slice_index (parts_of t.nodes) v
@@ -29,7 +29,7 @@ unfolding net_of
 delay_is t i x e = ap (λ o. (far_from i o).delay) e
 
 -- a number that names no interface is its own far end
-itself : (t : TopologyValue) → IsNet (net_of t) → (i : ℕ) → length t.ifaces ≤ i → (net_of t).peer i ≡ i
+itself : (t : TopologyValue) → IsNet (net_of t) → (i : ℕ) → length t.ifaces ≤ i → (net_of t).far_end i ≡ i
 unfolding net_of
 itself t isnet i l = isnet.outside i l
 
@@ -58,19 +58,19 @@ module _ (t : TopologyValue) (order : IsInOrder t.nodes t.ifaces t.links) where
     pub receives : (p i : ℕ) → comes_in (net_of t) p i ≡ true → (c : ℕ) × (c < length t.receivers) × (receiving_iface t c ≡ i) × (1 ≤ (net_of t).delay i)
     receives p i h = ⊎_elim
         (λ g. there g.0 g.2)
-        (λ g. absurd (apart ((net_of t).part ((net_of t).owner i)) ((net_of t).part ((net_of t).owner ((net_of t).peer i))) p h
+        (λ g. absurd (apart ((net_of t).part ((net_of t).owner i)) ((net_of t).part ((net_of t).owner ((net_of t).far_end i))) p h
         (ap (λ j. (net_of t).part ((net_of t).owner j)) (itself t isnet i g.0))))
         ((slice_get_cases t.ifaces i).1)
       where
         there : (x : IfaceValue) → slice_get t.ifaces i ≡ Some x → (c : ℕ) × (c < length t.receivers) × (receiving_iface t c ≡ i) × (1 ≤ (net_of t).delay i)
         there x e =
-            let far = peer_is t i x e in
+            let far = far_end_is t i x e in
             let y = at (order.linked i x e).within in
             let r : IsReceiver t.nodes t.ifaces i = (
               x,
               e,
-              λ same. apart ((net_of t).part ((net_of t).owner i)) ((net_of t).part ((net_of t).owner ((net_of t).peer i))) p h
-                  (ap (λ j. (net_of t).part ((net_of t).owner j)) far ∙ partition_is x.far.peer y.0 y.1 ∙ same ∙ sym (partition_is i x e)),
+              λ same. apart ((net_of t).part ((net_of t).owner i)) ((net_of t).part ((net_of t).owner ((net_of t).far_end i))) p h
+                  (ap (λ j. (net_of t).part ((net_of t).owner j)) far ∙ partition_is x.far.iface y.0 y.1 ∙ same ∙ sym (partition_is i x e)),
             ) in
             let k : Contains t.receivers i = (are.exactly i).1 r in (
               k.0,
@@ -79,21 +79,21 @@ module _ (t : TopologyValue) (order : IsInOrder t.nodes t.ifaces t.links) where
               subst (λ d. 1 ≤ d) (sym (delay_is t i x e)) (are.delayed i x e k),
             )
           where
-            at : x.far.peer < length t.ifaces → (y : IfaceValue) × (slice_get t.ifaces x.far.peer ≡ Some y)
-            at w = ⊎_elim (λ g. (g.0, g.2)) (λ g. absurd (omega (arith, g.0, w))) ((slice_get_cases t.ifaces x.far.peer).1)
+            at : x.far.iface < length t.ifaces → (y : IfaceValue) × (slice_get t.ifaces x.far.iface ≡ Some y)
+            at w = ⊎_elim (λ g. (g.0, g.2)) (λ g. absurd (omega (arith, g.0, w))) ((slice_get_cases t.ifaces x.far.iface).1)
 
     -- a channel comes into the partition of its receiving interface
     pub comes : (c : ℕ) → c < length t.receivers → comes_in (net_of t) (receiver_of (net_of t) (receiving_iface t c)) (receiving_iface t c) ≡ true
     comes c h =
         let i = receiving_iface t c in
         let r = (are.exactly i).0 (Contains-get_or t.receivers c (length t.ifaces) h) in
-        let far = peer_is t i r.0 r.1 in
+        let far = far_end_is t i r.0 r.1 in
         let y = at r.0 (order.linked i r.0 r.1).within in
-        is_apart ((net_of t).part ((net_of t).owner i)) ((net_of t).part ((net_of t).owner ((net_of t).peer i)))
-        (λ same. r.2 (sym (ap (λ j. (net_of t).part ((net_of t).owner j)) far ∙ partition_is r.0.far.peer y.0 y.1) ∙ same ∙ partition_is i r.0 r.1))
+        is_apart ((net_of t).part ((net_of t).owner i)) ((net_of t).part ((net_of t).owner ((net_of t).far_end i)))
+        (λ same. r.2 (sym (ap (λ j. (net_of t).part ((net_of t).owner j)) far ∙ partition_is r.0.far.iface y.0 y.1) ∙ same ∙ partition_is i r.0 r.1))
       where
-        at : (x : IfaceValue) → x.far.peer < length t.ifaces → (y : IfaceValue) × (slice_get t.ifaces x.far.peer ≡ Some y)
-        at x w = ⊎_elim (λ g. (g.0, g.2)) (λ g. absurd (omega (arith, g.0, w))) ((slice_get_cases t.ifaces x.far.peer).1)
+        at : (x : IfaceValue) → x.far.iface < length t.ifaces → (y : IfaceValue) × (slice_get t.ifaces x.far.iface ≡ Some y)
+        at x w = ⊎_elim (λ g. (g.0, g.2)) (λ g. absurd (omega (arith, g.0, w))) ((slice_get_cases t.ifaces x.far.iface).1)
 
     -- a number past the last channel is that of none
     pub none : (p c : ℕ) → length t.receivers ≤ c → receiving_iface t c ≡ length t.ifaces → comes_in (net_of t) p (receiving_iface t c) ≡ false

@@ -38,21 +38,21 @@ module _ (t : TopologyValue) (order : IsInOrder t.nodes t.ifaces t.links) where
   pub far_at : (i : ℕ) (x : IfaceValue) → slice_get t.ifaces i ≡ Some x → far_of t i ≡ x.far
   far_at i x e = ap (far_from i) e
 
-  twice_at : (i : ℕ) (x y : IfaceValue) → slice_get t.ifaces i ≡ Some x → slice_get t.ifaces x.far.peer ≡ Some y → (far_of t x.far.peer).peer ≡ i
+  twice_at : (i : ℕ) (x y : IfaceValue) → slice_get t.ifaces i ≡ Some x → slice_get t.ifaces x.far.iface ≡ Some y → (far_of t x.far.iface).iface ≡ i
   twice_at i x y e f =
       let there = order.linked i x e in
-      let back = order.linked x.far.peer y f in
-      ap (λ z. z.peer) (far_at x.far.peer y f ∙ back.far ∙ there.back)
+      let back = order.linked x.far.iface y f in
+      ap (λ z. z.iface) (far_at x.far.iface y f ∙ back.far ∙ there.back)
 
-  peer_twice : (i : ℕ) → (far_of t (far_of t i).peer).peer ≡ i
-  peer_twice i = ⊎_elim
+  far_end_twice : (i : ℕ) → (far_of t (far_of t i).iface).iface ≡ i
+  far_end_twice i = ⊎_elim
       (λ h. let there = order.linked i h.0 h.2 in
-      ap (λ p. (far_of t p).peer) (ap (λ z. z.peer) (far_at i h.0 h.2))
+      ap (λ p. (far_of t p).iface) (ap (λ z. z.iface) (far_at i h.0 h.2))
       ∙ ⊎_elim
       (λ g. twice_at i h.0 g.0 h.2 g.2)
       (λ g. absurd (let w = there.within in omega (arith, w, g.0)))
-      ((slice_get_cases t.ifaces h.0.far.peer).1))
-      (λ h. let p : (far_of t i).peer ≡ i = ap (λ o. (far_from i o).peer) (slice_get_past t.ifaces i h.0) in ap (λ q. (far_of t q).peer) p ∙ p)
+      ((slice_get_cases t.ifaces h.0.far.iface).1))
+      (λ h. let p : (far_of t i).iface ≡ i = ap (λ o. (far_from i o).iface) (slice_get_past t.ifaces i h.0) in ap (λ q. (far_of t q).iface) p ∙ p)
       ((slice_get_cases t.ifaces i).1)
 
   pub is_net : ((v : ℕ) (n : NodeStateValue) (o : Origin) (x : List ℕ) (s : ℕ × List ℕ) → (reaction t v n o x).1 ≡ Some s
@@ -62,8 +62,8 @@ module _ (t : TopologyValue) (order : IsInOrder t.nodes t.ifaces t.links) where
   unfolding net_of
   is_net own rises = record {
     own = λ v n o x s e. (own v n o x s e).1;
-    twice = peer_twice;
-    outside = λ i h. ap (λ o. (far_from i o).peer) (slice_get_past t.ifaces i h);
+    twice = far_end_twice;
+    outside = λ i h. ap (λ o. (far_from i o).iface) (slice_get_past t.ifaces i h);
     takes_time = λ i x. omega arith;
     takes_least = λ i x. longer_takes (far_of t i).rate 1 (max 1 (length x)) (omega arith);
     rises = rises;

@@ -99,7 +99,7 @@ module _ (t : TopologyValue) (part : Option ℕ) where
       go (Fire j) k = k
 
   pub represents_first : {L : Type 0} (pending : L → FinMap key_cmp (Event (List ℕ))) (p : PartValue L) → IsOrderly (net_of t) (here_of t part) (start (net_of t) (here_of t part) [])
-      → p.part ≡ part → DevicesRepresent t part p.devices (first_state t) (λ i. idle_port) → p.timeline.sent ≡ replicate (length t.ifaces) 0
+      → p.part ≡ part → DevicesRepresent t (record { part = part; node = first_state t; port = λ i. idle_port }) p.devices → p.timeline.sent ≡ replicate (length t.ifaces) 0
       → pending p.timeline.events ≡ schedule (here_of t part) (source_events (net_of t) (length t.sources)) empty
       → length p.outgoing.channels ≡ channel_count t part → AllAt (λ c v. v.messages ≡ []) p.outgoing.channels → RecordsRepresent t p.records []
       → p.devices.wanted ≡ p.records.keeping.wanted → Represents pending t part p (start (net_of t) (here_of t part) [])

@@ -74,7 +74,7 @@ crossing_tests a b p ha hb = grind (arith, nat_tests, ha, hb)
 
 module _ (t : TopologyValue) (isnet : IsNet (net_of t)) (i : ℕ) where
   abbrev far : ℕ
-  far = (net_of t).peer i
+  far = (net_of t).far_end i
 
   -- the far end of a link that leaves the part is a channel's
   pub crosses : (part : Option ℕ) → ((p j : ℕ) → comes_in (net_of t) p j ≡ true → (c : ℕ) × (c < length t.receivers) × (receiving_iface t c ≡ j) × (1 ≤ (net_of t).delay j))
@@ -82,7 +82,7 @@ module _ (t : TopologyValue) (isnet : IsNet (net_of t)) (i : ℕ) where
       → (c : ℕ) × (c < channel_count t part) × (receiving_iface t c ≡ far)
   crosses None numbered h away = absurd (true≢false away)
   crosses (Some p) numbered h away =
-      let back : (net_of t).peer far ≡ i = isnet.twice i in
+      let back : (net_of t).far_end far ≡ i = isnet.twice i in
       let comes : comes_in (net_of t) (receiver_of (net_of t) far) far ≡ true
       = ap (λ j. ((net_of t).part ((net_of t).owner far) == (net_of t).part ((net_of t).owner far)) && not ((net_of t).part ((net_of t).owner j) == (net_of t).part ((net_of t).owner far))) back
       ∙ crossing_tests ((net_of t).part ((net_of t).owner i)) ((net_of t).part ((net_of t).owner far)) p h away in
@@ -94,7 +94,7 @@ module _ (t : TopologyValue) (isnet : IsNet (net_of t)) (i : ℕ) where
       → is_iface_here t part i ≡ true → is_iface_here t part far ≡ true → (c : ℕ) → c < channel_count t part → receiving_iface t c ≢ far
   stays None comes h inner c l e = absurd (omega (arith, l))
   stays (Some p) comes h inner c l e =
-      let back : (net_of t).peer far ≡ i = isnet.twice i in
+      let back : (net_of t).far_end far ≡ i = isnet.twice i in
       let at : comes_in (net_of t) (receiver_of (net_of t) far) far ≡ true = ap (λ j. comes_in (net_of t) (receiver_of (net_of t) j) j) (sym e) ∙ comes c l in
       let tests : (((net_of t).part ((net_of t).owner far) == (net_of t).part ((net_of t).owner far)) && not ((net_of t).part ((net_of t).owner i) == (net_of t).part ((net_of t).owner far))) ≡ true
       = ap (λ j. ((net_of t).part ((net_of t).owner far) == (net_of t).part ((net_of t).owner far)) && not ((net_of t).part ((net_of t).owner j) == (net_of t).part ((net_of t).owner far))) (sym back) ∙ at in

@@ -12,10 +12,9 @@ use Rattle.nm_base.specs.Key.{key_cmp, key_of}
 use Rattle.nm_topology.specs.Accepted.{IsInOrder}
 use Rattle.nm_topology.specs.TopologyValue.{TopologyValue}
 use Rattle.nm_model.specs.EventList.{schedule}
-use Rattle.nm_model.specs.Lists.{nth, set_at}
-use Rattle.nm_model.specs.Network.{node_of}
+use Rattle.nm_model.specs.Lists.{nth}
 use Rattle.nm_model.specs.Orderly.{IsOrderly}
-use Rattle.nm_model.specs.Run.{Effect, State, effect, in_record, keyed, next_events, out_record, sent_after, transmission_events, step, step_at, turned}
+use Rattle.nm_model.specs.Run.{Effect, State, effect, in_record, keyed, next_events, out_record, sent_after, transmission_events, step, step_at}
 use Rattle.nm_forward.specs.State.{NodeStateValue}
 use Rattle.nm_iface.specs.declared.port.Start.{Start}
 use Rattle.nm_model.specs.EventList.{is_before}
@@ -27,15 +26,15 @@ use Rattle.nm_sim.specs.Tables.{AllHere, IsThere}
 use Rattle.nm_sim.specs.Outgoing.{OutgoingRepresents, messages_in}
 use Rattle.nm_iface.specs.PortValue.{PortValue}
 use Rattle.nm_model.specs.Partition.{comes_in}
-use Rattle.nm_sim.specs.Devices.{DevicesRepresent, DevicesValue, IsNodeOf, IsPortOf, IsSame, IsSamePort}
-use Rattle.nm_sim.specs.Effects.{Done, IsPlaceIn, TransmitsAt, transmission_of}
+use Rattle.nm_sim.specs.Devices.{DeviceStates, DevicesRepresent, DevicesValue, IsNodeOf, IsPortOf, IsSame, IsSamePort}
+use Rattle.nm_sim.specs.Effects.{IsPlaceIn, TransmitsAt, states_after, transmission_of}
 use Rattle.nm_topology.specs.Topology.{receiving_iface}
 use Rattle.nm_sim.specs.Network.{far_from, here_of, is_iface_here, is_node_here, is_source_here, net_of}
 use Rattle.std.proofs.lemmas.Option.{slice_get_cases, slice_get_past}
 use Rattle.nm_forward.specs.declared.counter.Counter.{Counter}
 use Rattle.nm_forward.specs.Counter.{counter_number}
 use Rattle.nm_base.specs.Count.{saturated}
-use Rattle.nm_sim.specs.Part.{IsUnderWay, PartValue, Represents, IsTaken, busy_at, completes_at, count_at, drops_at, waiting_at, with_arrival}
+use Rattle.nm_sim.specs.Part.{Doing, IsReady, IsUnderWay, PartValue, Represents, RepresentsNext, busy_at, completes_at, count_at, drops_at, states_in, waiting_at, with_arrival}
 use Rattle.nm_sim.specs.Timelines.{TimelineRepresents}
 use Rattle.nm_sim.proofs.Schedules.{next_here, one_more, placed_insert, placed_next, placed_remove, placed_schedule, placed_transmission, schedule_append}
 use Rattle.nm_sim.proofs.Beginnings.{numbered_same}
@@ -72,16 +71,20 @@ records_few time trace came transmission =
     out_one (Some z) = omega arith
 
 -- an event that is under way is done with the transmission that starts
-pub represents_after : {L : Type 0} (pending : L → FinMap key_cmp (Event (List ℕ))) (t : TopologyValue) (part : Option ℕ) (time number : ℕ) (e : Event (List ℕ)) (done : Done) (p q : PartValue L)
-    (s : State (List ℕ) NodeStateValue) → IsInOrder t.nodes t.ifaces t.links → IsOrderly (net_of t) (here_of t part) (step (net_of t) (here_of t part) s)
-    → IsUnderWay pending t part time number e done p s → q.part ≡ p.part → q.devices ≡ p.devices
-    → TimelineRepresents t q.timeline (sent_after (net_of t) time s.sent (transmission_of done.transmission))
-    → OutgoingRepresents t part q.outgoing (sent_after (net_of t) time s.sent (transmission_of done.transmission))
-    → pending q.timeline.events ≡ schedule (here_of t part) (transmission_events (net_of t) time s.sent (transmission_of done.transmission)) (pending p.timeline.events)
-    → ((trace : List (Record (List ℕ))) → RecordsRepresent t p.records trace → RecordsRepresent t q.records (trace ++ out_record time (transmission_of done.transmission)))
+pub represents_after : {L : Type 0} (pending : L → FinMap key_cmp (Event (List ℕ))) (t : TopologyValue) (time : ℕ) (start : Option (ℕ × Start)) (doing : Doing) (p q : PartValue L)
+    → IsInOrder t.nodes t.ifaces t.links → IsOrderly (net_of t) (here_of t doing.part) (step (net_of t) (here_of t doing.part) doing.state)
+    → IsUnderWay pending t time start doing p → q.part ≡ p.part → q.devices ≡ p.devices
+    → TimelineRepresents t q.timeline (sent_after (net_of t) time doing.state.sent (transmission_of start))
+    → OutgoingRepresents t doing.part q.outgoing (sent_after (net_of t) time doing.state.sent (transmission_of start))
+    → pending q.timeline.events ≡ schedule (here_of t doing.part) (transmission_events (net_of t) time doing.state.sent (transmission_of start)) (pending p.timeline.events)
+    → ((trace : List (Record (List ℕ))) → RecordsRepresent t p.records trace → RecordsRepresent t q.records (trace ++ out_record time (transmission_of start)))
     → q.records.keeping ≡ p.records.keeping → q.steps ≡ p.steps + 1
-    → Represents pending t part q (step (net_of t) (here_of t part) s)
-represents_after pending t part time number e done p q s order orderly way is_part devices numbered outgoing events records keeping steps =
+    → RepresentsNext pending t doing.part q doing.state
+represents_after pending t time start doing p q order orderly way is_part devices numbered outgoing events records keeping steps =
+    let s = doing.state in
+    let part = doing.part in
+    let number = doing.number in
+    let e = doing.event in
     let taken = way.taken in
     let does = way.does.does in
     let here = here_of t part in
@@ -92,19 +95,19 @@ represents_after pending t part time number e done p q s order orderly way is_pa
     let goes_on = subst (λ o. IfSome o (λ f. here_of t part (Fire f.0) ≡ true)) (sym does.follows) (follows_at (net_of t) s.node s.port time number (λ q. here_of t part q ≡ true) e is) in
     let goes_within = follows_at (net_of t) s.node s.port time number (IsPlaceIn t) e place in
     let events' : pending q.timeline.events ≡ schedule (here_of t part) (transmission_events (net_of t) time s.sent m.transmission ++ next_events number m.follows) (remove s.pending (key_of time (event_place e) number))
-    = events ∙ ap (schedule (here_of t part) (transmission_events (net_of t) time s.sent (transmission_of done.transmission))) (taken.events ∙ next_here (here_of t part) number done.follows (remove s.pending (key_of time (event_place e) number)) goes_on)
+    = events ∙ ap (schedule (here_of t part) (transmission_events (net_of t) time s.sent (transmission_of start))) (taken.events ∙ next_here (here_of t part) number doing.follows (remove s.pending (key_of time (event_place e) number)) goes_on)
     ∙ (λ i. schedule (here_of t part) (transmission_events (net_of t) time s.sent (does.transmission i)) (schedule (here_of t part) (next_events number (does.follows i)) (remove s.pending (key_of time (event_place e) number))))
     ∙ sym (schedule_append (here_of t part) (transmission_events (net_of t) time s.sent m.transmission) (next_events number m.follows) (remove s.pending (key_of time (event_place e) number))) in
     let records' : RecordsRepresent t q.records (s.records ++ (in_record time m.came ++ out_record time m.transmission))
     = subst (RecordsRepresent t q.records)
     ((λ i. (s.records ++ in_record time (does.came i)) ++ out_record time (does.transmission i)) ∙ append_assoc s.records (in_record time m.came) (out_record time m.transmission))
-    (records (s.records ++ in_record time done.came) taken.records) in
-    let within = subst (λ o. IfSome o (λ z. z.0 < length t.ifaces)) does.transmission (transmits_within t part time done.transmission does.transmits) in
+    (records (s.records ++ in_record time doing.came) taken.records) in
+    let within = subst (λ o. IfSome o (λ z. z.0 < length t.ifaces)) does.transmission (transmits_within t part time start does.transmits) in
     let again : step_at (net_of t) (here_of t part) s (Some (keyed time number e)) ≡ step (net_of t) (here_of t part) s = ap (step_at (net_of t) (here_of t part) s) (sym taken.first) in
     subst (Represents pending t part q) again record {
       is_part = is_part ∙ taken.is_part;
       orderly = subst (IsOrderly (net_of t) (here_of t part)) (sym again) orderly;
-      devices = subst (λ d. DevicesRepresent t part d (set_at s.node (node_of (net_of t) (event_place e)) m.after) (turned s.port m.turn)) (sym devices) way.does.represented;
+      devices = subst (DevicesRepresent t (states_after t (states_in part s) (keyed time number e))) (sym devices) way.does.represented;
       numbered = subst (λ o. TimelineRepresents t q.timeline (sent_after (net_of t) time s.sent o)) does.transmission numbered;
       outgoing = subst (λ o. OutgoingRepresents t part q.outgoing (sent_after (net_of t) time s.sent o)) does.transmission outgoing;
       few = λ c. let f = one_more t time p.steps s.sent m.transmission taken.few c in omega (arith, f, steps);
@@ -126,22 +129,25 @@ represents_after pending t part time number e done p q s order orderly way is_pa
     either (x ∷ xs) ys h k (suc i) f z = either xs ys (λ j. h (suc j)) k i f z
 
 -- an event that was taken out is put back
-pub represents_again : {L : Type 0} (pending : L → FinMap key_cmp (Event (List ℕ))) (t : TopologyValue) (part : Option ℕ) (time number : ℕ) (e : Event (List ℕ)) (p q : PartValue L) → Kept p q
-    → (s : State (List ℕ) NodeStateValue) → IsTaken pending t part time number e None None p s → DevicesRepresent t part p.devices s.node s.port
-    → q.devices ≡ p.devices → q.records ≡ p.records → pending q.timeline.events ≡ insert (pending p.timeline.events) (key_of time (event_place e) number) e → Represents pending t part q s
-represents_again pending t part time number e p q kept s h represented devices records events = record {
-  is_part = kept.is_part ∙ h.is_part;
-  orderly = h.orderly;
-  devices = subst (λ d. DevicesRepresent t part d s.node s.port) (sym devices) represented;
-  numbered = numbered_same t p.timeline q.timeline s.sent kept.sent h.numbered;
-  outgoing = subst (λ o. OutgoingRepresents t part o s.sent) (sym kept.outgoing) h.outgoing;
-  few = λ c. let l = h.few c in omega (arith, l, kept.steps);
-  events = events ∙ ap (λ m. insert m (key_of time (event_place e) number) e) h.events ∙ put_back s.pending (key_of time (event_place e) number) e (least_has s.pending (keyed time number e) h.first);
-  placed = h.placed;
-  records = subst (λ (r : RecordsValue). RecordsRepresent t r s.records) (sym records) (subst (RecordsRepresent t p.records) (append-nil s.records) h.records);
-  few_records = let l = h.few_records in omega (arith, l, kept.steps);
-  wanted = kept.wanted ∙ h.wanted ∙ ap (λ k. k.wanted) (sym kept.keeping);
-}
+pub represents_again : {L : Type 0} (pending : L → FinMap key_cmp (Event (List ℕ))) (t : TopologyValue) (part : Option ℕ) (entry : Key × Event (List ℕ)) (p q : PartValue L) → Kept p q
+    → (s : State (List ℕ) NodeStateValue) → IsReady pending t part entry p s
+    → q.devices ≡ p.devices → q.records ≡ p.records → pending q.timeline.events ≡ insert (pending p.timeline.events) (key_of entry.0.time (event_place entry.1) entry.0.number) entry.1 → Represents pending t part q s
+represents_again pending t part entry p q kept s ready devices records events =
+    let h = ready.taken in
+    let key = key_of entry.0.time (event_place entry.1) entry.0.number in
+    record {
+      is_part = kept.is_part ∙ h.is_part;
+      orderly = h.orderly;
+      devices = subst (DevicesRepresent t (states_in part s)) (sym devices) ready.devices;
+      numbered = numbered_same t p.timeline q.timeline s.sent kept.sent h.numbered;
+      outgoing = subst (λ o. OutgoingRepresents t part o s.sent) (sym kept.outgoing) h.outgoing;
+      few = λ c. let l = h.few c in omega (arith, l, kept.steps);
+      events = events ∙ ap (λ m. insert m key entry.1) h.events ∙ put_back s.pending key entry.1 (least_has s.pending (keyed entry.0.time entry.0.number entry.1) h.first);
+      placed = h.placed;
+      records = subst (λ (r : RecordsValue). RecordsRepresent t r s.records) (sym records) (subst (RecordsRepresent t p.records) (append-nil s.records) h.records);
+      few_records = let l = h.few_records in omega (arith, l, kept.steps);
+      wanted = kept.wanted ∙ h.wanted ∙ ap (λ k. k.wanted) (sym kept.keeping);
+    }
 
 module _ (t : TopologyValue) (i : ℕ) (port : Port (List ℕ)) where
   port_same : (here : Bool) (v w : Option PortValue) → IsSamePort v w → IsThere here (λ z. IsPortOf t i z port) v → IsThere here (λ z. IsPortOf t i z port) w
@@ -160,15 +166,14 @@ module _ (t : TopologyValue) (i : ℕ) (port : Port (List ℕ)) where
   port_same false (Some v) None e h = absurd e
   port_same false (Some v) (Some w) e h = absurd (not_some v (sym h))
 
-represented_same : (t : TopologyValue) (part : Option ℕ) (d e : DevicesValue) (node : ℕ → NodeStateValue) (port : ℕ → Port (List ℕ)) → DevicesRepresent t part d node port → IsSame d e
-    → DevicesRepresent t part e node port
-represented_same t part d e node port s h = record {
+represented_same : (t : TopologyValue) (states : DeviceStates) (d e : DevicesValue) → DevicesRepresent t states d → IsSame d e → DevicesRepresent t states e
+represented_same t states d e s h = record {
   node_count = ap length h.nodes ∙ s.node_count;
-  nodes = subst (λ l. AllHere (is_node_here t part) (λ v n. IsNodeOf t v n (node v)) l) (sym h.nodes) s.nodes;
+  nodes = subst (λ l. AllHere (is_node_here t states.part) (λ v n. IsNodeOf t v n (states.node v)) l) (sym h.nodes) s.nodes;
   port_count = h.port_count ∙ s.port_count;
-  ports = λ i w e. let v = h.ports i w e in port_same t i (port i) (is_iface_here t part i) v.0 w v.2 (s.ports i v.0 v.1);
+  ports = λ i w e. let v = h.ports i w e in port_same t i (states.port i) (is_iface_here t states.part i) v.0 w v.2 (s.ports i v.0 v.1);
   source_count = ap length h.sources ∙ s.source_count;
-  sources = subst (λ l. AllHere (is_source_here t part) (λ j z. source_of t j ≡ Some z) l) (sym h.sources) s.sources;
+  sources = subst (λ l. AllHere (is_source_here t states.part) (λ j z. source_of t j ≡ Some z) l) (sym h.sources) s.sources;
 }
 
 -- memory that was made changes nothing
@@ -179,7 +184,7 @@ pub represents_same : {L : Type 0} (pending : L → FinMap key_cmp (Event (List 
 represents_same pending t part p q s h is_part same events sent count messages records steps = record {
   is_part = is_part ∙ h.is_part;
   orderly = h.orderly;
-  devices = represented_same t part p.devices q.devices s.node s.port h.devices same;
+  devices = represented_same t (states_in part s) p.devices q.devices h.devices same;
   numbered = numbered_same t p.timeline q.timeline s.sent sent h.numbered;
   outgoing = outgoing_same t part p.outgoing q.outgoing s.sent count messages h.outgoing;
   few = λ c. let l = h.few c in omega (arith, l, steps);
@@ -206,7 +211,7 @@ pub represents_told : {L : Type 0} (pending : L → FinMap key_cmp (Event (List 
 represents_told pending t part i number time x p q kept s h orderly within devices records events = record {
   is_part = kept.is_part ∙ h.is_part;
   orderly = orderly;
-  devices = subst (λ d. DevicesRepresent t part d s.node s.port) (sym devices) h.devices;
+  devices = subst (λ d. DevicesRepresent t (states_in part s) d) (sym devices) h.devices;
   numbered = numbered_same t p.timeline q.timeline s.sent kept.sent h.numbered;
   outgoing = subst (λ o. OutgoingRepresents t part o s.sent) (sym kept.outgoing) h.outgoing;
   few = λ c. let l = h.few c in omega (arith, l, kept.steps);
@@ -219,13 +224,13 @@ represents_told pending t part i number time x p q kept s h orderly within devic
 
 -- what comes into a partition is here, and its far end is not
 pub comes_here : (t : TopologyValue) (part : Option ℕ) (p i : ℕ) → part ≡ Some p → comes_in (net_of t) p i ≡ true
-    → (here_of t part (Arrive i) ≡ true) × (here_of t part (Arrive ((net_of t).peer i)) ≡ false)
+    → (here_of t part (Arrive i) ≡ true) × (here_of t part (Arrive ((net_of t).far_end i)) ≡ false)
 comes_here t None p i e h = absurd (not_some p e)
 comes_here t (Some r) p i e h =
     let same : r ≡ p = some_inj r p e in
-    let both = halves ((net_of t).part ((net_of t).owner i) == p) ((net_of t).part ((net_of t).owner ((net_of t).peer i)) == p) h in (
+    let both = halves ((net_of t).part ((net_of t).owner i) == p) ((net_of t).part ((net_of t).owner ((net_of t).far_end i)) == p) h in (
       ap (λ z. (net_of t).part ((net_of t).owner i) == z) same ∙ both.0,
-      ap (λ z. (net_of t).part ((net_of t).owner ((net_of t).peer i)) == z) same ∙ both.1,
+      ap (λ z. (net_of t).part ((net_of t).owner ((net_of t).far_end i)) == z) same ∙ both.1,
     )
   where
     halves : (a b : Bool) → (a && not b) ≡ true → (a ≡ true) × (b ≡ false)
@@ -255,19 +260,19 @@ table_value here P xs f y i n all count h = ⊎_elim
     ∙ sym (ap (λ b. cond (b && here i) (Some y) None) ge))
     ((slice_get_cases xs i).1)
 
-pub counter_is : (t : TopologyValue) (part : Option ℕ) (d : DevicesValue) (s : State (List ℕ) NodeStateValue) → DevicesRepresent t part d s.node s.port → (v : ℕ) (c : Counter)
+pub counter_is : (t : TopologyValue) (part : Option ℕ) (d : DevicesValue) (s : State (List ℕ) NodeStateValue) → DevicesRepresent t (states_in part s) d → (v : ℕ) (c : Counter)
     → option_and_then (option_map (λ n. slice_index n.counters (counter_number c))) (slice_get d.nodes v) ≡ count_at t part s v c
 counter_is t part d s represented v c =
     table_value (is_node_here t part) (λ v n. IsNodeOf t v n (s.node v)) d.nodes (λ n. slice_index n.counters (counter_number c)) (slice_index (s.node v).counters (counter_number c)) v (length t.nodes)
     represented.nodes represented.node_count (λ n p. ap (λ z. slice_index z.counters (counter_number c)) p.0)
 
-pub drops_is : (t : TopologyValue) (part : Option ℕ) (d : DevicesValue) (s : State (List ℕ) NodeStateValue) → DevicesRepresent t part d s.node s.port → (i : ℕ)
+pub drops_is : (t : TopologyValue) (part : Option ℕ) (d : DevicesValue) (s : State (List ℕ) NodeStateValue) → DevicesRepresent t (states_in part s) d → (i : ℕ)
     → option_and_then (option_map (λ w. w.dropped)) (slice_get d.ports i) ≡ drops_at t part s i
 drops_is t part d s represented i =
     table_value (is_iface_here t part) (λ i w. IsPortOf t i w (s.port i)) d.ports (λ w. w.dropped) (saturated (s.port i).dropped) i (length t.ifaces)
     represented.ports represented.port_count (λ w p. p.dropped)
 
-pub waiting_is : (t : TopologyValue) (part : Option ℕ) (d : DevicesValue) (s : State (List ℕ) NodeStateValue) → DevicesRepresent t part d s.node s.port → (i : ℕ)
+pub waiting_is : (t : TopologyValue) (part : Option ℕ) (d : DevicesValue) (s : State (List ℕ) NodeStateValue) → DevicesRepresent t (states_in part s) d → (i : ℕ)
     → option_and_then (option_map (λ w. length (waiting_of w.busy))) (slice_get d.ports i) ≡ waiting_at t part s i
 waiting_is t part d s represented i =
     table_value (is_iface_here t part) (λ i w. IsPortOf t i w (s.port i)) d.ports (λ w. length (waiting_of w.busy)) (length (waiting_of (s.port i).busy)) i (length t.ifaces)
@@ -302,20 +307,20 @@ kept_few pending t part p s h =
     omega (arith, all, kept, few, most)
 
 -- an interface that isn't there is its own far end
-far_past : (t : TopologyValue) (i : ℕ) → length t.ifaces ≤ i → (net_of t).peer i ≡ i
+far_past : (t : TopologyValue) (i : ℕ) → length t.ifaces ≤ i → (net_of t).far_end i ≡ i
 unfolding net_of
-far_past t i h = ap (λ o. (far_from i o).peer) (slice_get_past t.ifaces i h)
+far_past t i h = ap (λ o. (far_from i o).iface) (slice_get_past t.ifaces i h)
 
 -- past the last channel no interface sends
 pub busy_past : (t : TopologyValue) (part : Option ℕ) (s : State (List ℕ) NodeStateValue) (c : ℕ) → length t.ifaces ≤ receiving_iface t c → busy_at t part s c ≡ 0
 busy_past t part s c h =
     let far = far_past t (receiving_iface t c) h in
-    let i = (net_of t).peer (receiving_iface t c) in
+    let i = (net_of t).far_end (receiving_iface t c) in
     let none : ltb i (length t.ifaces) ≡ false = grind (arith, nat_tests, far, h) in
     ap (λ b. cond (b && is_iface_here t part i) (completes_at (s.port i).busy) 0) none
 
 -- when the interface that sends on a channel completes its transmission
-pub busy_is : (t : TopologyValue) (part : Option ℕ) (d : DevicesValue) (s : State (List ℕ) NodeStateValue) → DevicesRepresent t part d s.node s.port → (i : ℕ)
+pub busy_is : (t : TopologyValue) (part : Option ℕ) (d : DevicesValue) (s : State (List ℕ) NodeStateValue) → DevicesRepresent t (states_in part s) d → (i : ℕ)
     → completes_at (option_and_then (option_and_then (λ w. w.busy)) (slice_get d.ports i))
     ≡ cond (ltb i (length t.ifaces) && is_iface_here t part i) (completes_at (s.port i).busy) 0
 busy_is t part d s represented i = ⊎_elim

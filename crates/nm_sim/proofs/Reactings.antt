@@ -9,14 +9,13 @@ use Rattle.nm_topology.specs.declared.traffic.Traffic.TheVariants.{Cbr, Echo, Ra
 use Rattle.nm_topology.specs.PartValues.{NodeValue}
 use Rattle.nm_topology.specs.TopologyValue.{TopologyValue}
 use Rattle.nm_model.specs.Lists.{set_at}
-use Rattle.nm_model.specs.Port.{Port}
 use Rattle.nm_forward.specs.State.{IsIfaceOf, NodeStateValue, table_of, table_from}
 use Rattle.nm_forward.specs.Originate.{Consequence, Nothing, Counts, Sends, Originates, concluded}
 use Rattle.nm_forward.specs.declared.reaction.Reaction.{Reaction}
 use Rattle.nm_forward.specs.declared.reaction.Reaction.TheVariants as sent
 use Rattle.nm_forward.specs.Reaction.{arrived, handed, handed_by, reaction}
 use Rattle.nm_forward.specs.Reacting.{IsReaction, IsSent, iface_of}
-use Rattle.nm_sim.specs.Devices.{DevicesValue, DevicesRepresent, IsNodeOf, IsPortOf}
+use Rattle.nm_sim.specs.Devices.{DeviceStates, DevicesValue, DevicesRepresent, IsNodeOf, IsPortOf}
 use Rattle.nm_sim.specs.Network.{is_iface_here, is_node_here, net_of}
 use Rattle.nm_sim.specs.Tables.{IsMember}
 use Rattle.nm_sim.proofs.Tables.{at_there, each_there}
@@ -55,11 +54,11 @@ table_node t v = go (slice_get t.nodes v)
     go None = refl
     go (Some n) = refl
 
-module _ (t : TopologyValue) (part : Option ℕ) (d e : DevicesValue) (node : ℕ → NodeStateValue) (port : ℕ → Port (List ℕ)) (s : DevicesRepresent t part d node port) (v : ℕ) (n : NodeStateValue)
+module _ (t : TopologyValue) (states : DeviceStates) (d e : DevicesValue) (s : DevicesRepresent t states d) (v : ℕ) (n : NodeStateValue)
     (here : slice_get d.nodes v ≡ Some (Some n)) where
   -- the node is here, and in the state that it has there
-  pub node_is : (is_node_here t part v ≡ true) × IsNodeOf t v n (node v)
-  node_is = at_there (is_node_here t part) (λ u m. IsNodeOf t u m (node u)) d.nodes s.nodes v n here
+  pub node_is : (is_node_here t states.part v ≡ true) × IsNodeOf t v n (states.node v)
+  node_is = at_there (is_node_here t states.part) (λ u m. IsNodeOf t u m (states.node u)) d.nodes s.nodes v n here
 
   number_is : n.table.node ≡ v
   number_is = ap (λ z. z.node) node_is.1.1 ∙ table_node t v
@@ -68,12 +67,12 @@ module _ (t : TopologyValue) (part : Option ℕ) (d e : DevicesValue) (node : �
   table_is = node_is.1.1 ∙ ap (table_of t) (sym number_is)
 
   pub reacts_by : (m : NodeStateValue) (o : Origin) (x : List ℕ) (sent : Option (ℕ × List ℕ)) → (m, sent) ≡ reaction t n.table.node n o x
-      → e.nodes ≡ slice_set d.nodes v (Some m) → e.ports ≡ d.ports → e.sources ≡ d.sources → Reacts t part node port v o x e sent
+      → e.nodes ≡ slice_set d.nodes v (Some m) → e.ports ≡ d.ports → e.sources ≡ d.sources → Reacts t states v (o, x) e sent
   reacts_by m o x sent q nodes ports sources =
-      let r : ◌≡◌ {A = NodeStateValue × Option (ℕ × List ℕ)} (m, sent) (reaction t v (node v) o x) = q ∙ (λ k. reaction t (number_is k) (node_is.1.0 k) o x) in
+      let r : ◌≡◌ {A = NodeStateValue × Option (ℕ × List ℕ)} (m, sent) (reaction t v (states.node v) o x) = q ∙ (λ k. reaction t (number_is k) (node_is.1.0 k) o x) in
       let table : m.table ≡ table_of t v = ap (λ z. z.0.table) q ∙ keeps_table t n.table.node n o x ∙ node_is.1.1 in
       record {
-        represented = subst (λ z. DevicesRepresent t part e (set_at node v z) port) (ap (λ z. z.0) r) (node_changed t part d e node port s v m nodes ports sources node_is.0 table);
+        represented = subst (λ z. DevicesRepresent t (record states { node = set_at states.node v z }) e) (ap (λ z. z.0) r) (node_changed t states d e s v m nodes ports sources node_is.0 table);
         sends = ap (λ z. z.1) r;
       }
 
@@ -81,7 +80,7 @@ module _ (t : TopologyValue) (part : Option ℕ) (d e : DevicesValue) (node : �
   pub reacts_with : (m : NodeStateValue) (o : Origin) (x : List ℕ) (r : Reaction)
       → IsReaction d.ports r m (reaction t n.table.node n o x)
       → e.nodes ≡ slice_set d.nodes v (Some m) → e.ports ≡ d.ports → e.sources ≡ d.sources
-      → ReactsWith t part node port v o x e r
+      → ReactsWith t states v (o, x) e r
   reacts_with m o x r q nodes ports sources =
       let sent = (reaction t n.table.node n o x).1 in (
         sent,
@@ -92,8 +91,8 @@ module _ (t : TopologyValue) (part : Option ℕ) (d e : DevicesValue) (node : �
   -- the interfaces of a node that is here have ports
   own_port : (i : ℕ) → IsIfaceOf t.ifaces v i → IsMember (slice_get d.ports i)
   unfolding net_of
-  own_port i own = each_there (is_iface_here t part) (λ j w. IsPortOf t j w (port j)) d.ports s.ports i (omega (arith, own.0, s.port_count))
-      (ap (is_node_here t part) own.1 ∙ node_is.0)
+  own_port i own = each_there (is_iface_here t states.part) (λ j w. IsPortOf t j w (states.port j)) d.ports s.ports i (omega (arith, own.0, s.port_count))
+      (ap (is_node_here t states.part) own.1 ∙ node_is.0)
 
   -- so it sends by an interface that is here
   pub sends_by_own : (o : Origin) (x : List ℕ) (r : Reaction)

@@ -10,7 +10,7 @@ use Rattle.nm_traffic.specs.Source.{source_of}
 use Rattle.nm_base.specs.Count.{saturated}
 use Rattle.nm_iface.specs.PortValue.{PortValue, has_room, takes, with_port}
 use Rattle.nm_sim.specs.Network.{far_from, far_of, is_iface_here, is_node_here, is_source_here, queue_from, queue_of, net_of}
-use Rattle.nm_sim.specs.Devices.{DevicesValue, IsNodeOf, IsPortOf, DevicesRepresent}
+use Rattle.nm_sim.specs.Devices.{DeviceStates, DevicesValue, IsNodeOf, IsPortOf, DevicesRepresent}
 use Rattle.nm_sim.specs.Tables.{AllHere, IsMember}
 use Rattle.nm_sim.proofs.Tables.{at_there, each_there, here_set, member_at}
 
@@ -93,51 +93,51 @@ set_same f i j = go (j == i) refl
     go true e = ap f (sym (grind (arith, nat_tests, e)))
     go false e = refl
 
-module _ (t : TopologyValue) (part : Option ℕ) (d e : DevicesValue) (node : ℕ → NodeStateValue) (port : ℕ → Port (List ℕ)) (s : DevicesRepresent t part d node port) where
+module _ (t : TopologyValue) (states : DeviceStates) (d e : DevicesValue) (s : DevicesRepresent t states d) where
   -- one port changes
   pub port_turned : (i : ℕ) (w : PortValue) (P : Port (List ℕ)) → e.nodes ≡ d.nodes → e.ports ≡ slice_set d.ports i (Some w) → e.sources ≡ d.sources
-      → is_iface_here t part i ≡ true → IsPortOf t i w P → DevicesRepresent t part e node (set_at port i P)
+      → is_iface_here t states.part i ≡ true → IsPortOf t i w P → DevicesRepresent t (record states { port = set_at states.port i P }) e
   port_turned i w P nodes ports sources here is = record {
     node_count = ap length nodes ∙ s.node_count;
-    nodes = subst (λ l. AllHere (is_node_here t part) (λ v n. IsNodeOf t v n (node v)) l) (sym nodes) s.nodes;
+    nodes = subst (λ l. AllHere (is_node_here t states.part) (λ v n. IsNodeOf t v n (states.node v)) l) (sym nodes) s.nodes;
     port_count = ap length ports ∙ length-set d.ports i (Some w) ∙ s.port_count;
-    ports = subst (λ l. AllHere (is_iface_here t part) (λ j v. IsPortOf t j v (set_at port i P j)) l) (sym ports)
-        (here_set (is_iface_here t part) (λ j v. IsPortOf t j v (port j)) (λ j v. IsPortOf t j v (set_at port i P j)) d.ports i w s.ports
-        (λ j v h g. subst (λ Q. IsPortOf t j v Q) (sym (set_there port i P j h)) g)
-        here (subst (λ Q. IsPortOf t i w Q) (sym (set_here port i P)) is));
+    ports = subst (λ l. AllHere (is_iface_here t states.part) (λ j v. IsPortOf t j v (set_at states.port i P j)) l) (sym ports)
+        (here_set (is_iface_here t states.part) (λ j v. IsPortOf t j v (states.port j)) (λ j v. IsPortOf t j v (set_at states.port i P j)) d.ports i w s.ports
+        (λ j v h g. subst (λ Q. IsPortOf t j v Q) (sym (set_there states.port i P j h)) g)
+        here (subst (λ Q. IsPortOf t i w Q) (sym (set_here states.port i P)) is));
     source_count = ap length sources ∙ s.source_count;
-    sources = subst (λ l. AllHere (is_source_here t part) (λ j z. source_of t j ≡ Some z) l) (sym sources) s.sources;
+    sources = subst (λ l. AllHere (is_source_here t states.part) (λ j z. source_of t j ≡ Some z) l) (sym sources) s.sources;
   }
 
   -- one node changes, and keeps what the topology says of it
   pub node_changed : (v : ℕ) (n : NodeStateValue) → e.nodes ≡ slice_set d.nodes v (Some n) → e.ports ≡ d.ports → e.sources ≡ d.sources
-      → is_node_here t part v ≡ true → n.table ≡ table_of t v → DevicesRepresent t part e (set_at node v n) port
+      → is_node_here t states.part v ≡ true → n.table ≡ table_of t v → DevicesRepresent t (record states { node = set_at states.node v n }) e
   node_changed v n nodes ports sources here table = record {
     node_count = ap length nodes ∙ length-set d.nodes v (Some n) ∙ s.node_count;
-    nodes = subst (λ l. AllHere (is_node_here t part) (λ j m. IsNodeOf t j m (set_at node v n j)) l) (sym nodes)
-        (here_set (is_node_here t part) (λ j m. IsNodeOf t j m (node j)) (λ j m. IsNodeOf t j m (set_at node v n j)) d.nodes v n s.nodes
-        (λ j m h g. (g.0 ∙ sym (set_there node v n j h), g.1))
-        here (sym (set_here node v n), table));
+    nodes = subst (λ l. AllHere (is_node_here t states.part) (λ j m. IsNodeOf t j m (set_at states.node v n j)) l) (sym nodes)
+        (here_set (is_node_here t states.part) (λ j m. IsNodeOf t j m (states.node j)) (λ j m. IsNodeOf t j m (set_at states.node v n j)) d.nodes v n s.nodes
+        (λ j m h g. (g.0 ∙ sym (set_there states.node v n j h), g.1))
+        here (sym (set_here states.node v n), table));
     port_count = ap length ports ∙ s.port_count;
-    ports = subst (λ l. AllHere (is_iface_here t part) (λ j w. IsPortOf t j w (port j)) l) (sym ports) s.ports;
+    ports = subst (λ l. AllHere (is_iface_here t states.part) (λ j w. IsPortOf t j w (states.port j)) l) (sym ports) s.ports;
     source_count = ap length sources ∙ s.source_count;
-    sources = subst (λ l. AllHere (is_source_here t part) (λ j z. source_of t j ≡ Some z) l) (sym sources) s.sources;
+    sources = subst (λ l. AllHere (is_source_here t states.part) (λ j z. source_of t j ≡ Some z) l) (sym sources) s.sources;
   }
 
-module _ (t : TopologyValue) (part : Option ℕ) (d : DevicesValue) (node : ℕ → NodeStateValue) (port : ℕ → Port (List ℕ)) (s : DevicesRepresent t part d node port) (v : ℕ) (within : v < length t.nodes) where
-  node_member : is_node_here t part v ≡ true → IsMember (slice_get d.nodes v)
-  node_member here = each_there (is_node_here t part) (λ u n. IsNodeOf t u n (node u)) d.nodes s.nodes v (omega (arith, within, s.node_count)) here
+module _ (t : TopologyValue) (states : DeviceStates) (d : DevicesValue) (s : DevicesRepresent t states d) (v : ℕ) (within : v < length t.nodes) where
+  node_member : is_node_here t states.part v ≡ true → IsMember (slice_get d.nodes v)
+  node_member here = each_there (is_node_here t states.part) (λ u n. IsNodeOf t u n (states.node u)) d.nodes s.nodes v (omega (arith, within, s.node_count)) here
 
   -- the node of an interface that has a port
   pub iface_node : (i : ℕ) → IsMember (slice_get d.ports i) → (net_of t).owner i ≡ v → IsMember (slice_get d.nodes v)
   iface_node i m e =
       let w = member_at (slice_get d.ports i) m in
-      let p = at_there (is_iface_here t part) (λ j x. IsPortOf t j x (port j)) d.ports s.ports i w.0 w.1 in
-      node_member (ap (is_node_here t part) (sym e) ∙ p.0)
+      let p = at_there (is_iface_here t states.part) (λ j x. IsPortOf t j x (states.port j)) d.ports s.ports i w.0 w.1 in
+      node_member (ap (is_node_here t states.part) (sym e) ∙ p.0)
 
   -- the node of a source that is here
   pub source_node : (j : ℕ) → IsMember (slice_get d.sources j) → (net_of t).source_node j ≡ v → IsMember (slice_get d.nodes v)
   source_node j m e =
       let w = member_at (slice_get d.sources j) m in
-      let p = at_there (is_source_here t part) (λ k x. source_of t k ≡ Some x) d.sources s.sources j w.0 w.1 in
-      node_member (ap (is_node_here t part) (sym e) ∙ p.0)
+      let p = at_there (is_source_here t states.part) (λ k x. source_of t k ≡ Some x) d.sources s.sources j w.0 w.1 in
+      node_member (ap (is_node_here t states.part) (sym e) ∙ p.0)

@@ -17,7 +17,7 @@ use Rattle.nm_model.specs.Run.{next_events, sent_after, transmission_events}
 use Rattle.nm_sim.specs.Effects.{IsPlaceIn}
 use Rattle.nm_sim.specs.Network.{net_of}
 use Rattle.nm_sim.specs.Timelines.{AreFresh, everywhere}
-use Rattle.nm_sim.proofs.Beginnings.{peer_is}
+use Rattle.nm_sim.proofs.Beginnings.{far_end_is}
 use Rattle.nm_model.proofs.Keys.{insert_other, key_decides, remove_other, remove_same}
 use Rattle.nm_model.proofs.ListLemmas.{same_number, set_here, set_there, some_inj}
 use Rattle.std.proofs.lemmas.Option.{slice_get_cases}
@@ -91,9 +91,9 @@ module _ (P : Place → Type 0) where
       (key_decides q r)
 
 module _ (t : TopologyValue) (order : IsInOrder t.nodes t.ifaces t.links) where
-  peer_there : (i : ℕ) → i < length t.ifaces → (net_of t).peer i < length t.ifaces
-  peer_there i h = ⊎_elim
-      (λ g. subst (λ p. p < length t.ifaces) (sym (peer_is t i g.0 g.2)) (order.linked i g.0 g.2).within)
+  far_end_there : (i : ℕ) → i < length t.ifaces → (net_of t).far_end i < length t.ifaces
+  far_end_there i h = ⊎_elim
+      (λ g. subst (λ p. p < length t.ifaces) (sym (far_end_is t i g.0 g.2)) (order.linked i g.0 g.2).within)
       (λ g. absurd (omega (arith, g.0, h)))
       ((slice_get_cases t.ifaces i).1)
 
@@ -101,7 +101,7 @@ module _ (t : TopologyValue) (order : IsInOrder t.nodes t.ifaces t.links) where
       → (i : ℕ) (f : Key × Event (List ℕ)) → nth (transmission_events (net_of t) time sent o) i ≡ Some f → IsPlaceIn t f.0.place
   placed_transmission time sent None h i f e = absurd cc
   placed_transmission time sent (Some z) h zero f e = let s : Complete z.0 ≡ f.0.place = ap (λ (g : Key × Event (List ℕ)). g.0.place) (some_inj _ f e) in subst (IsPlaceIn t) s h
-  placed_transmission time sent (Some z) h (suc zero) f e = let s : Arrive ((net_of t).peer z.0) ≡ f.0.place = ap (λ (g : Key × Event (List ℕ)). g.0.place) (some_inj _ f e) in subst (IsPlaceIn t) s (peer_there z.0 h)
+  placed_transmission time sent (Some z) h (suc zero) f e = let s : Arrive ((net_of t).far_end z.0) ≡ f.0.place = ap (λ (g : Key × Event (List ℕ)). g.0.place) (some_inj _ f e) in subst (IsPlaceIn t) s (far_end_there z.0 h)
   placed_transmission time sent (Some z) h (suc (suc i)) f e = absurd cc
 
 pub placed_next : (P : Place → Type 0) (number : ℕ) (o : Option (ℕ × ℕ × List ℕ)) → IfSome o (λ f. P (Fire f.0))
@@ -115,14 +115,14 @@ pub one_more : (t : TopologyValue) (time n : ℕ) (sent : ℕ → List (ℕ × L
     → (c : ℕ) → length (sent_after (net_of t) time sent o c) ≤ n + 1
 one_more t time n sent None h c = let l = h c in omega arith
 one_more t time n sent (Some z) h c = ⊎_elim
-    (λ same. let l = h ((net_of t).peer z.0) in
-    let e = ap (λ j. length (set_at sent ((net_of t).peer z.0) put j)) same ∙ ap length (set_here sent ((net_of t).peer z.0) put) ∙ length-append (sent ((net_of t).peer z.0)) (message ∷ []) in
+    (λ same. let l = h ((net_of t).far_end z.0) in
+    let e = ap (λ j. length (set_at sent ((net_of t).far_end z.0) put j)) same ∙ ap length (set_here sent ((net_of t).far_end z.0) put) ∙ length-append (sent ((net_of t).far_end z.0)) (message ∷ []) in
     omega (arith, l, e))
-    (λ other. let l = h c in let e = ap length (set_there sent ((net_of t).peer z.0) put c other) in omega (arith, l, e))
-    (same_number c ((net_of t).peer z.0))
+    (λ other. let l = h c in let e = ap length (set_there sent ((net_of t).far_end z.0) put c other) in omega (arith, l, e))
+    (same_number c ((net_of t).far_end z.0))
   where
     message : ℕ × List ℕ
     message = (time + (net_of t).tx z.0 z.1 + (net_of t).delay z.0, z.1)
 
     put : List (ℕ × List ℕ)
-    put = sent ((net_of t).peer z.0) ++ message ∷ []
+    put = sent ((net_of t).far_end z.0) ++ message ∷ []

@@ -6,14 +6,13 @@ use Rattle.nm_topology.specs.TopologyValue.{TopologyValue}
 use Rattle.nm_base.specs.Count.{saturated}
 use Rattle.nm_model.specs.Port.{Busy, Port, is_refused, offered}
 use Rattle.nm_model.specs.Run.{at_iface}
-use Rattle.nm_forward.specs.State.{NodeStateValue}
 use Rattle.nm_iface.specs.PortValue.{PortValue, has_room, takes, with_port}
 use Rattle.nm_iface.specs.declared.port.Start.{Start}
 use Rattle.nm_base.specs.Wanted.{is_wanted}
 use Rattle.nm_base.specs.declared.wanted.Wanted.{Wanted}
 use Rattle.nm_iface.specs.Offers.{HasCopy, IsTransmission, transmitted_packet}
 use Rattle.nm_sim.specs.Network.{is_iface_here, net_of}
-use Rattle.nm_sim.specs.Devices.{DevicesValue, DevicesRepresent, IsPortOf}
+use Rattle.nm_sim.specs.Devices.{DeviceStates, DevicesValue, DevicesRepresent, IsPortOf}
 use Rattle.nm_sim.specs.Effects.{IsCopied, Sends, TransmitsAt, transmission_at, transmission_of}
 use Rattle.nm_sim.proofs.Tables.{at_there}
 use Rattle.nm_sim.proofs.Represents.{same_offer, port_after, port_turned}
@@ -28,12 +27,12 @@ copied_at wanted i None h = tt
 copied_at wanted i (Some s) h = h
 
 -- the transmission of a port that is here
-pub transmits_here : (t : TopologyValue) (part : Option ℕ) (d : DevicesValue) (node : ℕ → NodeStateValue) (port : ℕ → Port (List ℕ)) → DevicesRepresent t part d node port
+pub transmits_here : (t : TopologyValue) (states : DeviceStates) (d : DevicesValue) → DevicesRepresent t states d
     → (time i : ℕ) (w : PortValue) → slice_get d.ports i ≡ Some (Some w)
-    → (o : Option Start) → IfSome o (λ z. IsTransmission w.rate w.delay time z.item.packet z) → IfSome (transmission_at i o) (TransmitsAt t part time)
-transmits_here t part d node port s time i w here None h = tt
-transmits_here t part d node port s time i w here (Some z) h =
-    let p = at_there (is_iface_here t part) (λ j v. IsPortOf t j v (port j)) d.ports s.ports i w here in
+    → (o : Option Start) → IfSome o (λ z. IsTransmission w.rate w.delay time z.item.packet z) → IfSome (transmission_at i o) (TransmitsAt t states.part time)
+transmits_here t states d s time i w here None h = tt
+transmits_here t states d s time i w here (Some z) h =
+    let p = at_there (is_iface_here t states.part) (λ j v. IsPortOf t j v (states.port j)) d.ports s.ports i w here in
     let within : i < length t.ifaces = omega (arith, s.port_count, slice_get_within d.ports i (Some w) here) in
     ((within, p.0), subst (λ (y : ℕ × ℕ). IsTransmission y.0 y.1 time z.item.packet z) (λ k. (p.1.rate k, p.1.delay k)) h)
 
@@ -57,11 +56,11 @@ refused_is w x time refused = go w.busy refl refused
         full true r = cc
         full false r = (λ k. record w { busy = sym e k; dropped = saturated (w.dropped + 1) }, refl)
 
-module _ (t : TopologyValue) (part : Option ℕ) (d e : DevicesValue) (node : ℕ → NodeStateValue) (port : ℕ → Port (List ℕ)) (s : DevicesRepresent t part d node port) (time : ℕ) where
+module _ (t : TopologyValue) (states : DeviceStates) (d e : DevicesValue) (s : DevicesRepresent t states d) (time : ℕ) where
   -- nothing is sent
-  pub sends_nothing : e ≡ d → Sends t part node port time None e None
+  pub sends_nothing : e ≡ d → Sends t states time None e None
   sends_nothing same = record {
-    represented = λ n came follows. subst (λ z. DevicesRepresent t part z node port) (sym same) s;
+    represented = λ n came follows. subst (λ z. DevicesRepresent t states z) (sym same) s;
     transmission = λ n came follows. refl;
     transmits = tt;
   }
@@ -76,23 +75,23 @@ module _ (t : TopologyValue) (part : Option ℕ) (d e : DevicesValue) (node : �
         → e.sources ≡ d.sources
         → transmitted_packet start ≡ (offered (has_room w.limit) (takes w.rate) time x w.dropped w.busy).1
         → IfSome start (IsTransmission w.rate w.delay time x)
-        → Sends t part node port time (Some (i, x)) e (transmission_at i start)
+        → Sends t states time (Some (i, x)) e (transmission_at i start)
     sends_by nodes ports sources packet transmits =
-        let p = at_there (is_iface_here t part) (λ j v. IsPortOf t j v (port j)) d.ports s.ports i w here in
-        let same = same_offer t i w (port i) p.1 time x in
-        let after = port_after t i w (port i) p.1 time (offered (has_room w.limit) (takes w.rate) time x w.dropped w.busy)
-        (offered ((net_of t).room i) ((net_of t).tx i) time x (port i).dropped (port i).busy) room same in
+        let p = at_there (is_iface_here t states.part) (λ j v. IsPortOf t j v (states.port j)) d.ports s.ports i w here in
+        let same = same_offer t i w (states.port i) p.1 time x in
+        let after = port_after t i w (states.port i) p.1 time (offered (has_room w.limit) (takes w.rate) time x w.dropped w.busy)
+        (offered ((net_of t).room i) ((net_of t).tx i) time x (states.port i).dropped (states.port i).busy) room same in
         record {
-          represented = λ n came follows. port_turned t part d e node port s i _ _ nodes ports sources p.0 after;
+          represented = λ n came follows. port_turned t states d e s i _ _ nodes ports sources p.0 after;
           transmission = λ n came follows. transmission_of_at i start ∙ ap (at_iface i) (packet ∙ same.2);
-          transmits = transmits_here t part d node port s time i w here start (own_packet start transmits);
+          transmits = transmits_here t states d s time i w here start (own_packet start transmits);
         }
 
   -- it is dropped
   pub drops_by : (i : ℕ) (x : List ℕ) (w : PortValue) → slice_get d.ports i ≡ Some (Some w)
       → is_refused (has_room w.limit) x w.busy ≡ true → e.nodes ≡ d.nodes
       → e.ports ≡ slice_set d.ports i (Some (record w { dropped = saturated (w.dropped + 1) }))
-      → e.sources ≡ d.sources → Sends t part node port time (Some (i, x)) e None
+      → e.sources ≡ d.sources → Sends t states time (Some (i, x)) e None
   drops_by i x w here refused nodes ports sources =
       let is = refused_is w x time refused in
       sends_by i x w w.room None here nodes (ports ∙ ap (λ v. slice_set d.ports i (Some v)) (sym is.0)) sources is.1 tt

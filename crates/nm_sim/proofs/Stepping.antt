@@ -13,7 +13,7 @@ use Rattle.nm_sim.specs.Part.{PartValue, Represents, Stepped}
 
 pub represents_stepped : {L : Type 0} (pending : L → FinMap key_cmp (Event (List ℕ))) (t : TopologyValue) (part : Option ℕ) (before : ℕ)
     (s : State (List ℕ) NodeStateValue) (old new : PartValue L) (result : Result (Option Key) AllocError)
-    → Represents pending t part old s → Stepped pending t part before s old new result
+    → Represents pending t part old s → Stepped pending t (record { part = part; state = s; until = before }) old new result
     → (x : State (List ℕ) NodeStateValue) × Represents pending t part new x
 represents_stepped pending t part before s old new (Ok None) represents h = (s, subst (λ p. Represents pending t part p s) (sym h.0) represents)
 represents_stepped pending t part before s old new (Ok (Some k)) represents h = (step (net_of t) (here_of t part) s, h.0)

@@ -28,6 +28,7 @@ use Rattle.nm_traffic.specs.Source.{source_at, source_of}
 use Rattle.nm_sim.specs.Devices.{DevicesValue, DevicesRepresent, IsPortOf}
 use Rattle.nm_sim.specs.Effects.{CanHappen, IsBusy, IsPlaceIn}
 use Rattle.nm_sim.specs.Network.{here_of, is_iface_here, is_source_here, net_of}
+use Rattle.nm_sim.specs.Part.{states_in}
 use Rattle.nm_sim.specs.Tables.{AllHere, IsMember, IsThere}
 use Rattle.nm_model.proofs.ListLemmas.{not_some}
 use Rattle.std.proofs.lemmas.Option.{slice_get_cases}
@@ -89,7 +90,7 @@ pending_here t part s orderly k y e = go (here_of t part k.place) refl
     go false f = absurd (not_some y (sym (orderly.own k f) ∙ e))
 
 module _ (t : TopologyValue) (part : Option ℕ) (s : State (List ℕ) NodeStateValue) (orderly : IsOrderly (net_of t) (here_of t part) s) (d : DevicesValue)
-    (represented : DevicesRepresent t part d s.node s.port) where
+    (represented : DevicesRepresent t (states_in part s) d) where
   busy_at : (i : ℕ) (b : Busy (List ℕ)) → (s.port i).busy ≡ Some b → i < length t.ifaces → is_iface_here t part i ≡ true → IsBusy (slice_get d.ports i)
   busy_at i b e l h = ⊎_elim
       (λ g. subst IsBusy (sym g.2) (go (is_iface_here t part i) h g.0 (represented.ports i g.0 g.2)))
@@ -119,7 +120,7 @@ module _ (t : TopologyValue) (part : Option ℕ) (s : State (List ℕ) NodeState
 module _ (t : TopologyValue) (limits : IsWithinLimits t) (fit : FitTheMtu t) (rise : TimesRise t) (end : EndForGood t) (before : ComeBeforeStop t)
     (part : Option ℕ) (s : State (List ℕ) NodeStateValue) (orderly : IsOrderly (net_of t) (here_of t part) s)
     (placed : (q : Key) (y : Event (List ℕ)) → get s.pending q ≡ Some y → IsPlaceIn t q.place)
-    (d : DevicesValue) (represented : DevicesRepresent t part d s.node s.port) where
+    (d : DevicesValue) (represented : DevicesRepresent t (states_in part s) d) where
   -- an event that is pending can happen
   pub can_happen : (time number : ℕ) (y : Event (List ℕ)) → get s.pending (key_of time (event_place y) number) ≡ Some y → CanHappen t d number y
   unfolding net_of

@@ -70,7 +70,7 @@ module _ {L : Type 0} (pending : L → FinMap key_cmp (Event (List ℕ))) (t : T
       kept ∙ sym (take-append_seam (drop handed made) rest) ∙ ap (λ l. take (length l) (drop handed made ++ rest)) (sym kept) ∙ ap (take (length p.records.kept)) (sym left)
 
   -- one more event
-  pub tracing_on : (q : PartValue L) → Advanced pending t None t.stop (one_list (net_of t) tracing.events) p q (Ok true) → IsTracing pending t q
+  pub tracing_on : (q : PartValue L) → Advanced pending t (record { part = None; state = one_list (net_of t) tracing.events; until = t.stop }) p q (Ok true) → IsTracing pending t q
   tracing_on q done = record {
     events = suc tracing.events;
     early = λ m l. ⊎_elim
@@ -97,14 +97,14 @@ module _ {L : Type 0} (pending : L → FinMap key_cmp (Event (List ℕ))) (t : T
       let made = cut p.records.keeping.wanted trace in
       h.records.kept ∙ ap (λ k. drop k.handed (cut k.wanted trace)) same ∙ ap (λ k. drop k made) all ∙ drop_all (length made) made (omega arith)
 
-  pub tracing_after : (outcome : Result Bool AllocError) → Advanced pending t None t.stop (one_list (net_of t) tracing.events) p q outcome → IsTracing pending t q
+  pub tracing_after : (outcome : Result Bool AllocError) → Advanced pending t (record { part = None; state = one_list (net_of t) tracing.events; until = t.stop }) p q outcome → IsTracing pending t q
   tracing_after (Ok false) done = subst (IsTracing pending t) (sym done.0) tracing
   tracing_after (Ok true) done = tracing_on pending t p tracing q done
   tracing_after (Err e) done = record { events = tracing.events; early = tracing.early; represents = done.0 }
 
   -- what it shows then, where all that it had recorded was let go
   pub shows_after : ((m n : ℕ) → IsBefore (net_of t) t.stop m → IsBefore (net_of t) t.stop n → m ≡ n) → p.records.keeping.handed ≡ length (cut p.records.keeping.wanted (one_list (net_of t) tracing.events).records)
-      → q.records.keeping ≡ p.records.keeping → (outcome : Result Bool AllocError) → Advanced pending t None t.stop (one_list (net_of t) tracing.events) p q outcome
+      → q.records.keeping ≡ p.records.keeping → (outcome : Result Bool AllocError) → Advanced pending t (record { part = None; state = one_list (net_of t) tracing.events; until = t.stop }) p q outcome
       → (records : List (Record (List ℕ))) → IsTraceBefore t t.stop records → ShowsAt (cut p.records.keeping.wanted records) outcome q.records
   shows_after once all same (Ok true) done records trace =
       subst (λ w. ShowsAt (cut w records) (Ok true) q.records) (ap (λ k. k.wanted) same) (shown pending t q (tracing_after (Ok true) done) records trace)

@@ -34,15 +34,22 @@ pub record IsPortOf (t : TopologyValue) (i : ℕ) (w : PortValue)
 abbrev pub IsNodeOf : TopologyValue → ℕ → NodeStateValue → NodeStateValue → Type 0
 IsNodeOf t v n state = (n ≡ state) × (n.table ≡ table_of t v)
 
--- the devices of a part of the network represent these states of its nodes and ports
-pub record DevicesRepresent (t : TopologyValue) (part : Option ℕ) (d : DevicesValue)
-    (node : ℕ → NodeStateValue) (port : ℕ → Port (List ℕ)) : Type 0 where
+-- The states of nodes and ports, by number, and what part of the network is here: all of it
+-- (None), or one partition.
+pub record DeviceStates : Type 0 where
+  pub part : Option ℕ
+  pub node : ℕ → NodeStateValue
+  pub port : ℕ → Port (List ℕ)
+
+-- the devices represent the states of the nodes and ports that are here
+pub record DevicesRepresent (t : TopologyValue) (states : DeviceStates)
+    (d : DevicesValue) : Type 0 where
   pub node_count : length d.nodes ≡ length t.nodes
-  pub nodes : AllHere (is_node_here t part) (λ v n. IsNodeOf t v n (node v)) d.nodes
+  pub nodes : AllHere (is_node_here t states.part) (λ v n. IsNodeOf t v n (states.node v)) d.nodes
   pub port_count : length d.ports ≡ length t.ifaces
-  pub ports : AllHere (is_iface_here t part) (λ i w. IsPortOf t i w (port i)) d.ports
+  pub ports : AllHere (is_iface_here t states.part) (λ i w. IsPortOf t i w (states.port i)) d.ports
   pub source_count : length d.sources ≡ length t.sources
-  pub sources : AllHere (is_source_here t part) (λ j s. source_of t j ≡ Some s) d.sources
+  pub sources : AllHere (is_source_here t states.part) (λ j s. source_of t j ≡ Some s) d.sources
 
 -- each of these ports has memory for one more packet, but for the one whose memory was used, and
 -- records what it transmits exactly where records of its interface are wanted
@@ -67,5 +74,4 @@ pub record IsSame (d e : DevicesValue) : Type 0 where
 
 -- the devices represent some states
 abbrev pub DevicesRepresentSome : TopologyValue → DevicesValue → Type 0
-DevicesRepresentSome t d = (part : Option ℕ) × (node : ℕ → NodeStateValue)
-    × (port : ℕ → Port (List ℕ)) × DevicesRepresent t part d node port
+DevicesRepresentSome t d = (states : DeviceStates) × DevicesRepresent t states d

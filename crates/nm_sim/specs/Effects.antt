@@ -1,6 +1,7 @@
 -- What an event does at its node, and what it asks for.
 use Rattle.std.specs.Prelude.{◌≡◌, ℕ, ◌<◌, ◌^◌, true, List, length, Option, Some, None, slice_get}
 use Rattle.std.specs.Option.{IsSome, IfSome}
+use Rattle.nm_base.specs.declared.key.Key.{Key}
 use Rattle.nm_base.specs.declared.key.Place.{Place}
 use Rattle.nm_base.specs.declared.key.Place.TheVariants.{Arrive, Complete, Fire}
 use Rattle.nm_base.specs.Event.{event_place}
@@ -11,7 +12,6 @@ use Rattle.nm_base.specs.declared.event.Origin.TheVariants.{Arrival, Source}
 use Rattle.nm_topology.specs.TopologyValue.{TopologyValue}
 use Rattle.nm_model.specs.Lists.{set_at}
 use Rattle.nm_model.specs.Network.{node_of}
-use Rattle.nm_model.specs.Port.{Port}
 use Rattle.nm_model.specs.Run.{Effect, effect, sent_on, turned}
 use Rattle.nm_forward.specs.State.{NodeStateValue}
 use Rattle.nm_forward.specs.declared.reaction.Reaction.{Reaction}
@@ -22,7 +22,7 @@ use Rattle.nm_iface.specs.declared.port.Start.{Start}
 use Rattle.nm_iface.specs.Offers.{HasCopy, IsTransmission}
 use Rattle.nm_base.specs.Wanted.{is_wanted}
 use Rattle.nm_base.specs.declared.wanted.Wanted.{Wanted}
-use Rattle.nm_sim.specs.Devices.{DevicesValue, DevicesRepresent}
+use Rattle.nm_sim.specs.Devices.{DeviceStates, DevicesValue, DevicesRepresent}
 use Rattle.nm_sim.specs.Network.{IsIfaceHere, far_of, net_of}
 
 -- the place is one of the topology's
@@ -79,39 +79,60 @@ pub record IsEffect (t : TopologyValue) (part : Option ℕ) (time : ℕ) (e : Do
   pub transmits : IfSome e.transmission (TransmitsAt t part time)
   pub follows : e.follows ≡ m.follows
 
--- after this event, the one of this number of its place, done at this time, where nodes and
--- ports had these states
-pub record Does (t : TopologyValue) (part : Option ℕ) (node : ℕ → NodeStateValue)
-    (port : ℕ → Port (List ℕ)) (time number : ℕ) (event : Event (List ℕ)) (d : DevicesValue)
-    (e : Done) : Type 0 where
-  pub represented : let m : Effect (List ℕ) NodeStateValue = effect
-      (net_of t) node port time number event in
-      DevicesRepresent t part d (set_at node (node_of (net_of t) (event_place event)) m.after)
-      (turned port m.turn)
-  pub does : IsEffect t part time e (effect (net_of t) node port time number event)
+-- what an event changes in these states, and what it asks for
+abbrev pub effect_in : TopologyValue → DeviceStates → Key × Event (List ℕ)
+    → Effect (List ℕ) NodeStateValue
+effect_in t states entry =
+    effect (net_of t) states.node states.port entry.0.time entry.0.number entry.1
+
+-- the states after that
+abbrev pub states_after : TopologyValue → DeviceStates → Key × Event (List ℕ) → DeviceStates
+states_after t states entry = record states {
+  node = set_at states.node (node_of (net_of t) (event_place entry.1))
+      (effect_in t states entry).after;
+  port = turned states.port (effect_in t states entry).turn;
+}
+
+-- an event was done, where nodes and ports had these states
+pub record Does (t : TopologyValue) (states : DeviceStates) (entry : Key × Event (List ℕ))
+    (d : DevicesValue) (e : Done) : Type 0 where
+  pub represented : DevicesRepresent t (states_after t states entry) d
+  pub does : IsEffect t states.part entry.0.time e (effect_in t states entry)
 
 -- after a node has sent this, or nothing
-pub record Sends (t : TopologyValue) (part : Option ℕ) (node : ℕ → NodeStateValue)
-    (port : ℕ → Port (List ℕ)) (time : ℕ) (sent : Option (ℕ × List ℕ)) (d : DevicesValue)
-    (sending : Option (ℕ × Start)) : Type 0 where
+pub record Sends (t : TopologyValue) (states : DeviceStates) (time : ℕ)
+    (sent : Option (ℕ × List ℕ)) (d : DevicesValue) (sending : Option (ℕ × Start)) : Type 0 where
   pub represented : (n : NodeStateValue) (came : Option (ℕ × List ℕ))
       (follows : Option (ℕ × ℕ × List ℕ))
-      → DevicesRepresent t part d node
-      (turned port (sent_on (net_of t) port time came n sent follows).turn)
+      → DevicesRepresent t (record states {
+        port = turned states.port
+            (sent_on (net_of t) states.port time came n sent follows).turn;
+      }) d
   pub transmission : (n : NodeStateValue) (came : Option (ℕ × List ℕ))
       (follows : Option (ℕ × ℕ × List ℕ))
-      → transmission_of sending ≡ (sent_on (net_of t) port time came n sent follows).transmission
-  pub transmits : IfSome sending (TransmitsAt t part time)
+      → transmission_of sending
+      ≡ (sent_on (net_of t) states.port time came n sent follows).transmission
+  pub transmits : IfSome sending (TransmitsAt t states.part time)
 
--- after node v has reacted to a packet
-pub record Reacts (t : TopologyValue) (part : Option ℕ) (node : ℕ → NodeStateValue)
-    (port : ℕ → Port (List ℕ)) (v : ℕ) (o : Origin) (x : List ℕ) (d : DevicesValue)
-    (sent : Option (ℕ × List ℕ)) : Type 0 where
-  pub represented : DevicesRepresent t part d (set_at node v (reaction t v (node v) o x).0) port
-  pub sends : sent ≡ (reaction t v (node v) o x).1
+-- what node v does with what it was given: where a packet came from, and the packet
+abbrev pub reaction_in : TopologyValue → DeviceStates → ℕ → Origin × List ℕ
+    → NodeStateValue × Option (ℕ × List ℕ)
+reaction_in t states v given = reaction t v (states.node v) given.0 given.1
 
--- node v has reacted to a packet, and this is its reaction
-abbrev pub ReactsWith : TopologyValue → Option ℕ → (ℕ → NodeStateValue) → (ℕ → Port (List ℕ)) → ℕ
-    → Origin → List ℕ → DevicesValue → Reaction → Type 0
-ReactsWith t part node port v o x d r = (sent : Option (ℕ × List ℕ)) × IsSent d.ports r sent
-    × Reacts t part node port v o x d sent
+-- the states after that, before anything is sent
+abbrev pub states_reacted : TopologyValue → DeviceStates → ℕ → Origin × List ℕ → DeviceStates
+states_reacted t states v given = record states {
+  node = set_at states.node v (reaction_in t states v given).0;
+}
+
+-- node v has reacted to what it was given, and sends this, or nothing
+pub record Reacts (t : TopologyValue) (states : DeviceStates) (v : ℕ) (given : Origin × List ℕ)
+    (d : DevicesValue) (sent : Option (ℕ × List ℕ)) : Type 0 where
+  pub represented : DevicesRepresent t (states_reacted t states v given) d
+  pub sends : sent ≡ (reaction_in t states v given).1
+
+-- node v has reacted to what it was given, and this is its reaction
+abbrev pub ReactsWith : TopologyValue → DeviceStates → ℕ → Origin × List ℕ → DevicesValue
+    → Reaction → Type 0
+ReactsWith t states v given d r = (sent : Option (ℕ × List ℕ)) × IsSent d.ports r sent
+    × Reacts t states v given d sent

@@ -14,7 +14,7 @@ use Rattle.nm_traffic.specs.Source.{source_at}
 
 -- an interface that isn't there is linked to itself
 abbrev pub far_from : ℕ → Option IfaceValue → Far
-far_from i None = record { peer = i; rate = 1; delay = 0 }
+far_from i None = record { iface = i; rate = 1; delay = 0 }
 far_from i (Some x) = x.far
 
 abbrev pub far_of : TopologyValue → ℕ → Far
@@ -36,7 +36,7 @@ net_of t = record {
   parts = t.partitions;
   sources = length t.sources;
   owner = λ i. slice_index (owners_of t.ifaces) i;
-  peer = λ i. (far_of t i).peer;
+  far_end = λ i. (far_of t i).iface;
   delay = λ i. (far_of t i).delay;
   tx = λ i x. takes (far_of t i).rate x;
   least_tx = λ i. transmission_time (far_of t i).rate 1;

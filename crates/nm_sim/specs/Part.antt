@@ -19,10 +19,12 @@ use Rattle.nm_model.specs.Run.{State, in_record, keyed, next_events, pends_befor
 use Rattle.nm_forward.specs.declared.counter.Counter.{Counter}
 use Rattle.nm_forward.specs.Counter.{counter_number}
 use Rattle.nm_forward.specs.State.{NodeStateValue}
+use Rattle.nm_forward.specs.declared.reaction.Reaction.{Reaction}
+use Rattle.nm_forward.specs.Reacting.{IsSent}
 use Rattle.nm_iface.specs.declared.port.Start.{Start}
 use Rattle.nm_base.specs.Count.{saturated}
 use Rattle.nm_sim.specs.Network.{here_of, is_iface_here, is_node_here, net_of}
-use Rattle.nm_sim.specs.Devices.{DevicesValue, DevicesRepresent}
+use Rattle.nm_sim.specs.Devices.{DeviceStates, DevicesValue, DevicesRepresent}
 use Rattle.nm_sim.specs.Outgoing.{HaveSpare, OutgoingRepresents, OutgoingValue}
 use Rattle.nm_sim.specs.Records.{RecordsRepresent, RecordsValue}
 use Rattle.nm_sim.specs.Effects.{Does, Done, IsPlaceIn, Sends}
@@ -38,6 +40,10 @@ pub record PartValue (L : Type 0) : Type 0 where
   pub records : RecordsValue
   pub steps : ℕ
 
+-- the states of nodes and ports in this state of a run
+abbrev pub states_in : Option ℕ → State (List ℕ) NodeStateValue → DeviceStates
+states_in part s = record { part = part; node = s.node; port = s.port }
+
 -- the part, whose event list has these pending events, is the whole network (None) or one
 -- partition of it, and represents this state of its run
 pub record Represents {L : Type 0} (pending : L → FinMap key_cmp (Event (List ℕ)))
@@ -45,7 +51,7 @@ pub record Represents {L : Type 0} (pending : L → FinMap key_cmp (Event (List 
     (s : State (List ℕ) NodeStateValue) : Type 0 where
   pub is_part : p.part ≡ part
   pub orderly : IsOrderly (net_of t) (here_of t part) s
-  pub devices : DevicesRepresent t part p.devices s.node s.port
+  pub devices : DevicesRepresent t (states_in part s) p.devices
   pub numbered : TimelineRepresents t p.timeline s.sent
   pub outgoing : OutgoingRepresents t part p.outgoing s.sent
   pub few : (c : ℕ) → length (s.sent c) ≤ p.steps
@@ -54,6 +60,12 @@ pub record Represents {L : Type 0} (pending : L → FinMap key_cmp (Event (List 
   pub records : RecordsRepresent t p.records s.records
   pub few_records : length s.records ≤ 2 * p.steps
   pub wanted : p.devices.wanted ≡ p.records.keeping.wanted
+
+-- it represents the state after this one, one event later
+abbrev pub RepresentsNext : {L : Type 0} → (L → FinMap key_cmp (Event (List ℕ))) → TopologyValue
+    → Option ℕ → PartValue L → State (List ℕ) NodeStateValue → Type 0
+RepresentsNext pending t part p s =
+    Represents pending t part p (step (net_of t) (here_of t part) s)
 
 -- a fact of each run that the part may stand in, on this network: of the part of the network and
 -- the state of its run
@@ -79,24 +91,52 @@ abbrev pub IsOfARun : {L : Type 0} → (L → FinMap key_cmp (Event (List ℕ)))
 IsOfARun pending p = (t : TopologyValue) × (part : Option ℕ) × (s : State (List ℕ) NodeStateValue)
     × Represents pending t part p s
 
--- An event was taken out of a part that represented this state. If a packet came with it, the
--- trace has it, and if another follows at its source, that is pending.
-pub record IsTaken {L : Type 0} (pending : L → FinMap key_cmp (Event (List ℕ))) (t : TopologyValue)
-    (part : Option ℕ) (time number : ℕ) (e : Event (List ℕ))
-    (came : Option (ℕ × List ℕ)) (follows : Option (ℕ × ℕ × List ℕ)) (p : PartValue L)
-    (s : State (List ℕ) NodeStateValue) : Type 0 where
-  pub first : least s.pending ≡ Some (keyed time number e)
-  pub is_part : p.part ≡ part
-  pub orderly : IsOrderly (net_of t) (here_of t part) s
-  pub numbered : TimelineRepresents t p.timeline s.sent
-  pub outgoing : OutgoingRepresents t part p.outgoing s.sent
-  pub few : (c : ℕ) → length (s.sent c) ≤ p.steps
+-- An event that is being done: of which part of the network, the state of its run before it, the
+-- event and its number at its place. If a packet came with it, the trace has it, and if another
+-- follows at its source, that is pending.
+pub record Doing : Type 0 where
+  pub part : Option ℕ
+  pub state : State (List ℕ) NodeStateValue
+  pub number : ℕ
+  pub event : Event (List ℕ)
+  pub came : Option (ℕ × List ℕ)
+  pub follows : Option (ℕ × ℕ × List ℕ)
+
+-- nothing of it is done yet
+abbrev pub to_do : Option ℕ → Key × Event (List ℕ) → State (List ℕ) NodeStateValue → Doing
+to_do part entry s = record {
+  part = part;
+  state = s;
+  number = entry.0.number;
+  event = entry.1;
+  came = None;
+  follows = None;
+}
+
+-- what is done of it in the end, with the transmission that starts, if one does
+abbrev pub done_with : Doing → Option (ℕ × Start) → Done
+done_with doing start = record {
+  came = doing.came;
+  transmission = start;
+  follows = doing.follows;
+}
+
+-- the event was taken out of the part, which represented the state before it
+pub record IsTaken {L : Type 0} (pending : L → FinMap key_cmp (Event (List ℕ)))
+    (t : TopologyValue) (time : ℕ) (doing : Doing) (p : PartValue L) : Type 0 where
+  pub first : least doing.state.pending ≡ Some (keyed time doing.number doing.event)
+  pub is_part : p.part ≡ doing.part
+  pub orderly : IsOrderly (net_of t) (here_of t doing.part) doing.state
+  pub numbered : TimelineRepresents t p.timeline doing.state.sent
+  pub outgoing : OutgoingRepresents t doing.part p.outgoing doing.state.sent
+  pub few : (c : ℕ) → length (doing.state.sent c) ≤ p.steps
   pub events : pending p.timeline.events
-      ≡ schedule everywhere (next_events number follows)
-      (remove s.pending (key_of time (event_place e) number))
-  pub placed : (q : Key) (y : Event (List ℕ)) → get s.pending q ≡ Some y → IsPlaceIn t q.place
-  pub records : RecordsRepresent t p.records (s.records ++ in_record time came)
-  pub few_records : length s.records ≤ 2 * p.steps
+      ≡ schedule everywhere (next_events doing.number doing.follows)
+      (remove doing.state.pending (key_of time (event_place doing.event) doing.number))
+  pub placed : (q : Key) (y : Event (List ℕ)) → get doing.state.pending q ≡ Some y
+      → IsPlaceIn t q.place
+  pub records : RecordsRepresent t p.records (doing.state.records ++ in_record time doing.came)
+  pub few_records : length doing.state.records ≤ 2 * p.steps
   pub wanted : p.devices.wanted ≡ p.records.keeping.wanted
 
 -- there is memory for all that an event may do
@@ -106,65 +146,71 @@ pub record HasMemory {L : Type 0} (room_of : L → ℕ) (p : PartValue L) : Type
   pub channels : HaveSpare p.outgoing
   pub spare : 2 ≤ p.records.spare
 
--- it was taken out and nothing of it is done, and there is memory for all that it may do
-pub record IsReady {L : Type 0} (pending : L → FinMap key_cmp (Event (List ℕ))) (room_of : L → ℕ)
-    (t : TopologyValue) (part : Option ℕ) (time number : ℕ) (e : Event (List ℕ))
-    (p : PartValue L) (s : State (List ℕ) NodeStateValue) : Type 0 where
-  pub taken : IsTaken pending t part time number e None None p s
-  pub devices : DevicesRepresent t part p.devices s.node s.port
-  pub soon : time ≤ MAX_TIME
-  pub steps : p.steps < 2 ^ 62
-  pub memory : HasMemory room_of p
-
--- its node has reacted, but nothing of what the node sends was offered to a port yet
-pub record HasReacted {L : Type 0} (pending : L → FinMap key_cmp (Event (List ℕ)))
-    (t : TopologyValue) (part : Option ℕ) (time number : ℕ) (e : Event (List ℕ))
-    (came : Option (ℕ × List ℕ)) (follows : Option (ℕ × ℕ × List ℕ)) (sent : Option (ℕ × List ℕ))
-    (node : ℕ → NodeStateValue) (p : PartValue L)
+-- the event of this entry was taken out, in this state of a run, and nothing of it is done
+pub record IsReady {L : Type 0} (pending : L → FinMap key_cmp (Event (List ℕ)))
+    (t : TopologyValue) (part : Option ℕ) (entry : Key × Event (List ℕ)) (p : PartValue L)
     (s : State (List ℕ) NodeStateValue) : Type 0 where
-  pub taken : IsTaken pending t part time number e came follows p s
-  pub represented : DevicesRepresent t part p.devices node s.port
-  pub does : (d : DevicesValue) (start : Option (ℕ × Start))
-      → Sends t part node s.port time sent d start
-      → Does t part s.node s.port time number e d (record {
-        came = came;
-        transmission = start;
-        follows = follows;
-      })
+  pub taken : IsTaken pending t entry.0.time (to_do part entry s) p
+  pub devices : DevicesRepresent t (states_in part s) p.devices
+  pub soon : entry.0.time ≤ MAX_TIME
+  pub steps : p.steps < 2 ^ 62
 
--- it was done, but that no transmission started yet
+-- Its node has reacted with this, but what the node sends was not offered to a port yet. Once it
+-- is, the event is done.
+pub record HasReacted {L : Type 0} (pending : L → FinMap key_cmp (Event (List ℕ)))
+    (t : TopologyValue) (time : ℕ) (reaction : Reaction) (doing : Doing)
+    (p : PartValue L) : Type 0 where
+  pub node : ℕ → NodeStateValue
+  pub sent : Option (ℕ × List ℕ)
+  pub taken : IsTaken pending t time doing p
+  pub is_sent : IsSent p.devices.ports reaction sent
+  pub represented : DevicesRepresent t (record (states_in doing.part doing.state) {
+    node = node;
+  }) p.devices
+  pub does : (d : DevicesValue) (start : Option (ℕ × Start))
+      → Sends t (record (states_in doing.part doing.state) { node = node }) time sent d start
+      → Does t (states_in doing.part doing.state) (keyed time doing.number doing.event) d
+      (done_with doing start)
+
+-- it was done, but the transmission that starts with it, if one does, is not pending yet
 pub record IsUnderWay {L : Type 0} (pending : L → FinMap key_cmp (Event (List ℕ)))
-    (t : TopologyValue) (part : Option ℕ) (time number : ℕ) (e : Event (List ℕ))
-    (done : Done) (p : PartValue L) (s : State (List ℕ) NodeStateValue) : Type 0 where
-  pub taken : IsTaken pending t part time number e done.came done.follows p s
-  pub does : Does t part s.node s.port time number e p.devices done
+    (t : TopologyValue) (time : ℕ) (start : Option (ℕ × Start)) (doing : Doing)
+    (p : PartValue L) : Type 0 where
+  pub taken : IsTaken pending t time doing p
+  pub does : Does t (states_in doing.part doing.state) (keyed time doing.number doing.event)
+      p.devices (done_with doing start)
 
 -- what became of it: it was done, or is back where it was
-abbrev pub Performed : {L : Type 0} → (L → FinMap key_cmp (Event (List ℕ))) → (L → ℕ)
-    → TopologyValue → ℕ → ℕ → Event (List ℕ)
-    → PartValue L → PartValue L → Result Unit AllocError → Type 0
-Performed pending room t time number e old new (Ok u) =
-    ((part : Option ℕ) (s : State (List ℕ) NodeStateValue)
-    → IsReady pending room t part time number e old s
-    → Represents pending t part new (step (net_of t) (here_of t part) s))
+abbrev pub Performed : {L : Type 0} → (L → FinMap key_cmp (Event (List ℕ))) → TopologyValue
+    → Key × Event (List ℕ) → PartValue L → PartValue L → Result Unit AllocError → Type 0
+Performed pending t entry old new (Ok u) =
+    ((part : Option ℕ) (s : State (List ℕ) NodeStateValue) → IsReady pending t part entry old s
+    → RepresentsNext pending t part new s)
     × (new.steps ≡ old.steps + 1) × (new.records.keeping ≡ old.records.keeping)
-Performed pending room t time number e old new (Err x) =
-    ((part : Option ℕ) (s : State (List ℕ) NodeStateValue)
-    → IsReady pending room t part time number e old s
-    → Represents pending t part new s) × (new.steps ≡ old.steps)
-    × (new.records.keeping ≡ old.records.keeping)
+Performed pending t entry old new (Err x) =
+    ((part : Option ℕ) (s : State (List ℕ) NodeStateValue) → IsReady pending t part entry old s
+    → Represents pending t part new s)
+    × (new.steps ≡ old.steps) × (new.records.keeping ≡ old.records.keeping)
+
+-- a run that is to go on until a time: of which part of the network, and in which state it is
+pub record RunUntil : Type 0 where
+  pub part : Option ℕ
+  pub state : State (List ℕ) NodeStateValue
+  pub until : ℕ
+
+-- whether an event of it comes before that time
+abbrev pub is_event_due : RunUntil → Bool
+is_event_due run = pends_before run.until run.state
 
 -- what a step answers, and what the part represents after it: that memory was refused only where
 -- an event was due
-abbrev pub Stepped : {L : Type 0} → (L → FinMap key_cmp (Event (List ℕ))) → TopologyValue → Option ℕ
-    → ℕ → State (List ℕ) NodeStateValue
+abbrev pub Stepped : {L : Type 0} → (L → FinMap key_cmp (Event (List ℕ))) → TopologyValue → RunUntil
     → PartValue L → PartValue L → Result (Option Key) AllocError → Type 0
-Stepped pending t part before s old new (Ok None) = (new ≡ old) × (pends_before before s ≡ false)
-Stepped pending t part before s old new (Ok (Some k)) =
-    Represents pending t part new (step (net_of t) (here_of t part) s)
-    × (pends_before before s ≡ true) × (option_map (λ e. e.0) (least s.pending) ≡ Some k)
-Stepped pending t part before s old new (Err e) =
-    Represents pending t part new s × (pends_before before s ≡ true)
+Stepped pending t run old new (Ok None) = (new ≡ old) × (is_event_due run ≡ false)
+Stepped pending t run old new (Ok (Some k)) = RepresentsNext pending t run.part new run.state
+    × (is_event_due run ≡ true) × (option_map (λ e. e.0) (least run.state.pending) ≡ Some k)
+Stepped pending t run old new (Err e) =
+    Represents pending t run.part new run.state × (is_event_due run ≡ true)
 
 -- how many events a step did
 abbrev pub events_done : Result (Option Key) AllocError → ℕ
@@ -180,13 +226,12 @@ events_counted (Err e) = 0
 
 -- the same where only whether there was an event is answered
 abbrev pub Advanced : {L : Type 0} → (L → FinMap key_cmp (Event (List ℕ))) → TopologyValue
-    → Option ℕ → ℕ → State (List ℕ) NodeStateValue
-    → PartValue L → PartValue L → Result Bool AllocError → Type 0
-Advanced pending t part before s old new (Ok false) = (new ≡ old) × (pends_before before s ≡ false)
-Advanced pending t part before s old new (Ok true) = Represents pending t part new
-    (step (net_of t) (here_of t part) s) × (pends_before before s ≡ true)
-Advanced pending t part before s old new (Err e) =
-    Represents pending t part new s × (pends_before before s ≡ true)
+    → RunUntil → PartValue L → PartValue L → Result Bool AllocError → Type 0
+Advanced pending t run old new (Ok false) = (new ≡ old) × (is_event_due run ≡ false)
+Advanced pending t run old new (Ok true) =
+    RepresentsNext pending t run.part new run.state × (is_event_due run ≡ true)
+Advanced pending t run old new (Err e) =
+    Represents pending t run.part new run.state × (is_event_due run ≡ true)
 
 -- a packet's arrival at an interface, with its number, is pending too
 abbrev pub with_arrival : ℕ → ℕ → ℕ → List ℕ → State (List ℕ) NodeStateValue
@@ -228,5 +273,5 @@ completes_at (Some b) = b.completes
 
 abbrev pub busy_at : TopologyValue → Option ℕ → State (List ℕ) NodeStateValue → ℕ → ℕ
 busy_at t part s c =
-    let i = (net_of t).peer (receiving_iface t c) in
+    let i = (net_of t).far_end (receiving_iface t c) in
     if ltb i (length t.ifaces) && is_iface_here t part i then completes_at (s.port i).busy else 0

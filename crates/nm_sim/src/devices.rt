@@ -6,8 +6,9 @@ ghost use Rattle.nm_base.specs.declared.limits.TheConstants.{MAX_TIME};
 ghost use Rattle.nm_base.specs.declared.event.Origin.TheVariants.{Arrival, Source as FromSource};
 ghost use Rattle.nm_base.specs.declared.event.Event.TheVariants.{Completion};
 ghost use Rattle.nm_model.specs.Network.{node_of};
-ghost use Rattle.nm_model.specs.Port.{Port as PortState, idle_port, waiting_of};
-ghost use Rattle.nm_forward.specs.State.{NodeStateValue, first_state};
+ghost use Rattle.nm_model.specs.Port.{idle_port, waiting_of};
+ghost use Rattle.nm_model.specs.Run.{keyed};
+ghost use Rattle.nm_forward.specs.State.{first_state};
 ghost use Rattle.nm_forward.specs.Reaction.{FitsOrigin};
 ghost use Rattle.nm_base.specs.Wanted.{is_wanted};
 ghost use Rattle.nm_forward.specs.Reacting.{IsSent, PassesNone, PassesUnwanted, iface_of};
@@ -16,8 +17,8 @@ ghost use Rattle.nm_sim.specs.Network.{first_here, is_iface_here as iface_here};
 ghost use Rattle.nm_sim.specs.Network.{is_node_here as node_here, is_source_here as source_here};
 ghost use Rattle.nm_sim.specs.Network.{net_of};
 ghost use Rattle.nm_sim.specs.Tables.{AllHere, AllSome, IsMember, IsThere};
-ghost use Rattle.nm_sim.specs.Devices.{DevicesRepresent, IsNodeOf, IsPortOf, IsSame, IsSamePort};
-ghost use Rattle.nm_sim.specs.Devices.{DevicesRepresentSome};
+ghost use Rattle.nm_sim.specs.Devices.{DeviceStates, DevicesRepresent, DevicesRepresentSome};
+ghost use Rattle.nm_sim.specs.Devices.{IsNodeOf, IsPortOf, IsSame, IsSamePort};
 ghost use Rattle.nm_traffic.specs.Source.{source_at, source_of};
 ghost use Rattle.nm_forward.specs.Counter.{counter_number};
 ghost use Rattle.std.specs.Option.{option_and_then, option_map};
@@ -94,11 +95,10 @@ fn first_nodes(
     ensures value { IfOk result (λ v. AllHere (node_here topology.now part.now)
         (λ i n. IsNodeOf topology.now i n (first_state topology.now i)) v.items) }
 {
-    accepted_topologies_are_in_order(topology); // law: nodes have numbers of 32 bits
     let count = topology.nodes().len();
     let mut nodes = Vec::with_capacity(alloc, count)?;
     for number in 0..count {
-        let node = first_node(alloc, topology, part, NodeNo::new(number as u32))?;
+        let node = first_node(alloc, topology, part, topology.node_number(number))?;
         nodes.push(node)?;
     }
     Ok(nodes)
@@ -146,11 +146,10 @@ fn first_ports(
     ensures recorded { IfOk result
         (λ v. AllSome (λ i w. w.recorded ≡ is_wanted wanted.now i) v.items) }
 {
-    accepted_topologies_are_in_order(topology); // law: interfaces have numbers of 32 bits
     let count = topology.ifaces().len();
     let mut ports = Vec::with_capacity(alloc, count)?;
     for number in 0..count {
-        let port = first_port(alloc, topology, part, wanted, IfaceNo::new(number as u32))?;
+        let port = first_port(alloc, topology, part, wanted, topology.iface_number(number))?;
         ports.push(port)?;
     }
     Ok(ports)
@@ -185,11 +184,10 @@ fn first_sources(
     ensures value { IfOk result (λ v. AllHere (source_here topology.now part.now)
         (λ j s. source_of topology.now j ≡ Some s) v.items) }
 {
-    accepted_topologies_are_in_order(topology); // law: sources have numbers of 32 bits
     let count = topology.sources().len();
     let mut sources = Vec::with_capacity(alloc, count)?;
     for number in 0..count {
-        let source = first_source(alloc, topology, part, SourceNo::new(number as u32))?;
+        let source = first_source(alloc, topology, part, topology.source_number(number))?;
         sources.push(source)?;
     }
     Ok(sources)
@@ -224,8 +222,11 @@ impl Devices {
         part: &Option<PartNo>,
         wanted: &Wanted,
     ) -> Result<Self, AllocError>
-        ensures represent { IfOk result (λ d. DevicesRepresent topology.now part.now d
-            (first_state topology.now) (λ i. idle_port)) }
+        ensures represent { IfOk result (DevicesRepresent topology.now (record {
+          part = part.now;
+          node = first_state topology.now;
+          port = λ i. idle_port;
+        })) }
         ensures wanted { IfOk result (λ d. d.wanted ≡ wanted.now) }
     {
         Ok(Devices {
@@ -246,9 +247,8 @@ impl Devices {
     ) -> Result<Option<(Time, SourcePacket)>, AllocError>
         requires place { source < length topology.now.sources }
         requires represented { DevicesRepresentSome topology.now self.now }
-        ensures { (part : Option ℕ) (node : ℕ → NodeStateValue) (port : ℕ → PortState (List ℕ))
-            → DevicesRepresent topology.now part self.now node port
-            → IfOk result (λ p. p ≡ first_here topology.now part source) }
+        ensures { (states : DeviceStates) → DevicesRepresent topology.now states self.now
+            → IfOk result (λ p. p ≡ first_here topology.now states.part source) }
     {
         match &self.sources[source.index()] {
             Some(state) => state.next(alloc, 0),
@@ -336,11 +336,10 @@ impl Devices {
         requires own { IfSome (iface_of reaction) (λ i. IsMember (slice_get self.old.ports i)) }
         requires room { AllSome (λ i w. 1 ≤ w.room) self.old.ports }
         requires passes { PassesUnwanted self.old.wanted reaction }
-        ensures sends { (part : Option ℕ) (node : ℕ → NodeStateValue)
-            (port : ℕ → PortState (List ℕ)) (sent : Option (ℕ × List ℕ))
-            → DevicesRepresent topology.now part self.old node port
+        ensures sends { (states : DeviceStates) (sent : Option (ℕ × List ℕ))
+            → DevicesRepresent topology.now states self.old
             → IsSent self.old.ports reaction sent
-            → Sends topology.now part node port time sent self.new result }
+            → Sends topology.now states time sent self.new result }
         ensures copied { IfSome result (IsCopied self.old.wanted) }
         ensures wanted { self.new.wanted ≡ self.old.wanted }
     {
@@ -367,10 +366,9 @@ impl Devices {
         requires time { time ≤ MAX_TIME }
         requires own { IsMember (slice_get self.old.ports iface) }
         requires room { AllSome (λ i w. 1 ≤ w.room) self.old.ports }
-        ensures sends { (part : Option ℕ) (node : ℕ → NodeStateValue)
-            (port : ℕ → PortState (List ℕ))
-            → DevicesRepresent topology.now part self.old node port
-            → Sends topology.now part node port time (Some (iface, twin.packet)) self.new result }
+        ensures sends { (states : DeviceStates)
+            → DevicesRepresent topology.now states self.old
+            → Sends topology.now states time (Some (iface, twin.packet)) self.new result }
         ensures copied { IfSome result (IsCopied self.old.wanted) }
         ensures wanted { self.new.wanted ≡ self.old.wanted }
     {
@@ -395,10 +393,9 @@ impl Devices {
         requires own { IsMember (slice_get self.old.ports iface) }
         requires room { AllSome (λ i w. 1 ≤ w.room) self.old.ports }
         requires unwanted { is_wanted self.old.wanted iface ≡ false }
-        ensures sends { (part : Option ℕ) (node : ℕ → NodeStateValue)
-            (port : ℕ → PortState (List ℕ))
-            → DevicesRepresent topology.now part self.old node port
-            → Sends topology.now part node port time (Some (iface, packet)) self.new result }
+        ensures sends { (states : DeviceStates)
+            → DevicesRepresent topology.now states self.old
+            → Sends topology.now states time (Some (iface, packet)) self.new result }
         ensures copied { IfSome result (IsCopied self.old.wanted) }
         ensures wanted { self.new.wanted ≡ self.old.wanted }
     {
@@ -414,11 +411,10 @@ impl Devices {
     #[inline(always)]
     fn drop_at(&mut self, topology: &Topology, iface: IfaceNo)
         requires { IsMember (slice_get self.old.ports iface) }
-        ensures drops { (part : Option ℕ) (node : ℕ → NodeStateValue)
-            (port : ℕ → PortState (List ℕ)) (time : ℕ) (packet : List ℕ)
-            → DevicesRepresent topology.now part self.old node port
+        ensures drops { (states : DeviceStates) (time : ℕ) (packet : List ℕ)
+            → DevicesRepresent topology.now states self.old
             → IsRefusedAt self.old.ports iface packet
-            → Sends topology.now part node port time (Some (iface, packet)) self.new None }
+            → Sends topology.now states time (Some (iface, packet)) self.new None }
         ensures wanted { self.new.wanted ≡ self.old.wanted }
     {
         let Some(port) = &mut self.ports[iface.index()] else {
@@ -451,11 +447,10 @@ impl Devices {
         ensures wanted { self.new.wanted ≡ self.old.wanted }
         ensures own { IfOk result
             (λ r. IfSome (iface_of r) (λ i. IsMember (slice_get self.new.ports i))) }
-        ensures reacts { (part : Option ℕ) (states : ℕ → NodeStateValue)
-            (ports : ℕ → PortState (List ℕ))
-            → DevicesRepresent topology.now part self.old states ports
+        ensures reacts { (states : DeviceStates)
+            → DevicesRepresent topology.now states self.old
             → IfOk result
-            (ReactsWith topology.now part states ports node origin packet.now self.new) }
+            (ReactsWith topology.now states node (origin, packet.now) self.new) }
     {
         a_node_sends_by_its_own_interfaces(topology); // law: what is sent leaves by an interface
         let Some(state) = &mut self.nodes[node.index()] else {
@@ -488,12 +483,11 @@ impl Devices {
         ensures wanted { self.new.wanted ≡ self.old.wanted }
         ensures own { IfOk result
             (λ r. IfSome (iface_of r) (λ i. IsMember (slice_get self.new.ports i))) }
-        ensures reacts { (part : Option ℕ) (states : ℕ → NodeStateValue)
-            (ports : ℕ → PortState (List ℕ))
-            → DevicesRepresent topology.now part self.old states ports
+        ensures reacts { (states : DeviceStates)
+            → DevicesRepresent topology.now states self.old
             → IfOk result
-            (ReactsWith topology.now part states ports ((net_of topology.now).owner iface)
-            (Arrival iface) packet.now self.new) }
+            (ReactsWith topology.now states ((net_of topology.now).owner iface)
+            (Arrival iface, packet.now) self.new) }
     {
         accepted_topologies_are_in_order(topology); // law: an interface's node is there
         let node = topology.iface(iface).node();
@@ -526,11 +520,10 @@ impl Devices {
         ensures wanted { self.new.wanted ≡ self.old.wanted }
         ensures own { IfOk result
             (λ r. IfSome (iface_of r) (λ i. IsMember (slice_get self.new.ports i))) }
-        ensures reacts { (part : Option ℕ) (states : ℕ → NodeStateValue)
-            (ports : ℕ → PortState (List ℕ))
-            → DevicesRepresent topology.now part self.old states ports
+        ensures reacts { (states : DeviceStates)
+            → DevicesRepresent topology.now states self.old
             → IfOk result
-            (ReactsWith topology.now part states ports node (Arrival iface) packet self.new) }
+            (ReactsWith topology.now states node (Arrival iface, packet) self.new) }
     {
         a_node_sends_by_its_own_interfaces(topology); // law: what is sent leaves by an interface
         let Some(state) = &mut self.nodes[node.index()] else {
@@ -564,12 +557,11 @@ impl Devices {
         ensures wanted { self.new.wanted ≡ self.old.wanted }
         ensures own { IfOk result
             (λ r. IfSome (iface_of r) (λ i. IsMember (slice_get self.new.ports i))) }
-        ensures reacts { (part : Option ℕ) (states : ℕ → NodeStateValue)
-            (ports : ℕ → PortState (List ℕ))
-            → DevicesRepresent topology.now part self.old states ports
+        ensures reacts { (states : DeviceStates)
+            → DevicesRepresent topology.now states self.old
             → IfOk result
-            (ReactsWith topology.now part states ports ((net_of topology.now).owner iface)
-            (Arrival iface) packet self.new) }
+            (ReactsWith topology.now states ((net_of topology.now).owner iface)
+            (Arrival iface, packet) self.new) }
     {
         accepted_topologies_are_in_order(topology); // law: an interface's node is there
         let node = topology.iface(iface).node();
@@ -587,10 +579,9 @@ impl Devices {
     ) -> Option<(IfaceNo, Start)>
         requires time { time ≤ MAX_TIME }
         requires busy { IsBusy (slice_get self.old.ports iface) }
-        ensures does { (part : Option ℕ) (states : ℕ → NodeStateValue)
-            (ports : ℕ → PortState (List ℕ)) (number : ℕ)
-            → DevicesRepresent topology.now part self.old states ports
-            → Does topology.now part states ports time number (Completion iface) self.new
+        ensures does { (states : DeviceStates) (number : ℕ)
+            → DevicesRepresent topology.now states self.old
+            → Does topology.now states (keyed time number (Completion iface)) self.new
             (record { came = None; transmission = result; follows = None }) }
         ensures copied { IfSome result (IsCopied self.old.wanted) }
         ensures wanted { self.new.wanted ≡ self.old.wanted }
@@ -629,13 +620,11 @@ impl Devices {
             (λ f. IfSome (iface_of f.reaction) (λ i. IsMember (slice_get self.new.ports i))) }
         ensures follows { IfOk result
             (λ f. f.follows ≡ source_at topology.now source (number + 1)) }
-        ensures reacts { (part : Option ℕ) (states : ℕ → NodeStateValue)
-            (ports : ℕ → PortState (List ℕ))
-            → DevicesRepresent topology.now part self.old states ports
+        ensures reacts { (states : DeviceStates)
+            → DevicesRepresent topology.now states self.old
             → IfOk result
-            (λ f. ReactsWith topology.now part states ports
-            ((net_of topology.now).source_node source) (FromSource source) packet.now self.new
-            f.reaction) }
+            (λ f. ReactsWith topology.now states ((net_of topology.now).source_node source)
+            (FromSource source, packet.now) self.new f.reaction) }
     {
         let Some(state) = &self.sources[source.index()] else {
             return Ok(Fired {

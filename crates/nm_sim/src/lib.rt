@@ -3,8 +3,10 @@
 #![tactic(auto)]
 
 mod devices;
+mod due;
 mod fired;
 mod here;
+mod in_flight;
 pub mod network;
 mod outgoing;
 pub mod part;

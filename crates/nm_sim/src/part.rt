@@ -13,19 +13,20 @@ ghost use Rattle.std.specs.Option.{option_map};
 ghost use Rattle.nm_model.specs.EventList.{least, schedule};
 ghost use Rattle.nm_model.specs.Partition.{comes_in};
 ghost use Rattle.nm_model.specs.Port.{Port as PortState};
-ghost use Rattle.nm_model.specs.Run.{State, start, step, source_events};
+ghost use Rattle.nm_model.specs.Run.{State, keyed, start, source_events};
 ghost use Rattle.nm_forward.specs.State.{NodeStateValue};
 ghost use Rattle.nm_forward.specs.Reaction.{FitsOrigin};
-ghost use Rattle.nm_forward.specs.Reacting.{IsSent, PassesUnwanted, iface_of};
+ghost use Rattle.nm_forward.specs.Reacting.{PassesUnwanted, iface_of};
 ghost use Rattle.nm_base.specs.Wanted.{is_wanted};
 ghost use Rattle.nm_base.specs.declared.wanted.Wanted.TheVariants.{All as AllWanted};
 ghost use Rattle.nm_sim.specs.Effects.{IsCopied};
 ghost use Rattle.nm_sim.specs.Records.{cut};
 ghost use Rattle.nm_sim.specs.Network.{here_of, net_of};
 ghost use Rattle.nm_sim.specs.Outgoing.{HaveSpare};
-ghost use Rattle.nm_sim.specs.Part.{Advanced, HasMemory, HasReacted, IsReady, IsUnderWay};
+ghost use Rattle.nm_sim.specs.Part.{Advanced, Doing, HasMemory, HasReacted, IsReady, IsUnderWay};
 ghost use Rattle.nm_sim.specs.Part.{IsOfARun, IsOfARunIn, OfTheRun, OfTheRunIn};
-ghost use Rattle.nm_sim.specs.Part.{Performed, Represents, Stepped, busy_at, count_at, drops_at};
+ghost use Rattle.nm_sim.specs.Part.{Performed, Represents, RepresentsNext, Stepped};
+ghost use Rattle.nm_sim.specs.Part.{busy_at, count_at, drops_at};
 ghost use Rattle.nm_sim.specs.Part.{events_counted, events_done, messages_out, waiting_at};
 ghost use Rattle.nm_sim.specs.Part.{with_arrival};
 ghost use Rattle.nm_sim.specs.Totals.{totals_at};
@@ -36,6 +37,7 @@ ghost use Rattle.nm_sim.specs.Tables.{AllSome, IsMember};
 ghost use Rattle.std.specs.Prelude.{drop, if◌then◌else◌, is_some, slice_get};
 
 use crate::devices::Devices;
+use crate::due::Due;
 use crate::network::{channels_are_those_of_the_network, every_topology_is_a_network};
 use crate::outgoing::Outgoing;
 use crate::records::Records;
@@ -96,17 +98,20 @@ fn first_timeline<L: EventList + Drop>(
     devices: &Devices,
 ) -> Result<Timeline<L>, AllocError>
     requires { (node : ℕ → NodeStateValue) × (port : ℕ → PortState (List ℕ))
-        × DevicesRepresent topology.now part.now devices.now node port }
+        × DevicesRepresent topology.now (record {
+          part = part.now;
+          node = node;
+          port = port;
+        }) devices.now }
     ensures events { IfOk result (λ l. L.pending l.events
         ≡ schedule (here_of topology.now part.now)
         (source_events (net_of topology.now) (length topology.now.sources)) empty) }
     ensures sent { IfOk result (λ l. l.sent ≡ replicate (length topology.now.ifaces) 0) }
 {
-    accepted_topologies_are_in_order(topology); // law: sources have numbers of 32 bits
     let mut timeline = Timeline::new(alloc, topology.ifaces().len())?;
     let count = topology.sources().len();
     for number in 0..count {
-        let source = SourceNo::new(number as u32);
+        let source = topology.source_number(number);
         timeline.reserve(1)?;
         let first = devices.first_packet(alloc, topology, source)?;
         timeline.schedule_first(source, first);
@@ -251,7 +256,11 @@ impl<L: EventList> Part<L> {
         requires before { before ≤ topology.now.stop }
         requires represents { IsOfARunIn L.pending topology.now self.old }
         ensures step { OfTheRunIn L.pending topology.now self.old
-            (λ part s. Stepped L.pending topology.now part before s self.old self.new result) }
+            (λ part s. Stepped L.pending topology.now (record {
+              part = part;
+              state = s;
+              until = before;
+            }) self.old self.new result) }
         ensures steps { self.new.steps ≡ self.old.steps + events_done result }
         ensures keeping { self.new.records.keeping ≡ self.old.records.keeping }
     {
@@ -275,7 +284,11 @@ impl<L: EventList> Part<L> {
         requires before { before ≤ topology.now.stop }
         requires represents { IsOfARunIn L.pending topology.now self.old }
         ensures advance { OfTheRunIn L.pending topology.now self.old
-            (λ part s. Advanced L.pending topology.now part before s self.old self.new result) }
+            (λ part s. Advanced L.pending topology.now (record {
+              part = part;
+              state = s;
+              until = before;
+            }) self.old self.new result) }
         ensures steps { self.new.steps ≡ self.old.steps + events_counted result }
         ensures keeping { self.new.records.keeping ≡ self.old.records.keeping }
     {
@@ -363,7 +376,7 @@ impl<L: EventList> Part<L> {
         if receiver.index() >= topology.ifaces().len() {
             return Time::from_nanoseconds(0);
         }
-        let sender = topology.iface(receiver).far().peer;
+        let sender = topology.iface(receiver).far().iface;
         self.devices.busy(sender)
     }
 
@@ -485,8 +498,7 @@ impl<L: EventList> Part<L> {
 
         // On success one step of the run was done; else none was.
         ensures ok { OnOk result (OfTheRunIn L.pending topology.now self.old
-            (λ part s. Represents L.pending topology.now part self.new
-            (step (net_of topology.now) (here_of topology.now part) s))) }
+            (λ part s. RepresentsNext L.pending topology.now part self.new s)) }
         ensures err { OnErr result (OfTheRunIn L.pending topology.now self.old
             (λ part s. Represents L.pending topology.now part self.new s)) }
 
@@ -498,11 +510,11 @@ impl<L: EventList> Part<L> {
         ensures keeping { self.new.records.keeping ≡ self.old.records.keeping }
     {
         accepted_topologies_are_in_order(topology); // law: `stop` is within its limit
-        let Some(due) = self.timeline.take_least() else {
+        let Some(entry) = self.timeline.take_least() else {
             return Ok(());
         };
-        let (time, number, event) = due;
-        self.dispatch(alloc, topology, time, number, event)
+        let (time, number, event) = entry;
+        self.dispatch(alloc, topology, Due { time, number }, event)
     }
 
     /// An event that was taken out happens. An `Err` puts it back.
@@ -511,25 +523,25 @@ impl<L: EventList> Part<L> {
         &mut self,
         alloc: Global,
         topology: &Topology,
-        time: Time,
-        number: u64,
+        due: Due,
         event: Event,
     ) -> Result<(), AllocError>
-        requires { (part : Option ℕ) × (s : State (List ℕ) NodeStateValue)
-            × IsReady L.pending L.room topology.now part time number event self.old s }
-        ensures { Performed L.pending L.room topology.now time number event
+        requires ready { (part : Option ℕ) × (s : State (List ℕ) NodeStateValue)
+            × IsReady L.pending topology.now part (keyed due.time due.number event) self.old s }
+        requires memory { HasMemory L.room self.old }
+        ensures { Performed L.pending topology.now (keyed due.time due.number event)
             self.old self.new result }
     {
         accepted_topologies_are_in_order(topology); // law: the far end is there
         source_times_rise(topology); // law: packets have octets
         match event {
             Event::Completion(iface) => {
-                self.complete(topology, time, iface);
+                self.complete(topology, due, iface);
                 Ok(())
             }
             Event::Delivery(origin, packet) => match origin {
-                Origin::Arrival(iface) => self.arrive(alloc, topology, time, iface, number, packet),
-                Origin::Source(source) => self.fire(alloc, topology, time, source, number, packet),
+                Origin::Arrival(iface) => self.arrive(alloc, topology, due, iface, packet),
+                Origin::Source(source) => self.fire(alloc, topology, due, source, packet),
             },
         }
     }
@@ -540,21 +552,22 @@ impl<L: EventList> Part<L> {
         &mut self,
         alloc: Global,
         topology: &Topology,
-        time: Time,
+        due: Due,
         iface: IfaceNo,
-        number: u64,
         packet: Packet,
     ) -> Result<(), AllocError>
-        requires { (part : Option ℕ) × (s : State (List ℕ) NodeStateValue)
-            × IsReady L.pending L.room topology.now part time number
-            (Delivery (Arrival iface) packet) self.old s }
-        ensures { Performed L.pending L.room topology.now time number
-            (Delivery (Arrival iface) packet) self.old self.new result }
+        requires ready { (part : Option ℕ) × (s : State (List ℕ) NodeStateValue)
+            × IsReady L.pending topology.now part
+            (keyed due.time due.number (Delivery (Arrival iface) packet)) self.old s }
+        requires memory { HasMemory L.room self.old }
+        ensures { Performed L.pending topology.now
+            (keyed due.time due.number (Delivery (Arrival iface) packet))
+            self.old self.new result }
     {
         if self.records.wants(iface) {
-            self.arrive_recorded(alloc, topology, time, iface, number, packet)
+            self.arrive_recorded(alloc, topology, due, iface, packet)
         } else {
-            self.arrive_alone(alloc, topology, time, iface, number, packet)
+            self.arrive_alone(alloc, topology, due, iface, packet)
         }
     }
 
@@ -564,28 +577,29 @@ impl<L: EventList> Part<L> {
         &mut self,
         alloc: Global,
         topology: &Topology,
-        time: Time,
+        due: Due,
         iface: IfaceNo,
-        number: u64,
         packet: Packet,
     ) -> Result<(), AllocError>
         requires unwanted { is_wanted self.old.records.keeping.wanted iface ≡ false }
         requires ready { (part : Option ℕ) × (s : State (List ℕ) NodeStateValue)
-            × IsReady L.pending L.room topology.now part time number
-            (Delivery (Arrival iface) packet) self.old s }
-        ensures { Performed L.pending L.room topology.now time number
-            (Delivery (Arrival iface) packet) self.old self.new result }
+            × IsReady L.pending topology.now part
+            (keyed due.time due.number (Delivery (Arrival iface) packet)) self.old s }
+        requires memory { HasMemory L.room self.old }
+        ensures { Performed L.pending topology.now
+            (keyed due.time due.number (Delivery (Arrival iface) packet))
+            self.old self.new result }
     {
         let octets = packet.octet_count() as u16;
         match self.devices.react_in_place(alloc, topology, iface, packet) {
             Ok(reaction) => {
                 self.records.count_arrival(iface, octets);
-                self.send(topology, time, reaction);
+                self.send(topology, due.time, reaction);
                 Ok(())
             }
             Err(packet) => {
                 let event = Event::Delivery(Origin::Arrival(iface), packet);
-                self.timeline.put(time, number, event);
+                self.timeline.put(due.time, due.number, event);
                 Err(AllocError)
             }
         }
@@ -597,42 +611,44 @@ impl<L: EventList> Part<L> {
         &mut self,
         alloc: Global,
         topology: &Topology,
-        time: Time,
+        due: Due,
         iface: IfaceNo,
-        number: u64,
         packet: Packet,
     ) -> Result<(), AllocError>
         requires wanted { is_wanted self.old.records.keeping.wanted iface ≡ true }
         requires ready { (part : Option ℕ) × (s : State (List ℕ) NodeStateValue)
-            × IsReady L.pending L.room topology.now part time number
-            (Delivery (Arrival iface) packet) self.old s }
-        ensures { Performed L.pending L.room topology.now time number
-            (Delivery (Arrival iface) packet) self.old self.new result }
+            × IsReady L.pending topology.now part
+            (keyed due.time due.number (Delivery (Arrival iface) packet)) self.old s }
+        requires memory { HasMemory L.room self.old }
+        ensures { Performed L.pending topology.now
+            (keyed due.time due.number (Delivery (Arrival iface) packet))
+            self.old self.new result }
     {
         let Ok(reaction) = self
             .devices
             .react_to_arrival(alloc, topology, iface, &packet)
         else {
             let event = Event::Delivery(Origin::Arrival(iface), packet);
-            self.timeline.put(time, number, event);
+            self.timeline.put(due.time, due.number, event);
             return Err(AllocError);
         };
-        self.records.record_arrival(time, iface, packet);
-        self.send(topology, time, reaction);
+        self.records.record_arrival(due.time, iface, packet);
+        self.send(topology, due.time, reaction);
         Ok(())
     }
 
     /// A transmission is complete.
     #[inline(always)]
-    fn complete(&mut self, topology: &Topology, time: Time, iface: IfaceNo)
-        requires { (number : ℕ) × (part : Option ℕ) × (s : State (List ℕ) NodeStateValue)
-            × IsReady L.pending L.room topology.now part time number (Completion iface)
-            self.old s }
-        ensures { (number : ℕ) → Performed L.pending L.room topology.now time number
-            (Completion iface) self.old self.new (Ok tt) }
+    fn complete(&mut self, topology: &Topology, due: Due, iface: IfaceNo)
+        requires ready { (part : Option ℕ) × (s : State (List ℕ) NodeStateValue)
+            × IsReady L.pending topology.now part
+            (keyed due.time due.number (Completion iface)) self.old s }
+        requires memory { HasMemory L.room self.old }
+        ensures { Performed L.pending topology.now
+            (keyed due.time due.number (Completion iface)) self.old self.new (Ok tt) }
     {
-        let start = self.devices.complete(topology, time, iface);
-        self.finish(topology, time, start);
+        let start = self.devices.complete(topology, due.time, iface);
+        self.finish(topology, due.time, start);
     }
 
     /// A source hands a packet over. An `Err` puts the event back.
@@ -641,31 +657,33 @@ impl<L: EventList> Part<L> {
         &mut self,
         alloc: Global,
         topology: &Topology,
-        time: Time,
+        due: Due,
         source: SourceNo,
-        number: u64,
         packet: Packet,
     ) -> Result<(), AllocError>
         requires fits { FitsOrigin topology.now (FromSource source) packet }
-        requires number { number < 2 ^ 63 }
+        requires number { due.number < 2 ^ 63 }
         requires ready { (part : Option ℕ) × (s : State (List ℕ) NodeStateValue)
-            × IsReady L.pending L.room topology.now part time number
-            (Delivery (FromSource source) packet) self.old s }
-        ensures { Performed L.pending L.room topology.now time number
-            (Delivery (FromSource source) packet) self.old self.new result }
+            × IsReady L.pending topology.now part
+            (keyed due.time due.number (Delivery (FromSource source) packet)) self.old s }
+        requires memory { HasMemory L.room self.old }
+        ensures { Performed L.pending topology.now
+            (keyed due.time due.number (Delivery (FromSource source) packet))
+            self.old self.new result }
     {
         every_topology_is_a_network(topology); // law: `net_of` is a network of the model
         new_keys_are_new::<Packet, NodeState>(); // law: no event to come has the next key
         let Ok(fired) = self
             .devices
-            .react_to_source(alloc, topology, source, number, &packet)
+            .react_to_source(alloc, topology, source, due.number, &packet)
         else {
             let event = Event::Delivery(Origin::Source(source), packet);
-            self.timeline.put(time, number, event);
+            self.timeline.put(due.time, due.number, event);
             return Err(AllocError);
         };
-        self.timeline.schedule_next(source, number, fired.follows);
-        self.send(topology, time, fired.reaction);
+        self.timeline
+            .schedule_next(source, due.number, fired.follows);
+        self.send(topology, due.time, fired.reaction);
         Ok(())
     }
 
@@ -687,20 +705,11 @@ impl<L: EventList> Part<L> {
         requires spare { 1 ≤ self.old.records.spare }
 
         // The node has reacted, and the step is done.
-        requires reacted { (part : Option ℕ) × (n : ℕ) × (e : PendingEvent (List ℕ))
-            × (came : Option (ℕ × List ℕ)) × (follows : Option (ℕ × ℕ × List ℕ))
-            × (sent : Option (ℕ × List ℕ)) × (node : ℕ → NodeStateValue)
-            × (s : State (List ℕ) NodeStateValue)
-            × IsSent self.old.devices.ports reaction sent
-            × HasReacted L.pending topology.now part time n e came follows sent node self.old s }
-        ensures represents { (part : Option ℕ) (n : ℕ) (e : PendingEvent (List ℕ))
-            (came : Option (ℕ × List ℕ)) (follows : Option (ℕ × ℕ × List ℕ))
-            (sent : Option (ℕ × List ℕ)) (node : ℕ → NodeStateValue)
-            (s : State (List ℕ) NodeStateValue)
-            → IsSent self.old.devices.ports reaction sent
-            → HasReacted L.pending topology.now part time n e came follows sent node self.old s
-            → Represents L.pending topology.now part self.new
-            (step (net_of topology.now) (here_of topology.now part) s) }
+        requires reacted { (doing : Doing)
+            × HasReacted L.pending topology.now time reaction doing self.old }
+        ensures represents { (doing : Doing)
+            → HasReacted L.pending topology.now time reaction doing self.old
+            → RepresentsNext L.pending topology.now doing.part self.new doing.state }
 
         // It is counted, and no record was handed out.
         ensures steps { self.new.steps ≡ self.old.steps + 1 }
@@ -721,18 +730,11 @@ impl<L: EventList> Part<L> {
         requires copied { IfSome start (IsCopied self.old.records.keeping.wanted) }
 
         // All but the transmission is done, and the step is.
-        requires under_way { (part : Option ℕ) × (n : ℕ) × (e : PendingEvent (List ℕ))
-            × (came : Option (ℕ × List ℕ)) × (follows : Option (ℕ × ℕ × List ℕ))
-            × (s : State (List ℕ) NodeStateValue)
-            × IsUnderWay L.pending topology.now part time n e
-            (record { came = came; transmission = start; follows = follows }) self.old s }
-        ensures represents { (part : Option ℕ) (n : ℕ) (e : PendingEvent (List ℕ))
-            (came : Option (ℕ × List ℕ)) (follows : Option (ℕ × ℕ × List ℕ))
-            (s : State (List ℕ) NodeStateValue)
-            → IsUnderWay L.pending topology.now part time n e
-            (record { came = came; transmission = start; follows = follows }) self.old s
-            → Represents L.pending topology.now part self.new
-            (step (net_of topology.now) (here_of topology.now part) s) }
+        requires under_way { (doing : Doing)
+            × IsUnderWay L.pending topology.now time start doing self.old }
+        ensures represents { (doing : Doing)
+            → IsUnderWay L.pending topology.now time start doing self.old
+            → RepresentsNext L.pending topology.now doing.part self.new doing.state }
 
         // It is counted, and no record was handed out.
         ensures steps { self.new.steps ≡ self.old.steps + 1 }

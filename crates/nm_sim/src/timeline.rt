@@ -21,7 +21,9 @@ ghost use Rattle.nm_sim.specs.Network.{IsIfaceHere, here_of, net_of};
 ghost use Rattle.nm_sim.specs.Outgoing.{HaveSpare, OutgoingRepresents, channel_count};
 ghost use Rattle.nm_sim.specs.Timelines.{AreFresh, IsFew, TimelineRepresents, everywhere};
 
+use crate::due::Due;
 use crate::here::is_iface_here;
+use crate::in_flight::InFlight;
 use crate::network::{channels_are_those_of_the_network, every_topology_is_a_network};
 use crate::outgoing::Outgoing;
 use crate::transmitted::Transmitted;
@@ -178,35 +180,33 @@ impl<L: EventList> Timeline<L> {
         number
     }
 
-    /// A packet that an interface here sends is to arrive at its peer: an event to come where the
-    /// peer is here too, and else a message on its channel.
+    /// A packet that an interface here sends is to arrive at the far end of its link: an event to
+    /// come where that is here too, and else a message on its channel.
+    #[inline(always)]
     fn schedule_arrival(
         &mut self,
         topology: &Topology,
         part: &Option<PartNo>,
         outgoing: &mut Outgoing,
-        iface: IfaceNo,
-        peer: IfaceNo,
-        time: Time,
-        number: u64,
-        packet: Packet,
+        flight: InFlight,
     )
-        // The interface is here, and the peer is its link's other end.
-        requires here { IsIfaceHere topology.now part.now iface }
-        requires peer { peer ≡ (net_of topology.now).peer iface }
-        requires within { peer < length topology.now.ifaces }
+        // The interface is here, and the other one is the far end of its link.
+        requires here { IsIfaceHere topology.now part.now flight.from }
+        requires far_end { flight.to ≡ (net_of topology.now).far_end flight.from }
+        requires within { flight.to < length topology.now.ifaces }
 
         // There is room for an event, which has a new key, and for a message.
         requires count { length outgoing.old.channels ≡ channel_count topology.now part.now }
         requires room { 1 ≤ L.room self.old.events }
         requires spare { HaveSpare outgoing.old }
-        requires fresh { get (L.pending self.old.events) (key_of time (Arrive peer) number)
-            ≡ None }
+        requires fresh { get (L.pending self.old.events)
+            (key_of flight.due.time (Arrive flight.to) flight.due.number) ≡ None }
 
-        // Where the peer is here, the arrival is to come. It takes one place at most.
+        // Where the far end is here, the arrival is to come. It takes one place at most.
         ensures events { L.pending self.new.events
             ≡ schedule (here_of topology.now part.now)
-            (keyed time number (Delivery (Arrival peer) packet) ∷ [])
+            (keyed flight.due.time flight.due.number
+            (Delivery (Arrival flight.to) flight.packet) ∷ [])
             (L.pending self.old.events) }
         ensures room { L.room self.old.events ≤ L.room self.new.events + 1 }
         ensures sent { self.new.sent ≡ self.old.sent }
@@ -215,16 +215,23 @@ impl<L: EventList> Timeline<L> {
         ensures outgoing { (sent : ℕ → List (ℕ × List ℕ))
             → OutgoingRepresents topology.now part.now outgoing.old sent
             → OutgoingRepresents topology.now part.now outgoing.new
-            (set_at sent peer (sent peer ++ (time, packet) ∷ [])) }
+            (set_at sent flight.to
+            (sent flight.to ++ (flight.due.time, flight.packet) ∷ [])) }
     {
         every_topology_is_a_network(topology); // law: links have two ends
         channels_are_those_of_the_network(topology); // law: links between partitions
         channels_are_numbered_by_their_receivers(topology); // law: channels have numbers
-        if is_iface_here(topology, part, peer) {
-            let event = Event::Delivery(Origin::Arrival(peer), packet);
-            self.events.put(time, number, event);
-        } else if let Some(channel) = topology.channel_of(peer) {
-            outgoing.put(channel, time, packet);
+        let InFlight {
+            to,
+            due,
+            packet,
+            ..
+        } = flight;
+        if is_iface_here(topology, part, to) {
+            let event = Event::Delivery(Origin::Arrival(to), packet);
+            self.events.put(due.time, due.number, event);
+        } else if let Some(channel) = topology.channel_of(to) {
+            outgoing.put(channel, due.time, packet);
         }
     }
 
@@ -272,10 +279,10 @@ impl<L: EventList> Timeline<L> {
         ensures copied { (wanted : Wanted) → IfSome start (IsCopied wanted)
             → IfSome result (HasWantedCopy wanted) }
     {
-        accepted_topologies_are_in_order(topology); // law: the peer is there
+        accepted_topologies_are_in_order(topology); // law: the far end is there
         let (iface, start) = start?;
-        let peer = topology.iface(iface).far().peer;
-        let number = self.take_number(peer);
+        let far_end = topology.iface(iface).far().iface;
+        let number = self.take_number(far_end);
         let Start {
             item,
             completes,
@@ -283,9 +290,16 @@ impl<L: EventList> Timeline<L> {
         } = start;
         let octets = item.packet.octet_count() as u16;
         let QueueItem { packet, copy } = item;
-        self.schedule_arrival(
-            topology, part, outgoing, iface, peer, arrives, number, packet,
-        );
+        let flight = InFlight {
+            from: iface,
+            to: far_end,
+            due: Due {
+                time: arrives,
+                number,
+            },
+            packet,
+        };
+        self.schedule_arrival(topology, part, outgoing, flight);
         self.events.put(completes, number, Event::Completion(iface));
         Some(Transmitted {
             iface,

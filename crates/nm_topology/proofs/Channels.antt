@@ -12,7 +12,7 @@ use Rattle.std.proofs.lemmas.Option.{slice_get_cases, get_or_from_slice_get, sli
 use Rattle.nm_topology.specs.declared.parts.Far.{Far}
 use Rattle.nm_topology.specs.declared.parts.Link.{Link}
 use Rattle.nm_topology.specs.PartValues.{NodeValue, IfaceValue}
-use Rattle.nm_topology.specs.Build.{numbers_from, far_by_links, part_of, peer_at, is_receiver}
+use Rattle.nm_topology.specs.Build.{numbers_from, far_by_links, part_of, far_end_at, is_receiver}
 use Rattle.nm_topology.specs.Build.{receivers_of}
 use Rattle.nm_topology.specs.Validate.{uses, is_undelayed_cut}
 use Rattle.nm_topology.specs.Accepted.{parts_of, owners_of, partition_at, IsInOrder, IsReceiver}
@@ -75,10 +75,10 @@ delays d a b e h = grind (arith, nat_tests)
 
 module _ (parts owners : List ℕ) where
   pub cut-delays : (ls : List Link) (i : ℕ) → 1 ≤ uses i ls → All (λ l. is_undelayed_cut parts owners l ≡ false) ls
-      → (part_of parts owners (far_by_links i ls).peer ≡ part_of parts owners i → ⊥) → 1 ≤ (far_by_links i ls).delay
+      → (part_of parts owners (far_by_links i ls).iface ≡ part_of parts owners i → ⊥) → 1 ≤ (far_by_links i ls).delay
   cut-delays [] i used a = absurd (omega arith)
   cut-delays (l ∷ ls) i used a =
-      let P : Far → Type 0 = λ f. (part_of parts owners f.peer ≡ part_of parts owners i → ⊥) → 1 ≤ f.delay in
+      let P : Far → Type 0 = λ f. (part_of parts owners f.iface ≡ part_of parts owners i → ⊥) → 1 ≤ f.delay in
       let here : is_undelayed_cut parts owners l ≡ false = a 0 l (omega arith) in
       ⊎_elim
       (λ e. subst P (sym (far-a l ls i e)) (λ h. delays l.delay (part_of parts owners l.a) (part_of parts owners l.b) here (λ g. h (g ∙ ap (part_of parts owners) e))))
@@ -104,8 +104,8 @@ module _ (nodes : List NodeValue) (ifaces : List IfaceValue) (links : List Link)
   abbrev receivers : List ℕ
   receivers = receivers_of (parts_of nodes) (owners_of ifaces) far
 
-  peer_is : (i : ℕ) (x : IfaceValue) → slice_get ifaces i ≡ Some x → peer_at far i ≡ x.far.peer
-  peer_is i x h = ap (λ f. f.peer) (get_or_from_slice_get far i x.far (far_by_links i []) (fars i x h))
+  far_end_is : (i : ℕ) (x : IfaceValue) → slice_get ifaces i ≡ Some x → far_end_at far i ≡ x.far.iface
+  far_end_is i x h = ap (λ f. f.iface) (get_or_from_slice_get far i x.far (far_by_links i []) (fars i x h))
 
   comes : (i : ℕ) → Contains receivers i → IsReceiver nodes ifaces i
   comes i c =
@@ -115,8 +115,8 @@ module _ (nodes : List NodeValue) (ifaces : List IfaceValue) (links : List Link)
       (λ s. (
         s.0,
         s.2,
-        subst (λ p. partition_at nodes ifaces p ≢ partition_at nodes ifaces i) (peer_is i s.0 s.2)
-            (differs (partition_at nodes ifaces i) (partition_at nodes ifaces (peer_at far i)) passed),
+        subst (λ p. partition_at nodes ifaces p ≢ partition_at nodes ifaces i) (far_end_is i s.0 s.2)
+            (differs (partition_at nodes ifaces i) (partition_at nodes ifaces (far_end_at far i)) passed),
       ))
       (λ s. absurd (omega (arith, s.0, inside)))
       (slice_get_cases ifaces i).1
@@ -125,15 +125,15 @@ module _ (nodes : List NodeValue) (ifaces : List IfaceValue) (links : List Link)
   receives i r =
       let inside : i < length far = omega (arith, count, slice_get_within ifaces i r.0 r.1) in
       kept test (numbers_from 0 (length far)) i (among (length far) i inside)
-      (is_different (partition_at nodes ifaces i) (partition_at nodes ifaces (peer_at far i))
-      (subst (λ p. partition_at nodes ifaces p ≢ partition_at nodes ifaces i) (sym (peer_is i r.0 r.1)) r.2))
+      (is_different (partition_at nodes ifaces i) (partition_at nodes ifaces (far_end_at far i))
+      (subst (λ p. partition_at nodes ifaces p ≢ partition_at nodes ifaces i) (sym (far_end_is i r.0 r.1)) r.2))
 
   delayed : (i : ℕ) (x : IfaceValue) → slice_get ifaces i ≡ Some x → Contains receivers i → 1 ≤ x.far.delay
   delayed i x h c =
       let linked = order.linked i x h in
-      let cut = differs (partition_at nodes ifaces i) (partition_at nodes ifaces (peer_at far i)) (passes test (numbers_from 0 (length far)) i c) in
-      let apart : partition_at nodes ifaces (far_by_links i links).peer ≢ partition_at nodes ifaces i =
-      subst (λ p. partition_at nodes ifaces p ≢ partition_at nodes ifaces i) (peer_is i x h ∙ ap (λ f. f.peer) linked.far) cut in
+      let cut = differs (partition_at nodes ifaces i) (partition_at nodes ifaces (far_end_at far i)) (passes test (numbers_from 0 (length far)) i c) in
+      let apart : partition_at nodes ifaces (far_by_links i links).iface ≢ partition_at nodes ifaces i =
+      subst (λ p. partition_at nodes ifaces p ≢ partition_at nodes ifaces i) (far_end_is i x h ∙ ap (λ f. f.iface) linked.far) cut in
       subst (λ f. 1 ≤ f.delay) (sym linked.far)
       (cut-delays (parts_of nodes) (owners_of ifaces) links i (omega (arith, linked.once)) order.cuts apart)
 

@@ -9,7 +9,7 @@ use Rattle.nm_topology.proofs.Uses.{same_or_not, one_here, one_there}
 use Rattle.nm_topology.proofs.Wires.{is_same, is_other}
 
 abbrev toward : Link → ℕ → Far
-toward l p = record { peer = p; rate = l.rate; delay = l.delay }
+toward l p = record { iface = p; rate = l.rate; delay = l.delay }
 
 module _ (l : Link) (ls : List Link) (i : ℕ) where
   pub far-a : l.a ≡ i → far_by_links i (l ∷ ls) ≡ toward l l.b
@@ -44,15 +44,15 @@ module _ (l : Link) (ls : List Link) (i : ℕ) where
   uses-on e f = omega (arith, one_there l.a i e, one_there l.b i f)
 
 -- what an end is linked to is an end
-pub mate : (ls : List Link) (i : ℕ) → 1 ≤ uses i ls → 1 ≤ uses (far_by_links i ls).peer ls
+pub mate : (ls : List Link) (i : ℕ) → 1 ≤ uses i ls → 1 ≤ uses (far_by_links i ls).iface ls
 mate [] i h = absurd (omega arith)
 mate (l ∷ ls) i h =
-    let P : Far → Type 0 = λ f. 1 ≤ uses f.peer (l ∷ ls) in
+    let P : Far → Type 0 = λ f. 1 ≤ uses f.iface (l ∷ ls) in
     ⊎_elim
     (λ e. subst P (sym (far-a l ls i e)) (uses-b l ls l.b refl))
     (λ e. ⊎_elim
     (λ f. subst P (sym (far-b l ls i e f)) (uses-a l ls l.a refl))
-    (λ f. subst P (sym (far-on l ls i e f)) (grown l ls (far_by_links i ls).peer (mate ls i (subst (λ n. 1 ≤ n) (uses-on l ls i e f) h))))
+    (λ f. subst P (sym (far-on l ls i e f)) (grown l ls (far_by_links i ls).iface (mate ls i (subst (λ n. 1 ≤ n) (uses-on l ls i e f) h))))
     (same_or_not l.b i))
     (same_or_not l.a i)
   where
@@ -60,10 +60,10 @@ mate (l ∷ ls) i h =
     grown l ls p h = omega arith
 
 -- the one end of one link is not linked to itself
-pub apart : (ls : List Link) (i : ℕ) → uses i ls ≡ 1 → (far_by_links i ls).peer ≡ i → ⊥
+pub apart : (ls : List Link) (i : ℕ) → uses i ls ≡ 1 → (far_by_links i ls).iface ≡ i → ⊥
 apart [] i h = absurd (omega arith)
 apart (l ∷ ls) i h =
-    let P : Far → Type 0 = λ f. f.peer ≡ i → ⊥ in
+    let P : Far → Type 0 = λ f. f.iface ≡ i → ⊥ in
     ⊎_elim
     (λ e. subst P (sym (far-a l ls i e)) (λ f. omega (arith, uses-both l ls i e f)))
     (λ e. ⊎_elim
@@ -73,17 +73,17 @@ apart (l ∷ ls) i h =
     (same_or_not l.a i)
 
 -- ends of one link each are each other's, over the same link
-pub back : (ls : List Link) (i : ℕ) → uses i ls ≡ 1 → uses (far_by_links i ls).peer ls ≡ 1 → far_by_links (far_by_links i ls).peer ls ≡ record { peer = i; rate = (far_by_links i ls).rate; delay = (far_by_links i ls).delay }
+pub back : (ls : List Link) (i : ℕ) → uses i ls ≡ 1 → uses (far_by_links i ls).iface ls ≡ 1 → far_by_links (far_by_links i ls).iface ls ≡ record { iface = i; rate = (far_by_links i ls).rate; delay = (far_by_links i ls).delay }
 back [] i h = absurd (omega arith)
 back (l ∷ ls) i h =
-    let P : Far → Type 0 = λ f. uses f.peer (l ∷ ls) ≡ 1 → far_by_links f.peer (l ∷ ls) ≡ record { peer = i; rate = f.rate; delay = f.delay } in
+    let P : Far → Type 0 = λ f. uses f.iface (l ∷ ls) ≡ 1 → far_by_links f.iface (l ∷ ls) ≡ record { iface = i; rate = f.rate; delay = f.delay } in
     ⊎_elim
     (λ e. subst P (sym (far-a l ls i e)) (λ g.
     far-b l ls l.b (λ f. omega (arith, uses-both l ls l.b f refl)) refl ∙ ap (toward l) e))
     (λ e. ⊎_elim
     (λ f. subst P (sym (far-b l ls i e f)) (λ g. far-a l ls l.a refl ∙ ap (toward l) f))
     (λ f. subst P (sym (far-on l ls i e f)) (λ g.
-    let p = (far_by_links i ls).peer in
+    let p = (far_by_links i ls).iface in
     let one : uses i ls ≡ 1 = sym (uses-on l ls i e f) ∙ h in
     let some : 1 ≤ uses p ls = mate ls i (omega (arith, one)) in
     let no_a : l.a ≡ p → ⊥ = λ a. omega (arith, uses-a-on l ls p a) in

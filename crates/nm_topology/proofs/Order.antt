@@ -124,16 +124,16 @@ pub numbers-length : {X : Type 0} (f : ℕ → X) (n j : ℕ) → length (map f 
 numbers-length f zero j = refl
 numbers-length f (suc n) j = ap suc (numbers-length f n (suc j))
 
-pub far-within : (ls : List Link) (i n : ℕ) → i < n → All (λ l. (l.a < n) × (l.b < n)) ls → (far_by_links i ls).peer < n
+pub far-within : (ls : List Link) (i n : ℕ) → i < n → All (λ l. (l.a < n) × (l.b < n)) ls → (far_by_links i ls).iface < n
 far-within [] i n h a = h
 far-within (l ∷ ls) i n h a =
     let ends = a 0 l (omega arith) in
     let rest = far-within ls i n h (λ k d g. a (suc k) d (omega arith)) in
     ⊎_elim
-    (λ e. subst (λ f. f.peer < n) (sym (far-a l ls i e)) ends.1)
+    (λ e. subst (λ f. f.iface < n) (sym (far-a l ls i e)) ends.1)
     (λ e. ⊎_elim
-    (λ f. subst (λ g. g.peer < n) (sym (far-b l ls i e f)) ends.0)
-    (λ f. subst (λ g. g.peer < n) (sym (far-on l ls i e f)) rest)
+    (λ f. subst (λ g. g.iface < n) (sym (far-b l ls i e f)) ends.0)
+    (λ f. subst (λ g. g.iface < n) (sym (far-on l ls i e f)) rest)
     (same_or_not l.b i))
     (same_or_not l.a i)
 
@@ -202,14 +202,14 @@ module _ (tables : List NodeTableValue) (faces : List IfaceTableValue) (t : Reso
       let at = numbered-at (λ j. far_by_links j t.links) (length faces) 0 i x.far (iface-far faces t.owners far i x h) in
       let once : uses i t.links ≡ 1 = used-once (length faces) t.links i pass.used at.0 in
       let far-is : x.far ≡ far_by_links i t.links = at.1 ∙ ap (λ j. far_by_links j t.links) (zero-add i) in
-      let peer : (far_by_links i t.links).peer < length faces = far-within t.links i (length faces) at.0 ends in
+      let far_end : (far_by_links i t.links).iface < length faces = far-within t.links i (length faces) at.0 ends in
       record {
         once = once;
         far = far-is;
-        within = subst (λ f. f.peer < length ifaces) (sym far-is) (subst (λ m. (far_by_links i t.links).peer < m) (sym count-is) peer);
-        apart = λ g. apart t.links i once (ap (λ f. f.peer) (sym far-is) ∙ g);
-        back = subst (λ f. far_by_links f.peer t.links ≡ record { peer = i; rate = f.rate; delay = f.delay }) (sym far-is)
-            (back t.links i once (used-once (length faces) t.links (far_by_links i t.links).peer pass.used peer));
+        within = subst (λ f. f.iface < length ifaces) (sym far-is) (subst (λ m. (far_by_links i t.links).iface < m) (sym count-is) far_end);
+        apart = λ g. apart t.links i once (ap (λ f. f.iface) (sym far-is) ∙ g);
+        back = subst (λ f. far_by_links f.iface t.links ≡ record { iface = i; rate = f.rate; delay = f.delay }) (sym far-is)
+            (back t.links i once (used-once (length faces) t.links (far_by_links i t.links).iface pass.used far_end));
       }
 
   owners : All (λ x. x.node < length nodes) ifaces

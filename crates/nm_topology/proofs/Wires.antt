@@ -32,8 +32,8 @@ set_there (y ∷ ys) (suc a) (suc i) x e = set_there ys a i x (λ f. e (ap suc f
 
 pub joined-get : (far : List Far) (l : Link) (rest : List Link) (i : ℕ) → l.a < length far → l.b < length far → slice_get far i ≡ Some (far_by_links i rest) → slice_get (joined far l) i ≡ Some (far_by_links i (l ∷ rest))
 joined-get far l rest i a b h =
-    let ends_b : Far = record { peer = l.a; rate = l.rate; delay = l.delay } in
-    let ends_a : Far = record { peer = l.b; rate = l.rate; delay = l.delay } in
+    let ends_b : Far = record { iface = l.a; rate = l.rate; delay = l.delay } in
+    let ends_a : Far = record { iface = l.b; rate = l.rate; delay = l.delay } in
     let other : Far = far_by_links i rest in
     ⊎_elim
     (λ e. set_here (set far l.b ends_b) l.a i ends_a (omega (arith, length-set far l.b ends_b)) e ∙ ap (λ t. Some (cond t ends_a (cond (l.b == i) ends_b other))) (sym (is_same l.a i e)))
@@ -45,5 +45,5 @@ joined-get far l rest i a b h =
     (same_or_not l.a i)
 
 -- a property of each far end stays
-pub All-joined : (n : ℕ) (far : List Far) (l : Link) → l.a < n → l.b < n → All (λ f. f.peer < n) far → All (λ f. f.peer < n) (joined far l)
-All-joined n far l a b h = All-set (λ f. f.peer < n) (set far l.b (record { peer = l.a; rate = l.rate; delay = l.delay })) l.a (record { peer = l.b; rate = l.rate; delay = l.delay }) b (All-set (λ f. f.peer < n) far l.b (record { peer = l.a; rate = l.rate; delay = l.delay }) a h)
+pub All-joined : (n : ℕ) (far : List Far) (l : Link) → l.a < n → l.b < n → All (λ f. f.iface < n) far → All (λ f. f.iface < n) (joined far l)
+All-joined n far l a b h = All-set (λ f. f.iface < n) (set far l.b (record { iface = l.a; rate = l.rate; delay = l.delay })) l.a (record { iface = l.b; rate = l.rate; delay = l.delay }) b (All-set (λ f. f.iface < n) far l.b (record { iface = l.a; rate = l.rate; delay = l.delay }) a h)

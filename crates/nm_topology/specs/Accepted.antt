@@ -26,11 +26,11 @@ pub record IsLinked (ifaces : List IfaceValue) (links : List Link) (i : ℕ) (x 
   pub once : uses i links ≡ 1
   -- linked as that link says, to an interface that is there
   pub far : x.far ≡ far_by_links i links
-  pub within : x.far.peer < length ifaces
+  pub within : x.far.iface < length ifaces
   -- which is another one, and is linked back to it over the same link
-  pub apart : x.far.peer ≡ i → ⊥
-  pub back : far_by_links x.far.peer links
-      ≡ record { peer = i; rate = x.far.rate; delay = x.far.delay }
+  pub apart : x.far.iface ≡ i → ⊥
+  pub back : far_by_links x.far.iface links
+      ≡ record { iface = i; rate = x.far.rate; delay = x.far.delay }
 
 pub record IsInOrder (nodes : List NodeValue) (ifaces : List IfaceValue) (links : List Link)
     : Type 0 where
@@ -71,7 +71,7 @@ partition_at nodes ifaces i = part_of (parts_of nodes) (owners_of ifaces) i
 abbrev pub IsReceiver : List NodeValue → List IfaceValue → ℕ → Type 0
 IsReceiver nodes ifaces i =
     (x : IfaceValue) × (slice_get ifaces i ≡ Some x)
-    × (partition_at nodes ifaces x.far.peer ≢ partition_at nodes ifaces i)
+    × (partition_at nodes ifaces x.far.iface ≢ partition_at nodes ifaces i)
 
 -- channel n comes in at the n-th of the receivers
 pub record AreReceivers (nodes : List NodeValue) (ifaces : List IfaceValue) (receivers : List ℕ)

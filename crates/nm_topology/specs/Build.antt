@@ -24,17 +24,17 @@ routes_at j (r ∷ rs) = if r.node == j then r.route ∷ routes_at j rs else rou
 
 -- what interface i is linked to
 abbrev pub far_by_links : ℕ → List Link → Far
-far_by_links i [] = record { peer = i; rate = 0; delay = 0 }
+far_by_links i [] = record { iface = i; rate = 0; delay = 0 }
 far_by_links i (l ∷ ls) =
-    if l.a == i then record { peer = l.b; rate = l.rate; delay = l.delay }
-    else (if l.b == i then record { peer = l.a; rate = l.rate; delay = l.delay }
+    if l.a == i then record { iface = l.b; rate = l.rate; delay = l.delay }
+    else (if l.b == i then record { iface = l.a; rate = l.rate; delay = l.delay }
     else far_by_links i ls)
 
 -- the far ends with those of one link set
 abbrev pub joined : List Far → Link → List Far
 joined far l =
-    set (set far l.b (record { peer = l.a; rate = l.rate; delay = l.delay })) l.a
-    (record { peer = l.b; rate = l.rate; delay = l.delay })
+    set (set far l.b (record { iface = l.a; rate = l.rate; delay = l.delay })) l.a
+    (record { iface = l.b; rate = l.rate; delay = l.delay })
 
 -- the partition of an interface, by the partitions of nodes and the owners of interfaces
 abbrev pub part_of : List ℕ → List ℕ → ℕ → ℕ
@@ -48,13 +48,13 @@ abbrev pub routes_of_nodes : ℕ → List PlacedRoute → List (List Route)
 routes_of_nodes n routes = map (λ j. routes_at j routes) (numbers_from 0 n)
 
 -- the interface that interface i is linked to
-abbrev pub peer_at : List Far → ℕ → ℕ
-peer_at far i = (get_or far i (far_by_links i [])).peer
+abbrev pub far_end_at : List Far → ℕ → ℕ
+far_end_at far i = (get_or far i (far_by_links i [])).iface
 
 -- whether the interface, of those with these far ends, receives a channel
 abbrev pub is_receiver : List ℕ → List ℕ → List Far → ℕ → Bool
 is_receiver parts owners far i =
-    not (part_of parts owners i == part_of parts owners (peer_at far i))
+    not (part_of parts owners i == part_of parts owners (far_end_at far i))
 
 -- the greatest partition plus one
 abbrev pub partition_count : List ℕ → ℕ

@@ -38,7 +38,7 @@ pub struct PlacedRoute {
 /// What an interface is linked to.
 #[derive(Clone, Copy, PartialEq, Eq)]
 pub struct Far {
-    pub peer: IfaceNo,
+    pub iface: IfaceNo,
     /// Bits per second.
     pub rate: u64,
     /// Nanoseconds.

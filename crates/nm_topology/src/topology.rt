@@ -4,6 +4,7 @@ ghost use Rattle.nm_base.specs.declared.limits.TheConstants.{MAX_CHANNELS, MAX_I
 ghost use Rattle.nm_base.specs.declared.limits.TheConstants.{MAX_NODES, MAX_PARTITIONS};
 ghost use Rattle.nm_base.specs.declared.limits.TheConstants.{MAX_SOURCES};
 ghost use Rattle.nm_topology.specs.Limits.{HasOctets, IsWithinLimits};
+ghost use Rattle.nm_topology.specs.PartValues.{IfaceValue, NodeValue};
 ghost use Rattle.nm_topology.specs.Accepted.{AreReceivers, HasNoDoubles, IsInOrder, IsPlaced};
 ghost use Rattle.nm_topology.specs.Accepted.{owners_of};
 ghost use Rattle.nm_topology.specs.Parse.Ranges.{IsInRange};
@@ -20,7 +21,7 @@ use crate::parts::{Iface, Link, Node};
 use crate::resolve::{self, Resolved};
 use crate::traffic::Source;
 use nm_base::limits::MAX_TEXT_OCTETS;
-use nm_base::{ChanNo, IfaceNo, NodeNo, Time};
+use nm_base::{ChanNo, IfaceNo, NodeNo, SourceNo, Time};
 use sha2::{Digest, Sha256};
 use std::alloc::Global;
 use std::marker::Model;
@@ -170,6 +171,64 @@ impl Topology {
         ensures { slice_get self.now.ifaces iface ≡ Some result.now }
     {
         &self.ifaces[iface.index()]
+    }
+
+    /// The name of the node with this number; `-` where there is none.
+    pub fn node_name(&self, node: NodeNo) -> &str
+        ensures { (found : NodeValue) → slice_get self.now.nodes node ≡ Some found
+            → result.now ≡ found.name }
+    {
+        match self.nodes.get(node.index()) {
+            Some(node) => node.name(),
+            None => "-",
+        }
+    }
+
+    /// The name of the interface with this number; `-` where there is none.
+    pub fn iface_name(&self, iface: IfaceNo) -> &str
+        ensures { (found : IfaceValue) → slice_get self.now.ifaces iface ≡ Some found
+            → result.now ≡ found.name }
+    {
+        match self.ifaces.get(iface.index()) {
+            Some(iface) => iface.name(),
+            None => "-",
+        }
+    }
+
+    /// The number of the node that stands at this index in `nodes`.
+    pub fn node_number(&self, index: usize) -> NodeNo
+        requires { index < length self.now.nodes }
+        ensures { result ≡ index }
+    {
+        accepted_topologies_are_in_order(self); // law: there are few
+        NodeNo::new(index as u32)
+    }
+
+    /// The number of the interface that stands at this index in `ifaces`.
+    pub fn iface_number(&self, index: usize) -> IfaceNo
+        requires { index < length self.now.ifaces }
+        ensures { result ≡ index }
+    {
+        accepted_topologies_are_in_order(self); // law: there are few
+        IfaceNo::new(index as u32)
+    }
+
+    /// The number of the source that stands at this index in `sources`.
+    pub fn source_number(&self, index: usize) -> SourceNo
+        requires { index < length self.now.sources }
+        ensures { result ≡ index }
+    {
+        accepted_topologies_are_in_order(self); // law: there are few
+        SourceNo::new(index as u32)
+    }
+
+    /// The number of the channel whose receiver stands at this index in `receivers`.
+    pub fn channel_number(&self, index: usize) -> ChanNo
+        requires { index < length self.now.receivers }
+        ensures { result ≡ index }
+    {
+        accepted_topologies_are_in_order(self); // law: there are few
+        ChanNo::new(index as u32)
     }
 
     /// The links, in the order of the text.

@@ -105,7 +105,13 @@ fn push_iface(text: &mut String, iface: &Iface) -> Result<(), AllocError> {
         "iface {name} node {node} address {address} queue {queue}"
     )?;
     let far = iface.far();
-    writeln!(text, "far {} {} {}", far.peer.number(), far.rate, far.delay)
+    writeln!(
+        text,
+        "far {} {} {}",
+        far.iface.number(),
+        far.rate,
+        far.delay
+    )
 }
 
 /// Adds the channel of an interface, where it receives one.

@@ -5,7 +5,7 @@ use nm_base::{IfaceNo, PartNo};
 use nm_files::MemOutputs;
 use nm_fixtures::{DUO, RING};
 use nm_progress::{Figure, Figures, Progress};
-use nm_run::{Report, RunFault, RunPlan, run_all};
+use nm_run::{Report, RunCause, RunFault, RunPlan, run_all};
 use nm_topology::Topology;
 use std::alloc::Global;
 use std::net::Net;
@@ -165,7 +165,7 @@ fn run_asks_its_polls(rt: HostRuntime) -> Result<(), Fail> {
     let gate = Watching::new(false, false);
     let mut outputs = files_of(rt.alloc(), 6, 1_000);
     let outcome = run_text(&rt, RING, 1, &mut outputs, &gate, &Progress::new())?;
-    assert!(rt; outcome.err() == Some(RunFault::Net));
+    assert!(rt; outcome.err() == Some(RunFault::Refused(RunCause::Net)));
     Ok(())
 }
 
@@ -173,7 +173,7 @@ fn run_asks_its_polls(rt: HostRuntime) -> Result<(), Fail> {
 fn has_failed(fault: &Option<RunFault>, ifaces: &[u32], written: u64) -> bool {
     for number in ifaces {
         let iface = IfaceNo::new(*number);
-        if *fault == Some(RunFault::File { iface, written }) {
+        if *fault == Some(RunFault::Refused(RunCause::File { iface, written })) {
             return true;
         }
     }

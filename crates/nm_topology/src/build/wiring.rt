@@ -15,14 +15,14 @@ use std::alloc::{AllocError, Global};
 fn unlinked(alloc: Global, count: usize) -> Result<Vec<Far>, AllocError>
     requires { count ≤ MAX_IFACES }
     ensures len { IfOk result (λ v. length v.items ≡ count) }
-    ensures within { IfOk result (λ v. All (λ f. f.peer < count) v.items) }
+    ensures within { IfOk result (λ v. All (λ f. f.iface < count) v.items) }
     ensures value { IfOk result
         (λ v. (i : ℕ) → i < count → slice_get v.items i ≡ Some (far_by_links i [])) }
 {
     let mut far = Vec::new(alloc);
     for i in 0..count {
         far.push(Far {
-            peer: IfaceNo::new(i as u32),
+            iface: IfaceNo::new(i as u32),
             rate: 0,
             delay: 0,
         })?;
@@ -36,12 +36,12 @@ fn join(far: &mut Vec<Far>, link: Link)
     ensures { far.new.items ≡ joined far.old.items link }
 {
     far[link.b.index()] = Far {
-        peer: link.a,
+        iface: link.a,
         rate: link.rate,
         delay: link.delay,
     };
     far[link.a.index()] = Far {
-        peer: link.b,
+        iface: link.b,
         rate: link.rate,
         delay: link.delay,
     };
@@ -55,7 +55,7 @@ pub fn far_ends(alloc: Global, count: usize, links: &[Link]) -> Result<Vec<Far>,
 
     // The far ends, place by place and as a list.
     ensures len { IfOk result (λ v. length v.items ≡ count) }
-    ensures within { IfOk result (λ v. All (λ f. f.peer < count) v.items) }
+    ensures within { IfOk result (λ v. All (λ f. f.iface < count) v.items) }
     ensures value { IfOk result
         (λ v. (i : ℕ) → i < count → slice_get v.items i ≡ Some (far_by_links i links.now)) }
     ensures list { IfOk result (λ v. v.items ≡ far_ends count links.now) }
@@ -101,13 +101,13 @@ pub fn routes_of_nodes(
 
 fn is_receiver(parts: &[PartNo], owners: &[NodeNo], far: &[Far], iface: IfaceNo) -> bool
     requires iface { iface < length far.now }
-    requires far { All (λ f. f.peer < length owners.now) far.now }
+    requires far { All (λ f. f.iface < length owners.now) far.now }
     requires len { length far.now ≡ length owners.now }
     requires owners { All (λ n. n < length parts.now) owners.now }
     ensures { result ≡ is_receiver parts.now owners.now far.now iface }
 {
-    let peer = far[iface.index()].peer;
-    part_of(parts, owners, iface) != part_of(parts, owners, peer)
+    let far_end = far[iface.index()].iface;
+    part_of(parts, owners, iface) != part_of(parts, owners, far_end)
 }
 
 /// The interfaces that receive a channel, in the order of their numbers.
@@ -118,7 +118,7 @@ pub fn receivers(
     far: &[Far],
 ) -> Result<Vec<IfaceNo>, AllocError>
     requires count { length far.now ≤ MAX_IFACES }
-    requires far { All (λ f. f.peer < length owners.now) far.now }
+    requires far { All (λ f. f.iface < length owners.now) far.now }
     requires len { length far.now ≡ length owners.now }
     requires owners { All (λ n. n < length parts.now) owners.now }
     ensures { IfOk result

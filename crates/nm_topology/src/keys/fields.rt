@@ -12,6 +12,7 @@ use nm_base::limits::{
     MAX_COUNT, MAX_DELAY, MAX_INTERVAL, MAX_MTU, MAX_PARTITION, MAX_QUEUE, MAX_QUEUE_OCTETS,
     MAX_RATE, MAX_TIME, MIN_MTU, MIN_RATE,
 };
+use nm_packet::limits::HEADERS;
 
 /// A field: its key, and what stands behind it. (A constant can call no function.)
 macro_rules! field {
@@ -62,14 +63,11 @@ pub const COUNT: Bounds = within!(0, MAX_COUNT);
 
 pub const TTL: Bounds = within!(1, 255);
 
-/// Octets of an IPv4 header and a UDP or ICMP header.
-pub const HEADERS: u16 = 28;
-
 /// Octets of data of a source's packet: what two headers leave of the mtu.
 pub fn size_under(mtu: u16) -> Bounds
     ensures { result ≡ size_under mtu }
 {
-    within!(0, mtu.saturating_sub(HEADERS) as u64)
+    within!(0, u64::from(mtu).saturating_sub(HEADERS))
 }
 
 /// The time of a packet of a raw source, in nanoseconds: after the packet before it.

@@ -1,7 +1,7 @@
 use Rattle.std.proofs.Common.{◌≡◌, ◌==◌, ◌<◌, ◌≤◌, length, rules, arith, ap, sym, ◌∙◌}
 use Rattle.nm_topology.specs.Topology.{receiving_iface}
 use Rattle.nm_sim.specs.Network.{net_of}
-use Rattle.nm_book.proofs.Incoming.{goes_nowhere, goes_out_at, ifaces_are, peer_is, peer_there}
+use Rattle.nm_book.proofs.Incoming.{goes_nowhere, goes_out_at, ifaces_are, far_end_is, far_end_there}
 use Rattle.nm_book.proofs.channels.goes_out.Goals as goal
 
 pub returns-then-index-receivers-clause-value : goal.returns-then-index-receivers-clause-value
@@ -19,11 +19,11 @@ partition_of-requires c =
     let i = receiving_iface t c.args.channel in
     let within : c.args.channel < length t.receivers = omega (arith, c.index.ensures, ap length c.receivers.ensures, c.if-index-receivers.false) in
     let there : i < (net_of t).ifaces = let e = ifaces_are t in let h = c.channels_are_numbered_by_their_receivers.ensures.there c.args.channel within in omega (arith, e, h) in
-    let far = peer_there (net_of t) c.every_topology_is_a_network.ensures.network i there in
-    let same = peer_is t c.receiver.result c.iface-receiver.result.now c.iface-receiver.ensures in
-    let at : (net_of t).peer c.receiver.result ≡ (net_of t).peer i = ap (net_of t).peer c.receiver.ensures in
-    let peer = ap (λ f. f.peer) c.far.ensures in
-    let e = ifaces_are t in omega (arith, far, same, at, peer, e)
+    let far = far_end_there (net_of t) c.every_topology_is_a_network.ensures.network i there in
+    let same = far_end_is t c.receiver.result c.iface-receiver.result.now c.iface-receiver.ensures in
+    let at : (net_of t).far_end c.receiver.result ≡ (net_of t).far_end i = ap (net_of t).far_end c.receiver.ensures in
+    let far_end = ap (λ f. f.iface) c.far.ensures in
+    let e = ifaces_are t in omega (arith, far, same, at, far_end, e)
 
 pub returns-clause-value : goal.returns-clause-value
 returns-clause-value c =
@@ -32,7 +32,7 @@ returns-clause-value c =
     let i = receiving_iface t c.args.channel in
     let within : c.args.channel < length t.receivers = omega (arith, c.index.ensures, ap length c.receivers.ensures, c.if-index-receivers.false) in
     let test : c.eq.result ≡ (c.partition_of.result == c.args.partition) = search rules in
-    let far : c.far.result.peer ≡ net.peer i =
-    ap (λ f. f.peer) c.far.ensures ∙ sym (peer_is t c.receiver.result c.iface-receiver.result.now c.iface-receiver.ensures) ∙ ap net.peer c.receiver.ensures in
+    let far : c.far.result.iface ≡ net.far_end i =
+    ap (λ f. f.iface) c.far.ensures ∙ sym (far_end_is t c.receiver.result c.iface-receiver.result.now c.iface-receiver.ensures) ∙ ap net.far_end c.receiver.ensures in
     test ∙ ap (λ q. q == c.args.partition) (c.partition_of.ensures ∙ ap (λ j. net.part (net.owner j)) far)
     ∙ goes_out_at net c.args.partition i (c.channels_are_those_of_the_network.ensures.comes c.args.channel within)

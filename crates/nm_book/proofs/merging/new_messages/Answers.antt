@@ -12,9 +12,9 @@ loop-number-preserved c =
     let n = c.loop-number.number in
     let below : n < length knows = search rules in
     let ours = read_known knows n n c.index-knows-number.result refl below c.index-knows-number.is in
-    let theirs : slice_index_or others n nothing_known ≡ c.of-other.result.now = ap (λ d. slice_index_or others d nothing_known) (sym c.new-channel.ensures) ∙ sym c.of-other.ensures in
-    let channel = c.new-channel.ensures in
-    let turn : IsTurnOf c.args.topology.now c.args.partition knows others c.new-channel.result c.index-knows-number.result c.of-other.result.now c.loop-number.messages.items =
+    let theirs : slice_index_or others n nothing_known ≡ c.of-other.result.now = ap (λ d. slice_index_or others d nothing_known) (sym c.channel_number-channel.ensures) ∙ sym c.of-other.ensures in
+    let channel = c.channel_number-channel.ensures in
+    let turn : IsTurnOf c.args.topology.now c.args.partition knows others c.channel_number-channel.result c.index-knows-number.result c.of-other.result.now c.loop-number.messages.items =
     subst (λ d. IsTurnOf c.args.topology.now c.args.partition knows others d c.index-knows-number.result c.of-other.result.now c.loop-number.messages.items) (sym channel)
     (record { there = below; ours = ours; theirs = theirs; follow = c.loop-number.invariant.follow; below = c.loop-number.invariant.below }) in
     let done = c.in_ok-add_messages.ensures knows others turn in

@@ -1,10 +1,10 @@
 use Rattle.std.proofs.Common.{sym, ◌∙◌, ap}
 use Rattle.nm_iface.specs.Transmission.{transmission_time}
-use Rattle.nm_book.proofs.Incoming.{least_tx_is, link_is, peer_is}
+use Rattle.nm_book.proofs.Incoming.{least_tx_is, link_is, far_end_is}
 use Rattle.nm_book.proofs.promise.link_of.Goals as goal
 
-pub returns-clause-peer : goal.returns-clause-peer
-returns-clause-peer c = ap (λ f. f.peer) c.far.ensures ∙ sym (peer_is c.args.topology.now c.args.iface c.iface-described.result.now c.iface-described.ensures)
+pub returns-clause-iface : goal.returns-clause-iface
+returns-clause-iface c = ap (λ f. f.iface) c.far.ensures ∙ sym (far_end_is c.args.topology.now c.args.iface c.iface-described.result.now c.iface-described.ensures)
 
 pub returns-clause-delay : goal.returns-clause-delay
 returns-clause-delay c = ap (λ f. f.delay) c.far.ensures ∙ sym (link_is c.args.topology.now c.args.iface c.iface-described.result.now c.iface-described.ensures)

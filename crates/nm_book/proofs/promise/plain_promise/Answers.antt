@@ -14,5 +14,5 @@ returns c = λ p knows book safe.
     let s = from_scratch net p (knowledge_of t knows) c.args.part.now.steps in
     let cause : c.next_cause-cause.result ≡ next_time (min net.stop (safe_time net p (knowledge_of t knows))) (least s.pending) =
     c.next_cause-cause.ensures.value p s book.represents ∙ ap₂ (λ a b. next_time (min a b) (least s.pending)) (sym (stop_is t)) safe in
-    let delay : c.link_of-link.result.delay ≡ net.delay (net.peer (receiving_iface t c.args.channel)) = c.link_of-link.ensures.delay ∙ ap net.delay c.sender.ensures.value in
+    let delay : c.link_of-link.result.delay ≡ net.delay (net.far_end (receiving_iface t c.args.channel)) = c.link_of-link.ensures.delay ∙ ap net.delay c.sender.ensures.value in
     c.from_nanoseconds.ensures ∙ ap₂ (λ a b. a + b) (c.nanoseconds.ensures ∙ cause) delay

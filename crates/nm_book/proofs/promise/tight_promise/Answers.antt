@@ -16,11 +16,11 @@ returns c = λ p knows book safe goes.
     let i = receiving_iface t c.args.channel in
     let cause : c.next_cause.result ≡ next_time (min net.stop (safe_time net p (knowledge_of t knows))) (least s.pending) =
     c.next_cause.ensures.value p s book.represents ∙ ap₂ (λ a b. next_time (min a b) (least s.pending)) (sym (stop_is t)) safe in
-    let there : net.peer i < net.ifaces = let h = c.sender.ensures.there in let v = c.sender.ensures.value in let e = ifaces_are t in omega (arith, h, v, e) in
-    let busy : c.busy.result ≡ busy_until (s.port (net.peer i)).busy = c.busy.ensures.value (Some p) s book.represents ∙ busy_out t p s c.args.channel there goes in
+    let there : net.far_end i < net.ifaces = let h = c.sender.ensures.there in let v = c.sender.ensures.value in let e = ifaces_are t in omega (arith, h, v, e) in
+    let busy : c.busy.result ≡ busy_until (s.port (net.far_end i)).busy = c.busy.ensures.value (Some p) s book.represents ∙ busy_out t p s c.args.channel there goes in
     let later : c.max-start.result ≡ max c.next_cause.result c.busy.result = search rules in
-    let start : c.max-start.result ≡ max (next_time (min net.stop (safe_time net p (knowledge_of t knows))) (least s.pending)) (busy_until (s.port (net.peer i)).busy) =
+    let start : c.max-start.result ≡ max (next_time (min net.stop (safe_time net p (knowledge_of t knows))) (least s.pending)) (busy_until (s.port (net.far_end i)).busy) =
     later ∙ ap₂ (λ a b. max a b) cause busy in
-    let tx : c.transmission_time.result ≡ net.least_tx (net.peer i) = c.transmission_time.ensures.value ∙ c.link_of-link.ensures.least_tx ∙ ap net.least_tx c.sender.ensures.value in
-    let delay : c.link_of-link.result.delay ≡ net.delay (net.peer i) = c.link_of-link.ensures.delay ∙ ap net.delay c.sender.ensures.value in
+    let tx : c.transmission_time.result ≡ net.least_tx (net.far_end i) = c.transmission_time.ensures.value ∙ c.link_of-link.ensures.least_tx ∙ ap net.least_tx c.sender.ensures.value in
+    let delay : c.link_of-link.result.delay ≡ net.delay (net.far_end i) = c.link_of-link.ensures.delay ∙ ap net.delay c.sender.ensures.value in
     c.from_nanoseconds.ensures ∙ ap₂ (λ a b. a + b) (c.nanoseconds.ensures ∙ start) (ap₂ (λ a b. a + b) tx delay)

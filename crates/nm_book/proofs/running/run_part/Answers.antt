@@ -78,7 +78,7 @@ loop-done-preserved c =
       book = λ p knows book safe.
           let now = c.loop-done.invariant.book p knows book safe in
           let s = from_scratch net p (knowledge_of t knows) c.loop-done.part.steps in
-          let done = subst (λ b. Advanced pending_in t (Some p) c.args.safe s c.loop-done.part c.advance.new.self (Ok b)) c.in-Ok-true.field-0-test (c.in-Ok-true.ensures.advance (Some p) s now.represents) in
+          let done = subst (λ b. Advanced pending_in t (record { part = Some p; state = s; until = c.args.safe }) c.loop-done.part c.advance.new.self (Ok b)) c.in-Ok-true.field-0-test (c.in-Ok-true.ensures.advance (Some p) s now.represents) in
           one_more t p knows c.loop-done.part c.advance.new.self now (subst (λ b. pends_before b s ≡ true) safe done.1) done.0 one c.in-Ok-true.ensures.keeping;
     }
 

@@ -40,7 +40,7 @@ loop-number-preserved c =
     let known : slice_index_or knows n nothing_known ≡ c.index-knows-number.result = read_known knows n n c.index-knows-number.result refl below c.index-knows-number.is in
     let least : c.min-safe.result ≡ min c.loop-number.safe c.clock_of.result = search rules in
     let clock : c.clock_of.result ≡ (if comes_in net p i then (slice_index_or knows n nothing_known).clock else t.stop) =
-    c.clock_of.ensures ∙ ap (λ d. if comes_in net p (receiving_iface t d) then c.index-knows-number.result.clock else t.stop) c.new-channel.ensures
+    c.clock_of.ensures ∙ ap (λ d. if comes_in net p (receiving_iface t d) then c.index-knows-number.result.clock else t.stop) c.channel_number-channel.ensures
     ∙ ap (λ (k : Know (List ℕ)). if comes_in net p i then k.clock else t.stop) (sym known) in
     let known_at : K i ≡ slice_index_or knows n nothing_known = known_here t knows n here in
     let most = c.safe_time_is_the_least.ensures.stop net p K in

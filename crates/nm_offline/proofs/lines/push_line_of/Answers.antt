@@ -11,7 +11,7 @@ pub bounds-books-index : goal.bounds-books-index
 bounds-books-index c =
     let t = c.args.topology.now in
     let there = book_there t c.args.books.now c.args.number c.every_topology_is_a_network.ensures.parted c.requires.books c.requires.there in
-    let same : c.new-iface.result ≡ c.args.number = search rules in
+    let same : c.iface_number-iface.result ≡ c.args.number = search rules in
     let p : c.partition_of-partition.result ≡ receiver_of (net_of t) c.args.number = c.partition_of-partition.ensures ∙ ap (λ i. (net_of t).part ((net_of t).owner i)) same in
     let i = c.index.ensures in
     omega (arith, there, p, i)
@@ -22,7 +22,7 @@ returns c = λ totals are iface is.
     let books = c.args.books.now in
     let n = c.args.number in
     let there = book_there t books n c.every_topology_is_a_network.ensures.parted c.requires.books c.requires.there in
-    let same : c.new-iface.result ≡ n = search rules in
+    let same : c.iface_number-iface.result ≡ n = search rules in
     let p : c.partition_of-partition.result ≡ receiver_of (net_of t) n = c.partition_of-partition.ensures ∙ ap (λ i. (net_of t).part ((net_of t).owner i)) same in
     let place : c.index.result ≡ receiver_of (net_of t) n = c.index.ensures ∙ p in
     let b = c.index-books-index.result in

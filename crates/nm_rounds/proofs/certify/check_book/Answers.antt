@@ -22,7 +22,7 @@ returns-in_err-check_senders c =
     let inside : i < net.ifaces = let h = c.channels_are_numbered_by_their_receivers.ensures.there n there in let e = ifaces_are t in omega (arith, h, e) in
     let e : c.from_residual.result ≡ Err c.in_err-check_senders.field-0.0 = search rules in
     let here : FindsFault t (incoming_fault t books r i) (Err c.in_err-check_senders.field-0.0) =
-    subst (λ d. FindsFault t (incoming_fault t books r (receiving_iface t d)) (Err c.in_err-check_senders.field-0.0)) c.new-channel.ensures c.in_err-check_senders.ensures in
+    subst (λ d. FindsFault t (incoming_fault t books r (receiving_iface t d)) (Err c.in_err-check_senders.field-0.0)) c.channel_number-channel.ensures c.in_err-check_senders.ensures in
     let f = found t (incoming_fault t books r i) c.in_err-check_senders.field-0.0 here in
     let elsewhere : (j : ℕ) → comes_in net r.part j ≡ false → incoming_fault t books r j ≡ None =
     λ j h. ap (λ z. cond z (first_of (sender_fault t j r) (books_of books)) None) h in

@@ -10,7 +10,7 @@ loop-number-preserved c x are =
     let m = c.in_ok-messages.messages in
     subst (λ z. AreAllNews t x (k + 1) (map (λ messages. messages.items) z)) (sym c.in_ok-push.ensures.items)
     (more_news t x (λ messages. messages.items) k c.loop-number.news.items m (c.loop-number.invariant x are)
-    (subst (λ z. AreNewsOf t x z m.items) c.new.ensures (c.in_ok-messages.ensures x are)))
+    (subst (λ z. AreNewsOf t x z m.items) c.channel_number.ensures (c.in_ok-messages.ensures x are)))
 
 pub returns : goal.returns
 returns c x are =

@@ -16,6 +16,12 @@ loop-number-init c x are news =
     let t = c.args.topology.now in
     heard_none t x (channel_here t c.channels_are_numbered_by_their_receivers.ensures.inverse c.channels_are_numbered_by_their_receivers.ensures.there) c.args.books.now.items are
 
+pub channel_number-requires : goal.channel_number-requires
+channel_number-requires c =
+    let news = c.requires.2 in
+    let below : c.loop-number.number < length c.args.news.now = search rules in
+    let m = news.count in let n = length-map c.args.news.now (λ messages. messages.items) in omega (arith, below, m, n)
+
 pub index_mut-requires : goal.index_mut-requires
 index_mut-requires c =
     let t = c.args.topology.now in
@@ -26,7 +32,7 @@ index_mut-requires c =
     let low : k < length t.receivers = let m = news.count in let n = length-map c.args.news.now (λ messages. messages.items) in omega (arith, below, m, n) in
     let there = receiver_there t c.every_topology_is_a_network.ensures.network c.every_topology_is_a_network.ensures.parted (receiving_iface t k)
     (c.channels_are_numbered_by_their_receivers.ensures.there k low) in
-    let at : c.index.result ≡ receiver_of (net_of t) (receiving_iface t k) = c.index.ensures ∙ c.receiver_of-receiver.ensures ∙ ap (λ z. receiver_of (net_of t) (receiving_iface t z)) c.new.ensures in
+    let at : c.index.result ≡ receiver_of (net_of t) (receiving_iface t k) = c.index.ensures ∙ c.receiver_of-receiver.ensures ∙ ap (λ z. receiver_of (net_of t) (receiving_iface t z)) c.channel_number.ensures in
     let count = have.count in
     omega (arith, there, at, count, c.loop-number.books.ok.0)
 
@@ -39,7 +45,7 @@ loop-number-preserved c x are news =
     let low : k < length t.receivers = let m = news.count in let n = length-map c.args.news.now (λ messages. messages.items) in omega (arith, below, m, n) in
     let there = receiver_there t c.every_topology_is_a_network.ensures.network c.every_topology_is_a_network.ensures.parted (receiving_iface t k)
     (c.channels_are_numbered_by_their_receivers.ensures.there k low) in
-    let at : c.index.result ≡ receiver_of (net_of t) (receiving_iface t k) = c.index.ensures ∙ c.receiver_of-receiver.ensures ∙ ap (λ z. receiver_of (net_of t) (receiving_iface t z)) c.new.ensures in
+    let at : c.index.result ≡ receiver_of (net_of t) (receiving_iface t k) = c.index.ensures ∙ c.receiver_of-receiver.ensures ∙ ap (λ z. receiver_of (net_of t) (receiving_iface t z)) c.channel_number.ensures in
     let told : slice_get (map (λ messages. messages.items) c.args.news.now) k ≡ Some c.index-news-number.result.items =
     slice_get-map (λ messages. messages.items) c.args.news.now k
     ∙ ap (option_map (λ messages. messages.items)) (slice_get_read c.args.news.now (length c.args.news.now) k c.index-news-number.result refl below c.index-news-number.is) in

@@ -1,5 +1,5 @@
 use Rattle.std.proofs.Common.{◌≡◌, ap, ◌∙◌}
-use Rattle.nm_script.specs.Words.{step_said}
+use Rattle.nm_script.specs.Tokens.{step_said}
 use Rattle.nm_script.proofs.Parts.{parts_at-split, parts_at-whole}
 use Rattle.nm_script.proofs.Steps.{at_most_four, named_step, one_word}
 use Rattle.nm_script.proofs.line.step_on.Goals as goal

@@ -18,7 +18,7 @@ loop-number-preserved c =
     let rows = c.loop-number.invariant.rows in
     let x = c.seen_of-seen.result in
     let low : n < length t.ifaces = search rules in
-    let same : c.new-iface.result ≡ n = search rules in
+    let same : c.iface_number-iface.result ≡ n = search rules in
     let at = subst (λ i. slice_get t.ifaces i ≡ Some c.iface.result.now) same c.iface.ensures in
     record {
       within = omega (arith, low);

@@ -9,7 +9,7 @@ use Rattle.nm_sim.proofs.devices.first_nodes.Goals as goal
 pub loop-number-preserved : goal.loop-number-preserved
 loop-number-preserved c =
     let count : length c.push.new.self.items ≡ c.loop-number.number + 1 = search rules in
-    let at : c.new.result ≡ length c.loop-number.nodes.items = c.new.ensures ∙ omega (arith, c.loop-number.invariant.0) in
+    let at : c.node_number.result ≡ length c.loop-number.nodes.items = c.node_number.ensures ∙ omega (arith, c.loop-number.invariant.0) in
     let new = subst (λ k. IsThere (is_node_here c.args.topology.now c.args.part.now k) (λ n. IsNodeOf c.args.topology.now k n (first_state c.args.topology.now k)) c.in_ok-node.node)
     at c.in_ok-node.ensures in (
       count,

@@ -11,7 +11,7 @@ use Rattle.nm_sim.proofs.devices.first_ports.Goals as goal
 pub loop-number-preserved : goal.loop-number-preserved
 loop-number-preserved c =
     let count : length c.push.new.self.items ≡ c.loop-number.number + 1 = search rules in
-    let at : c.new.result ≡ length c.loop-number.ports.items = c.new.ensures ∙ omega (arith, c.loop-number.invariant.0) in
+    let at : c.iface_number.result ≡ length c.loop-number.ports.items = c.iface_number.ensures ∙ omega (arith, c.loop-number.invariant.0) in
     let new = subst (λ k. IsThere (is_iface_here c.args.topology.now c.args.part.now k) (λ w. IsPortOf c.args.topology.now k w idle_port) c.in_ok-port.port)
     at c.in_ok-port.ensures.port in (
       count,

@@ -8,7 +8,7 @@ use Rattle.nm_sim.proofs.devices.first_sources.Goals as goal
 pub loop-number-preserved : goal.loop-number-preserved
 loop-number-preserved c =
     let count : length c.push.new.self.items ≡ c.loop-number.number + 1 = search rules in
-    let at : c.new.result ≡ length c.loop-number.sources.items = c.new.ensures ∙ omega (arith, c.loop-number.invariant.0) in
+    let at : c.source_number.result ≡ length c.loop-number.sources.items = c.source_number.ensures ∙ omega (arith, c.loop-number.invariant.0) in
     let new = subst (λ k. IsThere (is_source_here c.args.topology.now c.args.part.now k) (λ s. source_of c.args.topology.now k ≡ Some s) c.in_ok-source.source)
     at c.in_ok-source.ensures in (
       count,

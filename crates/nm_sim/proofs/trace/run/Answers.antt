@@ -11,7 +11,7 @@ returns-then-not-branch-clause-done c =
     let t = c.args.topology.now in
     let s = one_list (net_of t) c.loop-done.done in
     let represents = c.loop-done.invariant.0 in
-    let ended = subst (λ b. Advanced pending_of t None c.args.before s c.loop-done.part c.advance.new.self (Ok b)) c.if-not-branch.true
+    let ended = subst (λ b. Advanced pending_of t (record { part = None; state = s; until = c.args.before }) c.loop-done.part c.advance.new.self (Ok b)) c.if-not-branch.true
     (c.in_ok-advance.ensures.advance None s represents) in (
       c.loop-done.done,
       record {
@@ -25,7 +25,7 @@ pub loop-done-preserved : goal.loop-done-preserved
 loop-done-preserved c =
     let t = c.args.topology.now in
     let s = one_list (net_of t) c.loop-done.done in
-    let more = subst (λ b. Advanced pending_of t None c.args.before s c.loop-done.part c.advance.new.self (Ok b)) c.if-not-branch.false
+    let more = subst (λ b. Advanced pending_of t (record { part = None; state = s; until = c.args.before }) c.loop-done.part c.advance.new.self (Ok b)) c.if-not-branch.false
     (c.in_ok-advance.ensures.advance None s c.loop-done.invariant.0) in
     let next : suc c.loop-done.done ≡ c.loop-done.done + 1 = omega arith in (
       subst (λ n. Represents pending_of t None c.advance.new.self (one_list (net_of t) n)) next more.0,

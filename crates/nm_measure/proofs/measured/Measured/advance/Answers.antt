@@ -13,7 +13,7 @@ count_all-requires c =
     let m = c.loop-done.invariant in
     let s = one_list (net_of t) m.events in
     let given : c.in_ok-key.field-0 ≡ Some c.in-Some.key = search rules in
-    let more = subst (λ o. Stepped pending_of t None c.args.until s c.loop-done.self-inside.part c.step.new.self (Ok o)) given
+    let more = subst (λ o. Stepped pending_of t (record { part = None; state = s; until = c.args.until }) c.loop-done.self-inside.part c.step.new.self (Ok o)) given
     (c.in_ok-key.ensures.step None s m.counted.represents) in (
       t,
       one_list (net_of t) (suc m.events),
@@ -26,7 +26,7 @@ loop-done-preserved c =
     let m = c.loop-done.invariant in
     let s = one_list (net_of t) m.events in
     let given : c.in_ok-key.field-0 ≡ Some c.in-Some.key = search rules in
-    let more = subst (λ o. Stepped pending_of t None c.args.until s c.loop-done.self-inside.part c.step.new.self (Ok o)) given
+    let more = subst (λ o. Stepped pending_of t (record { part = None; state = s; until = c.args.until }) c.loop-done.self-inside.part c.step.new.self (Ok o)) given
     (c.in_ok-key.ensures.step None s m.counted.represents) in
     let all = c.count_all.ensures t (one_list (net_of t) (suc m.events))
     (counted_step t s c.loop-done.self-inside.part c.step.new.self c.loop-done.self-inside.traffic.items m.counted m.all more.0 c.step.ensures.keeping) in

@@ -22,12 +22,12 @@ invariant_of-self-2 c =
 
 pub returns : goal.returns
 returns c = rw (← c.self.view_is) record {
-  does = λ part states ports number s.
+  does = λ states number s.
       let member = busy_member _ (subst (λ (v : DevicesValue). IsBusy (slice_get v.ports c.args.iface)) (sym c.self.view_is) c.requires.busy) in
       let within : c.args.iface < length c.self.inside.ports.items = member_within c.self.inside.ports.items c.args.iface member in
       let here : slice_get c.self.inside.ports.items c.args.iface ≡ Some c.index_mut.result.now = search (rules, slice_get_read) in
       let after : DevicesValue = record { nodes = c.self.inside.nodes.items; ports = slice_set c.self.inside.ports.items c.index.result (Some c.done-start.new.self); sources = c.self.inside.sources.items; used = c.self.inside.used; wanted = c.self.inside.wanted } in
-      completes_by c.args.topology.now part (the_view c.self.inside) after states ports s c.args.time c.args.iface number c.in-Some.port c.done-start.new.self.room c.done-start.result (here ∙ ap Some c.in-Some.is)
+      completes_by c.args.topology.now states (the_view c.self.inside) after s c.args.time c.args.iface number c.in-Some.port c.done-start.new.self.room c.done-start.result (here ∙ ap Some c.in-Some.is)
       refl (λ k. slice_set c.self.inside.ports.items (c.index.ensures k) (Some (c.done-start.ensures.port k))) refl c.done-start.ensures.packet c.done-start.ensures.start _ refl c.transmission_at.ensures refl;
   copied =
       let member = busy_member _ (subst (λ (v : DevicesValue). IsBusy (slice_get v.ports c.args.iface)) (sym c.self.view_is) c.requires.busy) in

@@ -5,9 +5,9 @@ use Rattle.nm_sim.proofs.devices.Devices.offer.Goals as goal
 
 pub returns-in-Send : goal.returns-in-Send
 returns-in-Send c = record {
-  sends = λ part node port sent s is.
+  sends = λ states sent s is.
       let it = subst (λ r. IsSent c.args.self.now.ports r sent) c.in-Send.is is in
-      subst (λ z. Sends c.args.topology.now part node port c.args.time z c.offer_packet.new.self c.offer_packet.result) (sym it) (c.offer_packet.ensures.sends part node port s);
+      subst (λ z. Sends c.args.topology.now states c.args.time z c.offer_packet.new.self c.offer_packet.result) (sym it) (c.offer_packet.ensures.sends states s);
   copied = c.offer_packet.ensures.copied;
   wanted = c.offer_packet.ensures.wanted;
 }
@@ -17,18 +17,18 @@ offer_alone-requires-clause-unwanted c = subst (PassesUnwanted c.args.self.now.w
 
 pub returns-in-Pass : goal.returns-in-Pass
 returns-in-Pass c = record {
-  sends = λ part node port sent s is.
+  sends = λ states sent s is.
       let it = subst (λ r. IsSent c.args.self.now.ports r sent) c.in-Pass.is is in
-      subst (λ z. Sends c.args.topology.now part node port c.args.time z c.offer_alone.new.self c.offer_alone.result) (sym it) (c.offer_alone.ensures.sends part node port s);
+      subst (λ z. Sends c.args.topology.now states c.args.time z c.offer_alone.new.self c.offer_alone.result) (sym it) (c.offer_alone.ensures.sends states s);
   copied = c.offer_alone.ensures.copied;
   wanted = c.offer_alone.ensures.wanted;
 }
 
 pub returns-in-Refused : goal.returns-in-Refused
 returns-in-Refused c = record {
-  sends = λ part node port sent s is.
+  sends = λ states sent s is.
       let it = subst (λ r. IsSent c.args.self.now.ports r sent) c.in-Refused.is is in
-      subst (λ z. Sends c.args.topology.now part node port c.args.time z c.drop_at.new.self None) (sym it.1) (c.drop_at.ensures.drops part node port c.args.time it.0 s it.2);
+      subst (λ z. Sends c.args.topology.now states c.args.time z c.drop_at.new.self None) (sym it.1) (c.drop_at.ensures.drops states c.args.time it.0 s it.2);
   copied = tt;
   wanted = c.drop_at.ensures.wanted;
 }

@@ -40,14 +40,14 @@ invariant_of-self-2 c =
 
 pub returns : goal.returns
 returns c = rw (← c.self.view_is) record {
-  sends = λ part node port s.
+  sends = λ states s.
       let room = subst (λ (v : DevicesValue). AllSome (λ i w. 1 ≤ w.room) v.ports) (sym c.self.view_is) c.requires.room in
       let member = subst (λ (v : DevicesValue). IsMember (slice_get v.ports c.args.iface)) (sym c.self.view_is) c.requires.own in
       let within : c.args.iface < length c.self.inside.ports.items = member_within c.self.inside.ports.items c.args.iface member in
       let here : slice_get c.self.inside.ports.items c.args.iface ≡ Some c.index_mut.result.now = search (rules, slice_get_read) in
       let after : DevicesValue = record { nodes = c.self.inside.nodes.items; ports = slice_set c.self.inside.ports.items c.index.result (Some c.offer_alone-start.new.self); sources = c.self.inside.sources.items; used = Some c.args.iface; wanted = c.self.inside.wanted } in
-      subst (λ o. Sends c.args.topology.now part node port c.args.time (Some (c.args.iface, c.args.packet)) after o) (sym c.transmission_at.ensures)
-      (sends_by c.args.topology.now part (the_view c.self.inside) after node port s c.args.time c.args.iface c.args.packet c.in-Some.port c.offer_alone-start.new.self.room c.offer_alone-start.result (here ∙ ap Some c.in-Some.is)
+      subst (λ o. Sends c.args.topology.now states c.args.time (Some (c.args.iface, c.args.packet)) after o) (sym c.transmission_at.ensures)
+      (sends_by c.args.topology.now states (the_view c.self.inside) after s c.args.time c.args.iface c.args.packet c.in-Some.port c.offer_alone-start.new.self.room c.offer_alone-start.result (here ∙ ap Some c.in-Some.is)
       refl (λ k. slice_set c.self.inside.ports.items (c.index.ensures k) (Some (c.offer_alone-start.ensures.port k))) refl c.offer_alone-start.ensures.packet c.offer_alone-start.ensures.start);
   copied = subst (λ o. IfSome o (IsCopied c.self.inside.wanted)) (sym c.transmission_at.ensures) (copied_at c.self.inside.wanted c.args.iface c.offer_alone-start.result (λ e. absurd (true≢false (sym e ∙ ap (λ (v : DevicesValue). is_wanted v.wanted c.args.iface) c.self.view_is ∙ c.requires.unwanted))));
   wanted = refl;

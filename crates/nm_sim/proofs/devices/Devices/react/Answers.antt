@@ -16,7 +16,7 @@ react-requires-clause-table c =
     let member = subst (λ (v : DevicesValue). IsMember (slice_get v.nodes c.args.node)) (sym c.self.view_is) c.requires.node in
     let within : c.args.node < length c.self.inside.nodes.items = member_within c.self.inside.nodes.items c.args.node member in
     let here : slice_get c.self.inside.nodes.items c.args.node ≡ Some c.index_mut.result.now = search (rules, slice_get_read) in
-    table_is c.args.topology.now z.0 (the_view c.self.inside) (the_view c.self.inside) z.1 z.2 z.3 c.args.node c.in-Some.state (here ∙ ap Some c.in-Some.is)
+    table_is c.args.topology.now z.0 (the_view c.self.inside) (the_view c.self.inside) z.1 c.args.node c.in-Some.state (here ∙ ap Some c.in-Some.is)
 
 pub returns-clause-own : goal.returns-clause-own
 returns-clause-own c =
@@ -24,16 +24,16 @@ returns-clause-own c =
     let member = subst (λ (v : DevicesValue). IsMember (slice_get v.nodes c.args.node)) (sym c.self.view_is) c.requires.node in
     let within : c.args.node < length c.self.inside.nodes.items = member_within c.self.inside.nodes.items c.args.node member in
     let here : slice_get c.self.inside.nodes.items c.args.node ≡ Some c.index_mut.result.now = search (rules, slice_get_read) in
-    IfOk-weaker c.react.result _ _ (λ r q. sends_by_own c.args.topology.now z.0 (the_view c.self.inside) (the_view c.self.inside) z.1 z.2 z.3 c.args.node c.in-Some.state (here ∙ ap Some c.in-Some.is)
+    IfOk-weaker c.react.result _ _ (λ r q. sends_by_own c.args.topology.now z.0 (the_view c.self.inside) (the_view c.self.inside) z.1 c.args.node c.in-Some.state (here ∙ ap Some c.in-Some.is)
     c.args.origin c.args.packet.now r c.a_node_sends_by_its_own_interfaces.ensures
     (subst (λ z. IsSent z r (reaction c.args.topology.now c.in-Some.state.table.node c.in-Some.state c.args.origin c.args.packet.now).1) c.deref.ensures.value q.1)) c.react.ensures.ok
 
 pub returns-clause-reacts : goal.returns-clause-reacts
-returns-clause-reacts c = rw (← c.self.view_is) (λ part states ports s.
+returns-clause-reacts c = rw (← c.self.view_is) (λ states s.
     let member = subst (λ (v : DevicesValue). IsMember (slice_get v.nodes c.args.node)) (sym c.self.view_is) c.requires.node in
     let within : c.args.node < length c.self.inside.nodes.items = member_within c.self.inside.nodes.items c.args.node member in
     let here : slice_get c.self.inside.nodes.items c.args.node ≡ Some c.index_mut.result.now = search (rules, slice_get_read) in
     let after : DevicesValue = record { nodes = slice_set c.self.inside.nodes.items c.index.result (Some c.react.new.state); ports = c.self.inside.ports.items; sources = c.self.inside.sources.items; used = c.self.inside.used; wanted = c.self.inside.wanted } in
-    IfOk-weaker c.react.result _ _ (λ r q. reacts_with c.args.topology.now part (the_view c.self.inside) after states ports s c.args.node c.in-Some.state (here ∙ ap Some c.in-Some.is)
+    IfOk-weaker c.react.result _ _ (λ r q. reacts_with c.args.topology.now states (the_view c.self.inside) after s c.args.node c.in-Some.state (here ∙ ap Some c.in-Some.is)
     c.react.new.state c.args.origin c.args.packet.now r
     (subst (λ z. IsReaction z r c.react.new.state (reaction c.args.topology.now c.in-Some.state.table.node c.in-Some.state c.args.origin c.args.packet.now)) c.deref.ensures.value q) (ap (λ k. slice_set c.self.inside.nodes.items k (Some c.react.new.state)) c.index.ensures) refl refl) c.react.ensures.ok)

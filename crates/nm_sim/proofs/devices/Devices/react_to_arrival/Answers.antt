@@ -12,10 +12,10 @@ react-requires-clause-node c =
     let owner = owner_is c.args.topology.now c.args.iface c.iface.result.now c.iface.ensures ∙ sym c.node-node.ensures in
     let within : c.node-node.result < length c.args.topology.now.nodes = subst (λ v. v < length c.args.topology.now.nodes) (sym c.node-node.ensures)
     (all_at (λ x. x.node < length c.args.topology.now.nodes) c.args.topology.now.ifaces c.args.iface c.iface.result.now c.iface.ensures c.accepted_topologies_are_in_order.ensures.order.owners) in
-    iface_node c.args.topology.now z.0 _ z.1 z.2 z.3 c.node-node.result within c.args.iface c.requires.place owner
+    iface_node c.args.topology.now z.0 _ z.1 c.node-node.result within c.args.iface c.requires.place owner
 
 pub returns-clause-reacts : goal.returns-clause-reacts
-returns-clause-reacts c = λ part states ports s.
+returns-clause-reacts c = λ states s.
     let owner = owner_is c.args.topology.now c.args.iface c.iface.result.now c.iface.ensures ∙ sym c.node-node.ensures in
-    subst (λ v. IfOk c.react.result (ReactsWith c.args.topology.now part states ports v (Arrival c.args.iface) c.args.packet.now c.react.new.self))
-    (sym owner) (c.react.ensures.reacts part states ports s)
+    subst (λ v. IfOk c.react.result (ReactsWith c.args.topology.now states v (Arrival c.args.iface, c.args.packet.now) c.react.new.self))
+    (sym owner) (c.react.ensures.reacts states s)

@@ -15,7 +15,7 @@ use Rattle.nm_sim.proofs.devices.Devices.react_to_source.Goals as goal
 pub react-requires-clause-node : goal.react-requires-clause-node
 react-requires-clause-node c =
     let z = c.requires.represented in
-    source_node c.args.topology.now z.0 c.args.self.now z.1 z.2 z.3 c.node_of_source-node.result c.node_of_source-node.ensures.there c.args.source c.requires.place c.node_of_source-node.ensures.node
+    source_node c.args.topology.now z.0 c.args.self.now z.1 c.node_of_source-node.result c.node_of_source-node.ensures.there c.args.source c.requires.place c.node_of_source-node.ensures.node
 
 pub returns-clause-follows : goal.returns-clause-follows
 returns-clause-follows c =
@@ -23,10 +23,10 @@ returns-clause-follows c =
     let member = subst (λ (v : DevicesValue). IsMember (slice_get v.sources c.args.source)) (sym c.self.view_is) c.requires.place in
     let within : c.args.source < length c.self.inside.sources.items = member_within c.self.inside.sources.items c.args.source member in
     let here : slice_get c.self.inside.sources.items c.args.source ≡ Some c.index-2.result.now = search (rules, slice_get_read) in
-    let at = at_there (is_source_here c.args.topology.now z.0) (λ j x. source_of c.args.topology.now j ≡ Some x) c.self.inside.sources.items z.3.sources c.args.source c.in-Some.state (here ∙ ap Some c.in-Some.is) in
+    let at = at_there (is_source_here c.args.topology.now z.0.part) (λ j x. source_of c.args.topology.now j ≡ Some x) c.self.inside.sources.items z.1.sources c.args.source c.in-Some.state (here ∙ ap Some c.in-Some.is) in
     c.in_ok-follows.ensures ∙ sym (source_is c.args.topology.now c.args.source _ c.in-Some.state at.1)
 
 pub returns-clause-reacts : goal.returns-clause-reacts
-returns-clause-reacts c = λ part states ports s.
-    subst (λ v. ReactsWith c.args.topology.now part states ports v (Source c.args.source) c.args.packet.now c.react.new.self c.in_ok-reaction.reaction)
-    (sym c.node_of_source-node.ensures.node) (c.in_ok-reaction.ensures.reacts part states ports s)
+returns-clause-reacts c = λ states s.
+    subst (λ v. ReactsWith c.args.topology.now states v (Source c.args.source, c.args.packet.now) c.react.new.self c.in_ok-reaction.reaction)
+    (sym c.node_of_source-node.ensures.node) (c.in_ok-reaction.ensures.reacts states s)

@@ -1,4 +1,4 @@
-use Rattle.std.proofs.Common.{Some, None, refl, sym, ap, ◌∙◌, subst}
+use Rattle.std.proofs.Common.{Some, refl, sym, ap, ◌∙◌, subst}
 use Rattle.nm_base.specs.declared.event.Event.TheVariants.{Delivery}
 use Rattle.nm_base.specs.declared.event.Origin.TheVariants.{Arrival}
 use Rattle.nm_model.specs.Run.{keyed}
@@ -6,7 +6,7 @@ use Rattle.std.specs.FinMap.{insert}
 use Rattle.nm_base.specs.Key.{key_of}
 use Rattle.nm_base.specs.declared.key.Place.TheVariants.{Arrive}
 use Rattle.nm_forward.specs.Reacting.{PassesUnwanted}
-use Rattle.nm_sim.specs.Part.{IsReady, PartValue}
+use Rattle.nm_sim.specs.Part.{IsReady, PartValue, states_in, to_do}
 use Rattle.nm_sim.proofs.Parts.{represents_again}
 use Rattle.nm_sim.proofs.Steps.{least_has, port_is_kept}
 use Rattle.nm_sim.proofs.Takings.{arrives_on, key_is_free}
@@ -16,24 +16,26 @@ pub react_in_place-requires-clause-place : goal.react_in_place-requires-clause-p
 react_in_place-requires-clause-place g c =
     let part = c.requires.ready.0 in
     let s = c.requires.ready.1 in
-    let ready = subst (λ (p : PartValue g.row.L.Denot). IsReady g.L.EventList.pending g.L.EventList.room c.args.topology.now part c.args.time c.args.number (Delivery (Arrival c.args.iface) c.args.packet) p s) (sym c.self.view_is) c.requires.ready.2 in
-    let there = least_has s.pending (keyed c.args.time c.args.number (Delivery (Arrival c.args.iface) c.args.packet)) ready.taken.first in
-    port_is_kept c.args.topology.now part s ready.taken.orderly c.self.inside.devices ready.devices c.args.iface c.args.time c.args.number (Delivery (Arrival c.args.iface) c.args.packet) there (ready.taken.placed _ _ there)
+    let ready = subst (λ (p : PartValue g.row.L.Denot). IsReady g.L.EventList.pending c.args.topology.now part (keyed c.args.due.time c.args.due.number (Delivery (Arrival c.args.iface) c.args.packet)) p s) (sym c.self.view_is) c.requires.ready.2 in
+    let there = least_has s.pending (keyed c.args.due.time c.args.due.number (Delivery (Arrival c.args.iface) c.args.packet)) ready.taken.first in
+    port_is_kept c.args.topology.now part s ready.taken.orderly c.self.inside.devices ready.devices c.args.iface c.args.due.time c.args.due.number (Delivery (Arrival c.args.iface) c.args.packet) there (ready.taken.placed _ _ there)
 
 pub put-requires-clause-fresh : goal.put-requires-clause-fresh
 put-requires-clause-fresh g c =
+    let part = c.requires.ready.0 in
+    let s = c.requires.ready.1 in
     let p : PartValue g.row.L.Denot = record { part = c.self.inside.part; devices = c.self.inside.devices; timeline = c.self.inside.timeline; outgoing = c.self.inside.outgoing; records = c.self.inside.records; steps = c.self.inside.steps } in
-    let ready = subst (λ (p : PartValue g.row.L.Denot). IsReady g.L.EventList.pending g.L.EventList.room c.args.topology.now c.requires.ready.0 c.args.time c.args.number (Delivery (Arrival c.args.iface) c.args.packet) p c.requires.ready.1) (sym c.self.view_is) c.requires.ready.2 in
-    key_is_free g.L.EventList.pending c.args.topology.now c.requires.ready.0 c.args.time c.args.number (Delivery (Arrival c.args.iface) c.args.packet) p c.requires.ready.1 ready.taken
+    let ready = subst (λ (p : PartValue g.row.L.Denot). IsReady g.L.EventList.pending c.args.topology.now part (keyed c.args.due.time c.args.due.number (Delivery (Arrival c.args.iface) c.args.packet)) p s) (sym c.self.view_is) c.requires.ready.2 in
+    key_is_free g.L.EventList.pending c.args.topology.now part (keyed c.args.due.time c.args.due.number (Delivery (Arrival c.args.iface) c.args.packet)) p s ready
 
 pub returns-in-Err : goal.returns-in-Err
 returns-in-Err g c = rw (← c.self.view_is) (
   λ part s ready.
       let p : PartValue g.row.L.Denot = record { part = c.self.inside.part; devices = c.self.inside.devices; timeline = c.self.inside.timeline; outgoing = c.self.inside.outgoing; records = c.self.inside.records; steps = c.self.inside.steps } in
       let q : PartValue g.row.L.Denot = record { part = c.self.inside.part; devices = c.react_in_place.new.self; timeline = c.put.new.self; outgoing = c.self.inside.outgoing; records = c.self.inside.records; steps = c.self.inside.steps } in
-      represents_again g.L.EventList.pending c.args.topology.now part c.args.time c.args.number (Delivery (Arrival c.args.iface) c.args.packet) p q
-      (record { is_part = refl; sent = ap (λ l. l.sent) c.put.ensures.others; outgoing = refl; steps = refl; wanted = ap (λ d. d.wanted) c.in-Err.ensures.err; keeping = refl }) s ready.taken ready.devices
-      c.in-Err.ensures.err refl (c.put.ensures.events ∙ ap (λ x. insert (g.L.EventList.pending c.self.inside.timeline.events) (key_of c.args.time (Arrive c.args.iface) c.args.number) (Delivery (Arrival c.args.iface) x)) c.in-Err.ensures.back),
+      represents_again g.L.EventList.pending c.args.topology.now part (keyed c.args.due.time c.args.due.number (Delivery (Arrival c.args.iface) c.args.packet)) p q
+      (record { is_part = refl; sent = ap (λ l. l.sent) c.put.ensures.others; outgoing = refl; steps = refl; wanted = ap (λ d. d.wanted) c.in-Err.ensures.err; keeping = refl }) s ready
+      c.in-Err.ensures.err refl (c.put.ensures.events ∙ ap (λ x. insert (g.L.EventList.pending c.self.inside.timeline.events) (key_of c.args.due.time (Arrive c.args.iface) c.args.due.number) (Delivery (Arrival c.args.iface) x)) c.in-Err.ensures.back),
   refl,
   refl,
 )
@@ -47,19 +49,10 @@ send-requires-clause-reacted g c =
     let s = c.requires.ready.1 in
     let p : PartValue g.row.L.Denot = record { part = c.self.inside.part; devices = c.self.inside.devices; timeline = c.self.inside.timeline; outgoing = c.self.inside.outgoing; records = c.self.inside.records; steps = c.self.inside.steps } in
     let q : PartValue g.row.L.Denot = record { part = c.self.inside.part; devices = c.react_in_place.new.self; timeline = c.self.inside.timeline; outgoing = c.self.inside.outgoing; records = c.count_arrival.new.self; steps = c.self.inside.steps } in
-    let ready = subst (λ (p : PartValue g.row.L.Denot). IsReady g.L.EventList.pending g.L.EventList.room c.args.topology.now part c.args.time c.args.number (Delivery (Arrival c.args.iface) c.args.packet) p s) (sym c.self.view_is) c.requires.ready.2 in
-    let r = c.in-Ok.ensures.reacts part s.node s.port ready.devices in (
-      part,
-      c.args.number,
-      Delivery (Arrival c.args.iface) c.args.packet,
-      Some (c.args.iface, c.args.packet),
-      None,
-      r.0,
-      _,
-      s,
-      r.1,
-      arrives_on g.L.EventList.pending g.L.EventList.room c.args.topology.now part c.args.time c.args.number p q (record { is_part = refl; sent = refl; outgoing = refl; steps = refl; wanted = c.react_in_place.ensures.wanted; keeping = c.count_arrival.ensures.keeping }) s c.args.packet r.0 c.args.iface
-          ready r.2 refl (λ trace. c.count_arrival.ensures.represents c.args.topology.now trace c.args.time c.args.packet c.octet_count-octets.ensures.count),
+    let ready = subst (λ (p : PartValue g.row.L.Denot). IsReady g.L.EventList.pending c.args.topology.now part (keyed c.args.due.time c.args.due.number (Delivery (Arrival c.args.iface) c.args.packet)) p s) (sym c.self.view_is) c.requires.ready.2 in (
+      record (to_do part (keyed c.args.due.time c.args.due.number (Delivery (Arrival c.args.iface) c.args.packet)) s) { came = Some (c.args.iface, c.args.packet) },
+      arrives_on g.L.EventList.pending c.args.topology.now part c.args.due.time c.args.due.number p q (record { is_part = refl; sent = refl; outgoing = refl; steps = refl; wanted = c.react_in_place.ensures.wanted; keeping = c.count_arrival.ensures.keeping }) s c.args.packet c.in-Ok.reaction c.args.iface
+          ready (c.in-Ok.ensures.reacts (states_in part s) ready.devices) refl (λ trace. c.count_arrival.ensures.represents c.args.topology.now trace c.args.due.time c.args.packet c.octet_count-octets.ensures.count),
     )
 
 pub returns-in-Ok : goal.returns-in-Ok
@@ -67,10 +60,9 @@ returns-in-Ok g c = rw (← c.self.view_is) (
   λ part s ready.
       let p : PartValue g.row.L.Denot = record { part = c.self.inside.part; devices = c.self.inside.devices; timeline = c.self.inside.timeline; outgoing = c.self.inside.outgoing; records = c.self.inside.records; steps = c.self.inside.steps } in
       let q : PartValue g.row.L.Denot = record { part = c.self.inside.part; devices = c.react_in_place.new.self; timeline = c.self.inside.timeline; outgoing = c.self.inside.outgoing; records = c.count_arrival.new.self; steps = c.self.inside.steps } in
-      let r = c.in-Ok.ensures.reacts part s.node s.port ready.devices in
-      c.send.ensures.represents part c.args.number (Delivery (Arrival c.args.iface) c.args.packet) (Some (c.args.iface, c.args.packet)) None r.0 _ s r.1
-      (arrives_on g.L.EventList.pending g.L.EventList.room c.args.topology.now part c.args.time c.args.number p q (record { is_part = refl; sent = refl; outgoing = refl; steps = refl; wanted = c.react_in_place.ensures.wanted; keeping = c.count_arrival.ensures.keeping }) s c.args.packet r.0 c.args.iface
-      ready r.2 refl (λ trace. c.count_arrival.ensures.represents c.args.topology.now trace c.args.time c.args.packet c.octet_count-octets.ensures.count)),
+      c.send.ensures.represents (record (to_do part (keyed c.args.due.time c.args.due.number (Delivery (Arrival c.args.iface) c.args.packet)) s) { came = Some (c.args.iface, c.args.packet) })
+      (arrives_on g.L.EventList.pending c.args.topology.now part c.args.due.time c.args.due.number p q (record { is_part = refl; sent = refl; outgoing = refl; steps = refl; wanted = c.react_in_place.ensures.wanted; keeping = c.count_arrival.ensures.keeping }) s c.args.packet c.in-Ok.reaction c.args.iface
+      ready (c.in-Ok.ensures.reacts (states_in part s) ready.devices) refl (λ trace. c.count_arrival.ensures.represents c.args.topology.now trace c.args.due.time c.args.packet c.octet_count-octets.ensures.count)),
   c.send.ensures.steps,
   c.send.ensures.keeping ∙ c.count_arrival.ensures.keeping,
 )

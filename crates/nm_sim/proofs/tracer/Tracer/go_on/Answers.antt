@@ -39,7 +39,7 @@ returns c =
     let there : mid.records.keeping.handed ≡ length (cut mid.records.keeping.wanted s.records) =
     ap (λ k. k.handed) gone.1 ∙ ap (λ k. length (cut k.wanted s.records)) (sym gone.1) in
     let once = (c.times_pass.ensures (net_of t) c.every_topology_is_a_network.ensures.network).before_once t.stop in
-    let done = subst (λ u. Advanced pending_of t None u s mid c.advance.new.self c.advance.result) c.stop.ensures (c.advance.ensures.advance None s gone.0) in
+    let done = subst (λ u. Advanced pending_of t (record { part = None; state = s; until = u }) mid c.advance.new.self c.advance.result) c.stop.ensures (c.advance.ensures.advance None s gone.0) in
     record {
       tracing = tracing_after pending_of t mid c.advance.new.self on c.advance.result done;
       next = λ records trace. (

@@ -25,7 +25,7 @@ loop-next-preserved c =
     record {
       within = omega arith;
       len = ap length c.join.ensures ∙ length-set _ l.a _ ∙ length-set far l.b _ ∙ c.loop-next.invariant.len;
-      peers = subst (λ (fs : List Far). All (λ f. f.peer < c.args.count) fs) (sym c.join.ensures)
+      peers = subst (λ (fs : List Far). All (λ f. f.iface < c.args.count) fs) (sym c.join.ensures)
           (All-joined c.args.count far l (subst (λ m. l.a < m) c.loop-next.invariant.len a) (subst (λ m. l.b < m) c.loop-next.invariant.len b) c.loop-next.invariant.peers);
       ends = λ i h. ap (λ v. slice_get v i) c.join.ensures
           ∙ joined-get far l (drop (k + 1) links) i a b (c.loop-next.invariant.ends i h ∙ ap (λ m. Some (far_by_links i (drop m links))) (sym after))

@@ -7,7 +7,7 @@ abbrev pub invariant-loop-next : goal.invariant-loop-next
 invariant-loop-next l = record {
   within : l.next ≤ length l.links;
   len : length l.far.items ≡ l.count;
-  peers : All (λ f. f.peer < l.count) l.far.items;
+  peers : All (λ f. f.iface < l.count) l.far.items;
   ends : (i : ℕ) → i < l.count → slice_get l.far.items i ≡ Some (far_by_links i (drop l.next l.links));
 }
 

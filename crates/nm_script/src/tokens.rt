@@ -1,9 +1,9 @@
-//! The steps that the words of a line name.
+//! The steps that the tokens of a line name.
 
 ghost use Rattle.std.specs.Prelude.{◌≡◌};
 ghost use Rattle.std.specs.Str.{bytes_eq};
-ghost use Rattle.nm_script.specs.Words.{step_said, step_of_four, step_of_three, step_of_two, to_u8};
-ghost use Rattle.nm_script.specs.Words.{to_u32};
+ghost use Rattle.nm_script.specs.Tokens.{step_said, step_of_four, step_of_three, step_of_two, to_u8};
+ghost use Rattle.nm_script.specs.Tokens.{to_u32};
 
 use nm_base::{ChanNo, PartNo};
 use nm_rounds::WorldStep;

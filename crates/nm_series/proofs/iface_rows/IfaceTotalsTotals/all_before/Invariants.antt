@@ -4,7 +4,7 @@ use Rattle.nm_sim.specs.Network.{net_of}
 use Rattle.nm_measure.specs.Measured.{IsMeasuredBefore}
 use Rattle.nm_measure.specs.declared.totals.IfaceTotals.{IfaceTotals}
 use Rattle.nm_series.specs.Rows.{had}
-use Rattle.nm_series.proofs.iface_rows.IfaceTotalsTold.all_before.Given as goal
+use Rattle.nm_series.proofs.iface_rows.IfaceTotalsTotals.all_before.Given as goal
 
 abbrev pub invariant-loop-number : goal.invariant-loop-number
 invariant-loop-number l = record {

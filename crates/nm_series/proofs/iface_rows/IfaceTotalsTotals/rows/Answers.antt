@@ -2,7 +2,7 @@ use Rattle.std.proofs.Common.{◌++◌, ap, ◌∙◌}
 use Rattle.nm_model.specs.Run.{one_list}
 use Rattle.nm_sim.specs.Network.{net_of}
 use Rattle.nm_series.specs.Rows.{rows_of}
-use Rattle.nm_series.proofs.iface_rows.IfaceTotalsTold.rows.Goals as goal
+use Rattle.nm_series.proofs.iface_rows.IfaceTotalsTotals.rows.Goals as goal
 
 pub returns-clause-rows : goal.returns-clause-rows
 returns-clause-rows c =

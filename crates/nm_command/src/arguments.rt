@@ -8,7 +8,7 @@ use nm_pcap::Form;
 
 /// What the words of a trace file name.
 #[derive(Clone, Copy)]
-pub struct TraceWords<'a> {
+pub struct TraceArguments<'a> {
     pub form: Form,
     pub ways: Ways,
     /// The input with the topology text.
@@ -19,7 +19,7 @@ pub struct TraceWords<'a> {
 
 /// What the words of `all` name.
 #[derive(Clone, Copy)]
-pub struct AllWords<'a> {
+pub struct AllArguments<'a> {
     /// The input with the topology text.
     pub topology: &'a str,
     /// The folder of the trace files.
@@ -30,7 +30,7 @@ pub struct AllWords<'a> {
 
 /// What the words of `path` name.
 #[derive(Clone, Copy)]
-pub struct PathWords<'a> {
+pub struct PathArguments<'a> {
     /// The input with the topology text.
     pub topology: &'a str,
     /// The name of the node that sends the packet.
@@ -41,7 +41,7 @@ pub struct PathWords<'a> {
 
 /// What the words of `series` name.
 #[derive(Clone, Copy)]
-pub struct SeriesWords<'a> {
+pub struct SeriesArguments<'a> {
     /// The input with the topology text.
     pub topology: &'a str,
     /// How long a step is: 1 to 10^15 nanoseconds.
@@ -51,7 +51,7 @@ pub struct SeriesWords<'a> {
 
 /// What the words of `packets` name.
 #[derive(Clone, Copy)]
-pub struct PacketsWords<'a> {
+pub struct PacketsArguments<'a> {
     /// The input with the topology text.
     pub topology: &'a str,
     /// The number of the source: 0 to 1,023.
@@ -60,7 +60,7 @@ pub struct PacketsWords<'a> {
 
 /// What the words of `run` name.
 #[derive(Clone, Copy)]
-pub struct RunWords<'a> {
+pub struct RunArguments<'a> {
     /// The input with the topology text.
     pub topology: &'a str,
     /// The folder of its trace files.
@@ -73,7 +73,7 @@ pub struct RunWords<'a> {
 
 /// What the words of `node` name.
 #[derive(Clone, Copy)]
-pub struct NodeWords<'a> {
+pub struct NodeArguments<'a> {
     /// The input with the topology text.
     pub topology: &'a str,
     /// The folder of its trace files.

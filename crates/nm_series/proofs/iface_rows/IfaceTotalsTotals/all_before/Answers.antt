@@ -3,14 +3,14 @@ use Rattle.nm_model.specs.Run.{one_list}
 use Rattle.nm_sim.specs.Network.{net_of}
 use Rattle.nm_series.specs.Rows.{had}
 use Rattle.nm_series.proofs.RowsMore.{pushed}
-use Rattle.nm_series.proofs.iface_rows.IfaceTotalsTold.all_before.Goals as goal
+use Rattle.nm_series.proofs.iface_rows.IfaceTotalsTotals.all_before.Goals as goal
 
 pub loop-number-preserved : goal.loop-number-preserved
 loop-number-preserved c =
     let t = c.args.topology.now in
     let n = c.loop-number.number in
     let low : n < length t.ifaces = search rules in
-    let same : c.new.result ≡ n = search rules in
+    let same : c.iface_number.result ≡ n = search rules in
     let count = c.loop-number.invariant.count in
     let more = c.in_ok-push.ensures.items in
     record {
@@ -21,7 +21,7 @@ loop-number-preserved c =
           ⊎_elim
           (λ before. c.loop-number.invariant.each m i x before)
           (λ last.
-          let at : c.new.result ≡ i = same ∙ sym count ∙ sym last.0 in (
+          let at : c.iface_number.result ≡ i = same ∙ sym count ∙ sym last.0 in (
             ap (λ v. v.traffic) last.1 ∙ subst (λ j. c.totals.result.traffic ≡ (had j s).traffic) at (c.totals.ensures.traffic t c.args.time m),
             ap (λ v. v.dropped) last.1 ∙ subst (λ j. c.totals.result.dropped ≡ (had j s).dropped) at (c.totals.ensures.dropped t c.args.time m),
           ))
