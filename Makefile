@@ -1,6 +1,6 @@
 # `make help` lists the targets.
 
-.PHONY: all help try run bench compare cases run-cases check-docs check-edge check-frames check-links check-network check-pcap cut-connections deep demo tutorial words test gate-times install uninstall clean toolchain
+.PHONY: all help try run bench compare cases run-cases check-docs check-edge check-parts check-frames check-links check-network check-pcap cut-connections deep demo tutorial words test gate-times install uninstall clean toolchain
 
 # The topology and the interface of `make try` and `make run`; the folder of `make cases`; how many jobs `make` proves with; which steps of `make deep`;
 # whether `make compare` writes the times of a busy host; where `make install` puts the program, its manual page and its completion for bash (DESTDIR stands
@@ -27,6 +27,7 @@ help:
 	@echo 'make tutorial    runs the commands of docs/TUTORIAL.md, and compares what they print'
 	@echo 'make check-docs  checks that links and names in the documents are right, and runs the commands of README'
 	@echo 'make check-edge  checks the help, and what is said of faults on a terminal'
+	@echo 'make check-parts  tries links, files that were left and other processes where trace files are written'
 	@echo 'make check-frames compares the reader of frames with a model of its own over generated streams'
 	@echo 'make check-links breaks the connections of replicas at random octets, with ten thousand seeds, and certifies what they come to'
 	@echo 'make check-network runs the tests of tools/network, which wants networkx, METIS and Graphviz (docs/FORMATS.md); a test passed over is no pass'
@@ -113,6 +114,9 @@ words:
 
 check-edge: bin/nullsim
 	@tools/check-edge
+
+check-parts: bin/nullsim
+	@tools/check-parts
 
 check-docs: bin/nullsim
 	@tools/check-docs
