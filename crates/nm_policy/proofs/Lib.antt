@@ -1,2 +1,5 @@
+pub mod Changes
 pub mod Changing
-pub mod Greeting
+pub mod Events
+pub mod Greets
+pub mod Periods

@@ -1,6 +1,7 @@
 -- How often links have ended.
-use Rattle.std.specs.Prelude.{ℕ, ◌-◌, Bool, true, false, ◌==◌, ◌&&◌, ◌||◌, if◌then◌else◌}
+use Rattle.std.specs.Prelude.{ℕ, ◌-◌, Bool, true, false, ◌||◌, if◌then◌else◌}
 use Rattle.nm_frames.specs.declared.replica_name.ReplicaName.{ReplicaName}
+use Rattle.nm_policy.specs.Names.{are_same}
 use Rattle.nm_policy.specs.declared.callers.Caller.{Caller}
 use Rattle.nm_policy.specs.declared.ends.Ends.{Ends}
 use Rattle.nm_policy.specs.declared.ends.Ends.TheVariants.{Open, Once, Sure}
@@ -28,12 +29,12 @@ is_sure Open = false
 is_sure Once = false
 is_sure Sure = true
 
--- For how many periods a peer is not called again: at once where it greeted last time, and seldom
--- once the link has ended for sure, for one that was lost and begun anew.
-abbrev pub rest_of : Ends → (has_greeted : Bool) → ℕ
-rest_of Open has_greeted = if has_greeted then 0 else REST_PERIODS
-rest_of Once has_greeted = if has_greeted then 0 else REST_PERIODS
-rest_of Sure has_greeted = RECALL_PERIODS
+-- For how many periods a peer is not called again: at once where its connection had settled, and
+-- seldom once the link has ended for sure, for one that was lost and begun anew.
+abbrev pub rest_of : Ends → (had_settled : Bool) → ℕ
+rest_of Open had_settled = if had_settled then 0 else REST_PERIODS
+rest_of Once had_settled = if had_settled then 0 else REST_PERIODS
+rest_of Sure had_settled = RECALL_PERIODS
 
 -- for how many periods it is not called, after one more poll, at which a period was over or not
 abbrev pub rest_after : (before : ℕ) → (ran_out : Bool) → ℕ
@@ -48,16 +49,12 @@ after_break ends has_greeted was_there =
 
 -- a caller whose link has not ended
 abbrev pub new_caller : ReplicaName → Caller
-new_caller name = record { name = name; ends = Open; has_broken = false }
+new_caller name = record { name = name; ends = Open }
 
 -- whether it is the caller with this name
 abbrev pub is_named : ReplicaName → Caller → Bool
-is_named name c = (c.name.partition == name.partition) && (c.name.replica == name.replica)
+is_named name c = are_same c.name name
 
 -- the caller after the link with this name has ended once more
 abbrev pub ended_by : ReplicaName → Caller → Caller
 ended_by name c = if is_named name c then record c { ends = once_more c.ends } else c
-
--- the caller after a connection of the replica with this name broke
-abbrev pub broken_by : ReplicaName → Caller → Caller
-broken_by name c = record c { has_broken = c.has_broken || is_named name c }

@@ -1,5 +1,10 @@
-pub mod Dialing
+pub mod Contact
+pub mod Contacts
+pub mod Decisions
 pub mod Ends
 pub mod Lasting
+pub mod Laws
 pub mod Links
+pub mod Names
+pub mod Peers
 pub mod Stays

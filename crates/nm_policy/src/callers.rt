@@ -1,11 +1,12 @@
 //! The replicas that are to call.
 
-ghost use Rattle.std.specs.Prelude.{◌≡◌, ◌&&◌, map, IfOk};
-ghost use Rattle.std.specs.List.{list_all, list_any};
-ghost use Rattle.nm_policy.specs.Ends.{broken_by, ended_by, has_ended, is_named};
+ghost use Rattle.std.specs.Prelude.{◌≡◌, IfOk, count_by, map, not};
+ghost use Rattle.std.specs.List.{list_all};
+ghost use Rattle.nm_policy.specs.Ends.{ended_by, has_ended, is_named};
 ghost use Rattle.nm_policy.specs.Ends.{is_sure, new_caller};
 
 use crate::ends::Ends;
+use crate::names::{are_same, copy_of};
 use nm_frames::ReplicaName;
 use std::alloc::{AllocError, Global};
 
@@ -14,8 +15,6 @@ use std::alloc::{AllocError, Global};
 pub struct Caller {
     pub name: ReplicaName,
     pub ends: Ends,
-    /// A connection of it broke after its Hello: a Bye may have been lost, too.
-    pub has_broken: bool,
 }
 
 /// The replicas that are to call: each is known by its name, whatever connection it comes by.
@@ -30,12 +29,8 @@ impl Caller {
         ensures { result ≡ new_caller name.now }
     {
         Caller {
-            name: ReplicaName {
-                partition: name.partition,
-                replica: name.replica,
-            },
+            name: copy_of(name),
             ends: Ends::Open,
-            has_broken: false,
         }
     }
 
@@ -43,7 +38,7 @@ impl Caller {
     fn is_named(&self, name: &ReplicaName) -> bool
         ensures { result ≡ is_named name.now self.now }
     {
-        self.name.partition == name.partition && self.name.replica == name.replica
+        are_same(&self.name, name)
     }
 
     /// The same, after the link with this name has ended once more.
@@ -56,18 +51,6 @@ impl Caller {
         Caller {
             name: self.name,
             ends: self.ends.once_more(),
-            has_broken: self.has_broken,
-        }
-    }
-
-    /// The same, after a connection of the replica with this name broke.
-    fn broken_by(self, name: &ReplicaName) -> Caller
-        ensures { result ≡ broken_by name.now self }
-    {
-        Caller {
-            name: self.name,
-            ends: self.ends,
-            has_broken: self.has_broken || self.is_named(name),
         }
     }
 }
@@ -81,13 +64,17 @@ fn end_of(callers: &mut [Caller], name: &ReplicaName)
     }
 }
 
-/// A connection of the replica with this name broke.
-fn break_of(callers: &mut [Caller], name: &ReplicaName)
-    ensures { callers.new ≡ map (broken_by name.now) callers.old }
+/// How many links have not ended.
+fn count_open(callers: &[Caller]) -> usize
+    ensures { result ≡ count_by (λ k. not (has_ended k.ends)) callers.now }
 {
-    for caller in callers.iter_mut() {
-        *caller = caller.broken_by(name);
+    let mut count = 0usize;
+    for caller in callers {
+        if !caller.ends.has_ended() {
+            count += 1;
+        }
     }
+    count
 }
 
 impl Callers {
@@ -114,40 +101,11 @@ impl Callers {
         end_of(self.all.as_mut_slice(), name);
     }
 
-    /// Whether the link of the replica with this name has ended before.
-    pub fn has_ended(&self, name: &ReplicaName) -> bool
-        ensures { result ≡ list_any (λ c. is_named name.now c && has_ended c.ends)
-            self.now.all.items }
-    {
-        self.all
-            .iter()
-            .any(|caller| caller.is_named(name) && caller.ends.has_ended())
-    }
-
-    /// A connection of the replica with this name broke. Where no such one is to call nothing is
-    /// noted.
-    pub fn broke(&mut self, name: &ReplicaName)
-        ensures { self.new.all.items ≡ map (broken_by name.now) self.old.all.items }
-    {
-        break_of(self.all.as_mut_slice(), name);
-    }
-
-    /// Whether a connection of one of them broke.
-    pub fn have_broken(&self) -> bool
-        ensures { result ≡ list_any (λ c. c.has_broken) self.now.all.items }
-    {
-        self.all.iter().any(|caller| caller.has_broken)
-    }
-
     /// How many links have not ended.
-    pub fn open_count(&self) -> usize {
-        let mut count = 0usize;
-        for caller in &self.all {
-            if !caller.ends.has_ended() {
-                count = count.saturating_add(1);
-            }
-        }
-        count
+    pub fn open_count(&self) -> usize
+        ensures { result ≡ count_by (λ k. not (has_ended k.ends)) self.now.all.items }
+    {
+        count_open(self.all.as_slice())
     }
 
     /// Whether the links of all have ended.

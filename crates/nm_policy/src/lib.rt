@@ -1,17 +1,26 @@
 //! What a replica decides about the replicas with which it speaks: whom it calls, and when again,
-//! whether their links have ended, and how long it stays for them. No call of the system is made
-//! here.
+//! which connections it lets go, whether links have ended, and how long it stays for others. No
+//! call of the system is made here.
 #![tactic(auto)]
 
 pub mod callers;
-pub mod dialing;
+pub mod contact;
+pub mod contact_event;
+pub mod contacts;
+pub mod decisions;
 pub mod ends;
 pub mod lasting;
+pub mod laws;
 pub mod limits;
+mod names;
+pub mod peer;
 pub mod staying;
 
 pub use callers::Callers;
-pub use dialing::Dialing;
+pub use contact::Contact;
+pub use contact_event::ContactEvent;
+pub use contacts::Contacts;
 pub use ends::Ends;
 pub use lasting::Lasted;
+pub use peer::Peer;
 pub use staying::Stay;

@@ -1,9 +1,9 @@
 //! How long a replica stays whose links have ended.
 
 ghost use Rattle.std.specs.Prelude.{◌≡◌};
-ghost use Rattle.nm_policy.specs.Lasting.{lasted_after};
-ghost use Rattle.nm_policy.specs.Stays.{may_leave, quiet_after};
+ghost use Rattle.nm_policy.specs.Stays.{leaves, may_leave, stayed};
 
+use crate::contacts::Contacts;
 use crate::lasting::Lasted;
 use crate::limits::{LINGER_PERIODS, QUIET_POLLS};
 
@@ -28,11 +28,14 @@ impl Stay {
         }
     }
 
-    /// One more poll was made since its links ended, and ran out or not.
-    pub fn pass_poll(&mut self, ran_out: bool)
-        ensures { (self.new.all.periods ≡ lasted_after self.old.all.periods ran_out)
-            × (self.new.quiet ≡ quiet_after self.old.quiet ran_out) }
+    /// One more poll was made, which ran out or did not. It stays for as long as its links have
+    /// ended.
+    pub fn pass_poll(&mut self, contacts: &Contacts, ran_out: bool)
+        ensures { self.new ≡ stayed ran_out contacts.now self.old }
     {
+        if !contacts.have_ended() {
+            return;
+        }
         self.all.pass_poll(ran_out);
         self.quiet = if ran_out {
             self.quiet.saturating_add(1)
@@ -41,14 +44,21 @@ impl Stay {
         };
     }
 
-    /// Whether it may leave, where the ends of its links are sure or not, and connections of those
-    /// that call it broke or none did.
-    pub fn is_over(&self, are_sure: bool, have_broken: bool) -> bool
-        ensures { result ≡ may_leave are_sure have_broken self.now.all.periods self.now.quiet }
+    /// Whether it has stayed for as long as it has to, where the ends of its links are sure or not.
+    fn is_over(&self, are_sure: bool) -> bool
+        ensures { result ≡ may_leave are_sure self.now.all.periods self.now.quiet }
     {
-        if are_sure && (!have_broken || self.quiet >= QUIET_POLLS) {
+        if are_sure && self.quiet >= QUIET_POLLS {
             return true;
         }
         self.all.is_past(LINGER_PERIODS)
+    }
+
+    /// Whether it leaves: its links have ended, no peer that said Hello is connected, and it has
+    /// stayed for as long as it has to.
+    pub fn leaves(&self, contacts: &Contacts) -> bool
+        ensures { result ≡ leaves contacts.now self.now }
+    {
+        contacts.have_ended() && !contacts.are_serving() && self.is_over(contacts.are_sure())
     }
 }

@@ -2,6 +2,7 @@
 use Rattle.std.proofs.Common.{◌≡◌, ◌≤◌, ◌+◌, inl, ℕ, Bool, true, false, if◌then◌else◌, Some, None, refl, subst, arith}
 use Rattle.std.proofs.lemmas.Bool.Decides.{nat_tests}
 use Rattle.std.specs.Prelude.{nat_le}
+use Rattle.nm_base.specs.Count.{saturated}
 use Rattle.nm_shared.specs.Home.{Home}
 use Rattle.nm_replica.specs.Polls.{ending_of, idle_after}
 use Rattle.nm_transport.specs.Transport.{elapsed_after}
@@ -31,3 +32,7 @@ ends_after exact own keeps limit before after idle polls false served finished i
         let same : Stalled polls ≡ served = cc in
         subst (EndsWith exact own keeps limit (before, after)) same (inl (omega (arith, few, idles)))
     by_test false is f = let none : None ≡ Some served = f in absurd cc
+
+-- what moved in two rounds of turns
+pub saturated_twice : (m h s : ℕ) → saturated (saturated (m + h) + s) ≡ saturated (m + saturated (h + s))
+saturated_twice m h s = omega arith

@@ -1,9 +1,10 @@
 -- Records that a replica hands out, and the trace files to which they go.
 use Rattle.std.proofs.Common.{◌≡◌, ℕ, ◌+◌, ◌≤◌, Bool, true, All, List, [], ◌∷◌, ◌++◌, flat_map, length, take, drop, slice_get, Option, Some, is_some, if◌then◌else◌, length-drop, refl, sym, ◌∙◌, ap, subst, arith, append-nil}
 use Rattle.std.proofs.lemmas.Grind.{flat_map-append}
-use Rattle.std.proofs.lemmas.List.{append_assoc, get_or-drop}
+use Rattle.std.proofs.lemmas.List.{append_assoc, get_or-drop, length-append}
 use Rattle.std.proofs.lemmas.List.Elements.{All-append, All-cons, All-drop, All-take}
 use Rattle.std.proofs.lemmas.Option.{slice_get_within, get_or_from_slice_get, slice_get-get_or}
+use Rattle.nm_base.specs.Count.{saturated}
 use Rattle.nm_base.specs.Sink.{SinkSeen}
 use Rattle.nm_base.specs.declared.limits.TheConstants.{MAX_TIME}
 use Rattle.nm_base.specs.declared.record.Record.{Record}
@@ -12,7 +13,7 @@ use Rattle.nm_files.proofs.Files.{more_records, no_records}
 use Rattle.nm_files.proofs.Records.{one_more}
 use Rattle.nm_book.specs.Book.{BookValue, state_of}
 use Rattle.nm_shared.specs.Home.{Home, home_of}
-use Rattle.nm_replica.specs.Recording.{AreHandedOut, HandsOut, Streams, TakesOut, out_of}
+use Rattle.nm_replica.specs.Recording.{AreHandedOut, HandsOut, Streams, TakesOut, Wrote, WroteAsCounted, out_of}
 
 pub none_out : (b : BookValue) (room : List (Record (List ℕ))) → TakesOut b room b room
 none_out b room =
@@ -82,6 +83,29 @@ module _ (exact : Bool) (own : Home) where
         let a = v.1 in
         let b = w.1 in (
           length (a.records ++ b.records),
+          record {
+            records = a.records ++ b.records;
+            count = refl;
+            handed = handed_more a.records b.records a.handed b.handed;
+            took = more_records seen a.records b.records old mid new a.took b.took;
+          },
+        )
+
+    pub counted_none : (files : List (Option (Writer S))) → WroteAsCounted seen exact own 0 files files
+    counted_none files =
+        (0, omega arith, record { records = []; count = refl; handed = ([], (λ k d low. absurd (omega (arith, low))), refl); took = no_records seen files })
+
+    -- so many more
+    pub counted_more : (old mid new : List (Option (Writer S))) (before more all : ℕ) → WroteAsCounted seen exact own before old mid → Wrote seen exact own more mid new
+        → all ≡ saturated (before + more) → WroteAsCounted seen exact own all old new
+    counted_more old mid new before more all v b is =
+        let a = v.2 in
+        let n = length-append a.records b.records in
+        let m = a.count in
+        let k = b.count in
+        let w = v.1 in (
+          length (a.records ++ b.records),
+          omega (arith, n, m, k, w, is),
           record {
             records = a.records ++ b.records;
             count = refl;

@@ -1,8 +1,8 @@
 pub mod Breaks
+pub mod Connections
 pub mod Finished
-pub mod Leaving
 pub mod Polls
 pub mod Recording
 pub mod Seats
 pub mod Served
-pub mod Strangers
+pub mod Sessions

@@ -1,8 +1,12 @@
 -- What polls come to: how long nothing was ready or done, and when serving ends by it.
-use Rattle.std.specs.Prelude.{ℕ, ◌+◌, Bool, true, false, nat_le, Option, Some, None, if◌then◌else◌}
+use Rattle.std.specs.Prelude.{ℕ, ◌+◌, Bool, true, false, nat_le, nat_lt, ◌||◌, Option, Some, None, if◌then◌else◌}
 use Rattle.nm_base.specs.Count.{saturated}
 use Rattle.nm_replica.specs.declared.served.Served.{Served}
 use Rattle.nm_replica.specs.declared.served.Served.TheVariants.{Ended, Stalled}
+
+-- a poll was active: octets moved, records were written, or the book did events
+abbrev pub is_active : (octets written : ℕ) → (was_run : Bool) → Bool
+is_active octets written was_run = nat_lt 0 octets || nat_lt 0 written || was_run
 
 -- for how many periods in a row nothing moved and nothing was done, after one more poll, at which a
 -- period was over or not

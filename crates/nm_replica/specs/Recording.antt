@@ -1,5 +1,6 @@
 -- Records that a replica hands out, and the trace files to which they go.
 use Rattle.std.specs.Prelude.{◌≡◌, ℕ, ◌+◌, ◌≤◌, Bool, true, All, List, ◌++◌, drop, flat_map, length, take, Option}
+use Rattle.nm_base.specs.Count.{saturated}
 use Rattle.nm_base.specs.Sink.{SinkSeen}
 use Rattle.nm_base.specs.declared.limits.TheConstants.{MAX_TIME}
 use Rattle.nm_base.specs.declared.record.Record.{Record}
@@ -45,3 +46,9 @@ pub record Wrote {S : Type 0} (seen : S → SinkSeen) (exact : Bool) (own : Home
 abbrev pub Streams : {S : Type 0} → (S → SinkSeen) → Bool → Home
     → List (Option (Writer S)) → List (Option (Writer S)) → Type 0
 Streams seen exact own old new = (n : ℕ) × Wrote seen exact own n old new
+
+-- however many, which a count says that stops at the greatest `u64`
+abbrev pub WroteAsCounted : {S : Type 0} → (S → SinkSeen) → Bool → Home → (written : ℕ)
+    → List (Option (Writer S)) → List (Option (Writer S)) → Type 0
+WroteAsCounted seen exact own written old new =
+    (n : ℕ) × (written ≡ saturated n) × Wrote seen exact own n old new

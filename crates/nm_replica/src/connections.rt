@@ -1,38 +1,40 @@
-//! The connections of a replica: begun, accepted, and let go.
+//! The connections of a replica: begun, accepted and let go as its contacts say.
 
-ghost use Rattle.std.specs.Prelude.{◌≡◌, ◌&&◌, IfErr, IfSome, is_some, not, true};
-ghost use Rattle.std.specs.List.{list_any};
+ghost use Rattle.std.specs.Arc.{arc_value};
+ghost use Rattle.std.specs.Prelude.{◌≡◌, IfErr, IfOk, IfSome, OnOk, Some, ℕ, false, length};
+ghost use Rattle.std.specs.Prelude.{true};
 ghost use Rattle.slab.specs.Slab.{get};
-ghost use Rattle.nm_replica.specs.Breaks.{Removes, break_at, fault_in};
-ghost use Rattle.nm_policy.specs.Ends.{has_ended};
-ghost use Rattle.nm_replica.specs.Leaving.{IsServing};
-ghost use Rattle.nm_policy.specs.Links.{are_sure, have_broken, have_ended};
-ghost use Rattle.nm_replica.specs.Served.{IsInterrupted};
-ghost use Rattle.nm_replica.specs.Strangers.{IsFirstStranger};
+ghost use Rattle.nm_policy.specs.Contacts.{after, contact_at, is_slot};
+ghost use Rattle.nm_policy.specs.Decisions.{is_due_at};
+ghost use Rattle.nm_policy.specs.Laws.{at_first};
+ghost use Rattle.nm_policy.specs.declared.contact_event.ContactEvent.TheVariants as event;
+ghost use Rattle.nm_replica.specs.Breaks.{fault_in, is_peer};
+ghost use Rattle.nm_replica.specs.Connections.{Admits, Dials, DropsStranger, Keeps, LetsGo};
+ghost use Rattle.nm_replica.specs.Connections.{LetsStaleGo, MakesRoom, Settles, heard_at};
+ghost use Rattle.nm_replica.specs.Connections.{learned, with_session_back};
+ghost use Rattle.nm_replica.specs.Served.{IsInterrupted, break_served};
+ghost use Rattle.nm_replica.specs.Sessions.{first_sessions};
 
-use crate::connection::{Connection, Remains};
+use crate::connection::Connection;
 use crate::given_before::GivenBefore;
-use crate::limits::{MAX_ACCEPTED, MAX_STRANGERS};
+use crate::limits::MAX_ACCEPTED;
 use crate::moved::CountingWire;
 use crate::neighbours::Neighbours;
 use crate::served::{Served, break_served};
+use crate::sessions::Sessions;
 use nm_engine::{Acceptor, Cause, Link, Turn};
-use nm_frames::ReplicaName;
-use nm_policy::dialing::{are_sure, are_wanting, have_ended};
-use nm_policy::{Callers, Dialing};
+use nm_policy::{ContactEvent, Contacts};
 use nm_transport::Transport;
 use slab::Slab;
 use std::alloc::{AllocError, Global};
 use std::sync::Arc;
 
-/// The connections that there are, the peers that are called, and the replicas that call.
+/// The connections that there are, and what is known of those with whom the replica speaks.
 #[derive(Drop)]
 pub(crate) struct Connections<W> {
     pub open: Slab<Connection<W>>,
-    peers: Vec<Dialing>,
-    callers: Callers,
-    /// How many connections were accepted.
-    accepted: u64,
+    pub contacts: Contacts,
+    sessions: Sessions,
     /// On how many connections the peer said Hello, and how many of these broke.
     pub begun: u64,
     pub broken: u64,
@@ -42,60 +44,25 @@ pub(crate) struct Connections<W> {
     given: GivenBefore,
 }
 
-/// Calls a peer if it is to be called, as far as the transport lets it.
-fn dial<T: Transport>(
-    alloc: Global,
-    transport: &mut T,
-    open: &mut Slab<Connection<T::Connection>>,
-    dialing: &mut Dialing,
-    peer: usize,
-    is_counted: bool,
-) -> Result<(), AllocError>
-    ensures { T.elapsed_periods transport.new ≡ T.elapsed_periods transport.old }
-{
-    if !dialing.wants() {
-        return Ok(());
-    }
-    open.reserve(1)?;
-    let Some(mut wire) = transport.connect(peer) else {
-        dialing.failed();
-        return Ok(());
-    };
-    if !transport.watch(&mut wire, open.vacant_key()) {
-        dialing.failed();
-        return Ok(());
-    }
-    let Some(session) = dialing.give() else {
-        return Ok(());
-    };
-    let link = Link::connected(alloc, CountingWire::new(wire), session);
-    let link = counted(alloc, link, is_counted);
-    open.insert_reserved(Connection::called(link, peer, !dialing.has_ended()));
-    Ok(())
+/// What is left to tell of a connection that was taken out.
+#[derive(Clone, Copy)]
+struct Left {
+    /// It was that of a peer, who is called or said Hello.
+    is_peer: bool,
+    /// Octets were written on it, so that somebody was there.
+    has_written: bool,
 }
 
-/// Keeps a connection that someone began after so many others, if the transport watches it.
-fn keep<T: Transport>(
-    alloc: Global,
-    neighbours: &Neighbours<'_>,
-    transport: &mut T,
-    open: &mut Slab<Connection<T::Connection>>,
-    came: u64,
-    wire: T::Connection,
-) -> Result<(), AllocError>
-    ensures { T.elapsed_periods transport.new ≡ T.elapsed_periods transport.old }
+/// A connection to this peer, which the transport watches under this key, if it can.
+fn connect<T: Transport>(transport: &mut T, peer: usize, key: usize) -> Option<T::Connection>
+    ensures leads { IfSome result (λ w. T.leads_to w ≡ Some peer) }
+    ensures idle { T.elapsed_periods transport.new ≡ T.elapsed_periods transport.old }
 {
-    let mut wire = wire;
-    let topology = Arc::try_clone(neighbours.topology)?;
-    open.reserve(1)?;
-    if !transport.watch(&mut wire, open.vacant_key()) {
-        return Ok(());
+    let mut wire = transport.connect(peer)?;
+    if !transport.watch(&mut wire, key) {
+        return None;
     }
-    let acceptor = Acceptor::new(topology, neighbours.partition, neighbours.replica);
-    let link = Link::accepted(alloc, CountingWire::new(wire), acceptor);
-    let link = counted(alloc, link, neighbours.are_counted);
-    open.insert_reserved(Connection::accepted(link, came));
-    Ok(())
+    Some(wire)
 }
 
 /// A link. What it gives is counted, or is not.
@@ -115,87 +82,24 @@ impl<W> Connections<W> {
     /// # Errors
     ///
     /// Where memory was refused.
-    pub(crate) fn new(alloc: Global, neighbours: &Neighbours<'_>) -> Result<Self, AllocError> {
-        let mut peers = Vec::with_capacity(alloc, neighbours.peers.len())?;
-        for peer in neighbours.peers {
-            peers.push(Dialing::new(
-                alloc,
-                neighbours.topology,
-                neighbours.partition,
-                neighbours.replica,
-                *peer,
-            )?)?;
-        }
-        let callers = Callers::new(alloc, neighbours.callers)?;
+    pub(crate) fn new(alloc: Global, neighbours: &Neighbours<'_>) -> Result<Self, AllocError>
+        ensures contacts { IfOk result (λ c. c.contacts
+            ≡ at_first (length neighbours.now.peers.now) neighbours.now.callers.now) }
+        ensures sessions { IfOk result (λ c. c.sessions
+            ≡ first_sessions (arc_value neighbours.now.topology.now) neighbours.now.partition
+            neighbours.now.replica neighbours.now.peers.now) }
+    {
+        let contacts = Contacts::new(alloc, neighbours.peers.len(), neighbours.callers)?;
+        let sessions = Sessions::new(alloc, neighbours)?;
         Ok(Connections {
             open: Slab::new(alloc),
-            peers,
-            callers,
-            accepted: 0,
+            contacts,
+            sessions,
             begun: 0,
             broken: 0,
             is_counted: neighbours.are_counted,
             given: GivenBefore::new(alloc),
         })
-    }
-
-    /// Whether all links have ended: those of the peers that are called, and those of the replicas
-    /// that call.
-    pub(crate) fn have_ended(&self) -> bool
-        ensures { result ≡ have_ended self.now.callers.all.items self.now.peers.items }
-    {
-        self.callers.have_ended() && have_ended(self.peers.as_slice())
-    }
-
-    /// Whether the ends of all links are sure, so that nobody is to call again.
-    pub(crate) fn are_sure(&self) -> bool
-        ensures { result ≡ are_sure self.now.callers.all.items self.now.peers.items }
-    {
-        self.callers.are_sure() && are_sure(self.peers.as_slice())
-    }
-
-    /// Whether a connection broke of those that call, so that one of them may lack a Bye.
-    pub(crate) fn have_broken(&self) -> bool
-        ensures { result ≡ have_broken self.now.callers.all.items }
-    {
-        self.callers.have_broken()
-    }
-
-    /// Whether a connection is open whose peer said Hello: that may have been lost and begun anew,
-    /// and be told all again.
-    pub(crate) fn are_serving(&self) -> bool
-        ensures { IsServing self.now.open result }
-    {
-        for key in 0..self.open.capacity() {
-            if let Some(connection) = self.open.get(key) {
-                if connection.link.has_greeted() {
-                    return true;
-                }
-            }
-        }
-        false
-    }
-
-    /// How many connections are open that others began, and whose Hello came.
-    fn greeted_count(&self) -> usize {
-        let mut count = 0usize;
-        for key in 0..self.open.capacity() {
-            if let Some(connection) = self.open.get(key) {
-                if connection.peer.is_none() && connection.link.has_greeted() {
-                    count = count.saturating_add(1);
-                }
-            }
-        }
-        count
-    }
-
-    /// Whether somebody is not connected whose link has not ended: a peer that is called, or a
-    /// replica that is to call.
-    pub(crate) fn are_wanting(&self) -> bool
-        ensures { list_any (λ p. is_some p.session && not (has_ended p.ends)) self.now.peers.items
-            ≡ true → result ≡ true }
-    {
-        are_wanting(self.peers.as_slice()) || self.greeted_count() < self.callers.open_count()
     }
 
     /// Whether more may be read that no wait reports.
@@ -220,67 +124,45 @@ impl<W> Connections<W> {
     /// A wait ran out: each connection is looked at, whatever was reported.
     pub(crate) fn note_all(&self) {
         for key in 0..self.open.capacity() {
-            if let Some(connection) = self.open.get(key) {
-                connection.link.wire().report();
-            }
+            self.note(key);
         }
     }
 
-    /// A poll was made, and ran out or not. Connections on which no Hello came for so many periods
-    /// are let go, and calls among them are made again.
+    /// Calls this peer, as far as the transport lets it.
     ///
     /// # Errors
     ///
-    /// How serving ends, where it does.
-    pub(crate) fn pass_poll<T: Transport<Connection = W>>(
+    /// Where memory was refused.
+    fn dial<T: Transport<Connection = W>>(
         &mut self,
+        alloc: Global,
         transport: &mut T,
-        ran_out: bool,
-    ) -> Result<(), Served>
+        peer: usize,
+    ) -> Result<(), AllocError>
+        requires { is_due_at self.old.contacts.peers peer ≡ true }
         ensures idle { T.elapsed_periods transport.new ≡ T.elapsed_periods transport.old }
-        ensures early { IfErr result IsInterrupted }
+        ensures dials { OnOk result
+            (Dials T.leads_to peer self.old.contacts self.new.contacts self.new.open) }
     {
-        for number in 0..self.peers.len() {
-            self.peers[number].pass_poll(ran_out);
+        self.open.reserve(1)?;
+        let key = self.open.vacant_key();
+        if !self.contacts.is_free(key) {
+            self.contacts.take(ContactEvent::NotCalled { peer });
+            return Ok(());
         }
-        for key in 0..self.open.capacity() {
-            let is_overdue = match self.open.get_mut(key) {
-                Some(connection) => connection.is_overdue(ran_out),
-                None => false,
-            };
-            if is_overdue {
-                self.let_go(transport, key, Cause::Fault)?;
-            }
-        }
+        let Some(wire) = connect(transport, peer, key) else {
+            self.contacts.take(ContactEvent::NotCalled { peer });
+            return Ok(());
+        };
+        let Some(session) = self.sessions.give(peer) else {
+            self.contacts.take(ContactEvent::NotCalled { peer });
+            return Ok(());
+        };
+        let link = Link::connected(alloc, CountingWire::new(wire), session);
+        let link = counted(alloc, link, self.is_counted);
+        self.open.insert_reserved(Connection::new(link));
+        self.contacts.take(ContactEvent::Called { key, peer });
         Ok(())
-    }
-
-    /// The key of the stranger that came first, where there are so many or more.
-    fn first_of(&self, strangers: usize) -> Option<usize>
-        ensures { IfSome result (IsFirstStranger self.now.open) }
-    {
-        let (mut count, mut least, mut first) = (0usize, u64::MAX, None);
-        for key in 0..self.open.capacity() {
-            if let Some(connection) = self.open.get(key) {
-                if connection.is_stranger() {
-                    count = count.saturating_add(1);
-                    if connection.came < least {
-                        least = connection.came;
-                        first = Some(key);
-                    }
-                }
-            }
-        }
-        if count >= strangers { first } else { None }
-    }
-
-    /// Lets the stranger go that came first, if there is one.
-    pub(crate) fn drop_first<T: Transport<Connection = W>>(&mut self, transport: &mut T)
-        ensures { T.elapsed_periods transport.new ≡ T.elapsed_periods transport.old }
-    {
-        if let Some(key) = self.first_of(1) {
-            let _ = self.remove(transport, key);
-        }
     }
 
     /// Calls all peers that are to be called.
@@ -293,19 +175,55 @@ impl<W> Connections<W> {
         alloc: Global,
         transport: &mut T,
     ) -> Result<(), AllocError>
-        ensures { T.elapsed_periods transport.new ≡ T.elapsed_periods transport.old }
+        ensures idle { T.elapsed_periods transport.new ≡ T.elapsed_periods transport.old }
+        ensures all { OnOk result
+            ((peer : ℕ) → is_due_at self.new.contacts.peers peer ≡ false) }
     {
-        let is_counted = self.is_counted;
-        for peer in 0..self.peers.len() {
-            dial(
-                alloc,
-                transport,
-                &mut self.open,
-                &mut self.peers[peer],
-                peer,
-                is_counted,
-            )?;
+        for peer in 0..self.contacts.peer_count() {
+            if self.contacts.is_due(peer) {
+                self.dial(alloc, transport, peer)?;
+            }
         }
+        Ok(())
+    }
+
+    /// Where there are as many strangers as there may be, lets the one go that came first.
+    fn make_room<T: Transport<Connection = W>>(&mut self, transport: &mut T)
+        ensures idle { T.elapsed_periods transport.new ≡ T.elapsed_periods transport.old }
+        ensures room { MakesRoom self.old.contacts self.new.contacts }
+    {
+        if let Some(key) = self.contacts.stranger_to_drop() {
+            self.drop_at(transport, key);
+        }
+    }
+
+    /// Keeps a connection that somebody began, if there is room and the transport watches it.
+    ///
+    /// # Errors
+    ///
+    /// Where memory was refused.
+    fn keep<T: Transport<Connection = W>>(
+        &mut self,
+        alloc: Global,
+        neighbours: &Neighbours<'_>,
+        transport: &mut T,
+        wire: W,
+    ) -> Result<(), AllocError>
+        ensures idle { T.elapsed_periods transport.new ≡ T.elapsed_periods transport.old }
+        ensures keeps { OnOk result (Keeps self.old.contacts self.new.contacts) }
+    {
+        let mut wire = wire;
+        let topology = Arc::try_clone(neighbours.topology)?;
+        self.open.reserve(1)?;
+        let key = self.open.vacant_key();
+        if !self.contacts.is_free(key) || !transport.watch(&mut wire, key) {
+            return Ok(());
+        }
+        let acceptor = Acceptor::new(topology, neighbours.partition, neighbours.replica);
+        let link = Link::accepted(alloc, CountingWire::new(wire), acceptor);
+        let link = counted(alloc, link, self.is_counted);
+        self.open.insert_reserved(Connection::new(link));
+        self.contacts.take(ContactEvent::Accepted { key });
         Ok(())
     }
 
@@ -321,30 +239,86 @@ impl<W> Connections<W> {
         neighbours: &Neighbours<'_>,
         transport: &mut T,
     ) -> Result<(), AllocError>
-        ensures { T.elapsed_periods transport.new ≡ T.elapsed_periods transport.old }
+        ensures idle { T.elapsed_periods transport.new ≡ T.elapsed_periods transport.old }
+        ensures admits { OnOk result
+            ((n : ℕ) × Admits n self.old.contacts self.new.contacts) }
     {
         for _ in 0..MAX_ACCEPTED {
             let Some(wire) = transport.accept() else {
                 return Ok(());
             };
-            let most = MAX_STRANGERS.saturating_add(neighbours.callers.len());
-            if let Some(key) = self.first_of(most) {
-                let _ = self.remove(transport, key);
-            }
-            self.accepted = self.accepted.saturating_add(1);
-            keep(
-                alloc,
-                neighbours,
-                transport,
-                &mut self.open,
-                self.accepted,
-                wire,
-            )?;
+            self.make_room(transport);
+            self.keep(alloc, neighbours, transport, wire)?;
         }
         Ok(())
     }
 
-    /// Does what the last turn of the connection with this key asks for.
+    /// Lets the stranger go that came first, if there is one.
+    pub(crate) fn drop_first<T: Transport<Connection = W>>(&mut self, transport: &mut T)
+        ensures idle { T.elapsed_periods transport.new ≡ T.elapsed_periods transport.old }
+        ensures drops { DropsStranger self.old.contacts self.new.contacts }
+    {
+        if let Some(key) = self.contacts.first_stranger() {
+            self.drop_at(transport, key);
+        }
+    }
+
+    /// Lets the connection with this key go for another.
+    fn drop_at<T: Transport<Connection = W>>(&mut self, transport: &mut T, key: usize)
+        ensures idle { T.elapsed_periods transport.new ≡ T.elapsed_periods transport.old }
+        ensures drops { LetsGo key self.old.contacts self.new.contacts }
+    {
+        let _ = self.remove(transport, key);
+        self.contacts.take(ContactEvent::Broke {
+            key,
+            was_there: true,
+        });
+    }
+
+    /// A poll was made, and ran out or not. Connections that are stale are let go, and calls among
+    /// them are made again.
+    ///
+    /// # Errors
+    ///
+    /// How serving ends, where it does.
+    pub(crate) fn pass_poll<T: Transport<Connection = W>>(
+        &mut self,
+        transport: &mut T,
+        ran_out: bool,
+    ) -> Result<(), Served>
+        ensures idle { T.elapsed_periods transport.new ≡ T.elapsed_periods transport.old }
+        ensures early { IfErr result IsInterrupted }
+        ensures stale { OnOk result
+            (LetsStaleGo (after self.old.contacts (event.Polled ran_out)) self.new.contacts) }
+    {
+        self.contacts.take(ContactEvent::Polled { ran_out });
+        self.let_stale_go(transport)
+    }
+
+    /// Lets the connections go on which no Hello came for their time, or nothing for as long from a
+    /// peer for which the replica waits.
+    ///
+    /// # Errors
+    ///
+    /// How serving ends, where it does.
+    fn let_stale_go<T: Transport<Connection = W>>(
+        &mut self,
+        transport: &mut T,
+    ) -> Result<(), Served>
+        ensures idle { T.elapsed_periods transport.new ≡ T.elapsed_periods transport.old }
+        ensures early { IfErr result IsInterrupted }
+        ensures stale { OnOk result (LetsStaleGo self.old.contacts self.new.contacts) }
+    {
+        for key in 0..self.contacts.key_count() {
+            if self.contacts.is_stale(key) {
+                self.let_go(transport, key, Cause::Fault)?;
+            }
+        }
+        Ok(())
+    }
+
+    /// Does what the last turn of the connection with this key asks for, in which octets came or did
+    /// not.
     ///
     /// # Errors
     ///
@@ -354,16 +328,23 @@ impl<W> Connections<W> {
         transport: &mut T,
         key: usize,
         turn: Turn,
+        has_heard: bool,
     ) -> Result<(), Served>
         ensures idle { T.elapsed_periods transport.new ≡ T.elapsed_periods transport.old }
         ensures early { IfErr result IsInterrupted }
+        ensures settles { OnOk result
+            (Settles key turn has_heard (get self.old.open key) self.old.contacts
+            self.new.contacts) }
     {
-        self.meet(transport, key);
+        self.hear(key, has_heard);
+        self.learn(key);
         match turn {
-            Turn::Progress | Turn::Idle if self.is_cut(key) => {
-                self.let_go(transport, key, Cause::End)
+            Turn::Progress | Turn::Idle => {
+                if self.is_cut(key) {
+                    self.let_go(transport, key, Cause::End)?;
+                }
+                Ok(())
             }
-            Turn::Progress | Turn::Idle => Ok(()),
             Turn::Ended => {
                 self.end(transport, key);
                 Ok(())
@@ -374,125 +355,85 @@ impl<W> Connections<W> {
     }
 
     /// Whether the other side sends no more on the connection with this key, or has begun another.
-    fn is_cut(&self, key: usize) -> bool {
-        match self.open.get(key) {
-            Some(connection) => connection.link.wire().has_ended() || connection.is_replaced,
+    fn is_cut(&self, key: usize) -> bool
+        ensures { is_slot (λ c. c.is_replaced) (contact_at self.now.contacts.connections key) ≡ true
+            → result ≡ true }
+    {
+        let has_ended = match self.open.get(key) {
+            Some(connection) => connection.link.wire().has_ended(),
             None => false,
+        };
+        has_ended || self.contacts.is_replaced(key)
+    }
+
+    /// Notes that octets came on the connection with this key, where they did.
+    fn hear(&mut self, key: usize, has_heard: bool)
+        ensures contacts { self.new.contacts ≡ heard_at key has_heard self.old.contacts }
+        ensures open { self.new.open ≡ self.old.open }
+    {
+        if has_heard {
+            self.contacts.take(ContactEvent::Heard { key });
         }
     }
 
     /// Learns which replica the peer of the connection with this key is, once its Hello has come.
-    /// Where the peer began it, it takes the place of others that the same replica began: that has
-    /// let go of those.
-    fn meet<T: Transport<Connection = W>>(&mut self, transport: &mut T, key: usize)
-        ensures { T.elapsed_periods transport.new ≡ T.elapsed_periods transport.old }
+    fn learn(&mut self, key: usize)
+        ensures contacts { self.new.contacts
+            ≡ learned key (get self.old.open key) self.old.contacts }
+        ensures open { self.new.open ≡ self.old.open }
     {
-        let Some(connection) = self.open.get_mut(key) else {
+        let Some(connection) = self.open.get(key) else {
             return;
         };
-        let Some(name) = connection.meet() else {
+        let Some(name) = connection.link.greeted_by() else {
             return;
         };
-        self.begun = self.begun.saturating_add(1);
-        if connection.peer.is_some() {
-            return;
+        if !self.contacts.has_greeted(key) {
+            self.begun = self.begun.saturating_add(1);
         }
-        if self.callers.has_ended(&name) {
-            connection.count_nothing();
-        }
-        self.remove_others(transport, key, &name);
+        self.contacts.take(ContactEvent::Greeted { key, name });
     }
 
-    /// Lets the connection with this key go, since its peer has begun another: at once, or, where
-    /// something may have come that is not read, a Bye maybe, after its next turn.
-    fn replace<T: Transport<Connection = W>>(&mut self, transport: &mut T, key: usize)
-        ensures { T.elapsed_periods transport.new ≡ T.elapsed_periods transport.old }
-    {
-        if let Some(connection) = self.open.get_mut(key) {
-            if connection.link.wire().is_ready() {
-                connection.is_replaced = true;
-                return;
-            }
-        }
-        let _ = self.remove(transport, key);
-    }
-
-    /// Lets all other connections go that the replica with this name began.
-    fn remove_others<T: Transport<Connection = W>>(
-        &mut self,
-        transport: &mut T,
-        key: usize,
-        name: &ReplicaName,
-    )
-        ensures { T.elapsed_periods transport.new ≡ T.elapsed_periods transport.old }
-    {
-        for other in 0..self.open.capacity() {
-            let is_other = match self.open.get(other) {
-                Some(connection) => other != key && connection.is_from(name),
-                None => false,
-            };
-            if is_other {
-                self.replace(transport, other);
-                self.callers.broke(name);
-            }
-        }
-    }
-
-    /// Takes the connection with this key out, if it is there: what it leaves.
-    fn remove<T: Transport<Connection = W>>(
-        &mut self,
-        transport: &mut T,
-        key: usize,
-    ) -> Option<Remains>
+    /// Takes the connection with this key out, if it is there. The session of a peer that is called
+    /// comes back. What is left to tell of it: whether it was a peer's, and whether octets were
+    /// written on it.
+    fn remove<T: Transport<Connection = W>>(&mut self, transport: &mut T, key: usize) -> Left
         ensures idle { T.elapsed_periods transport.new ≡ T.elapsed_periods transport.old }
-        ensures removes { Removes (get self.old.open key) result }
+        ensures contacts { self.new.contacts ≡ self.old.contacts }
+        ensures peer { result.is_peer
+            ≡ is_peer (contact_at self.old.contacts.connections key) (get self.old.open key) }
+        ensures sessions { self.new.sessions
+            ≡ with_session_back (contact_at self.old.contacts.connections key)
+            (get self.old.open key) self.old.sessions }
     {
-        let mut connection = self.open.try_remove(key)?;
-        let name = connection.link.greeted_by();
-        let peer = connection.peer;
+        let peer = self.contacts.peer_at(key);
+        let Some(mut connection) = self.open.try_remove(key) else {
+            return Left {
+                is_peer: peer.is_some(),
+                has_written: false,
+            };
+        };
         self.given
             .keep(connection.link.greeted_by(), connection.link.take_given());
-        let (wire, session) = connection.link.back();
-        let has_written = wire.has_written();
-        let mut wire = wire.into_wire();
+        let (mut wire, session, has_written) = connection.into_parts();
         transport.unwatch(&mut wire);
-        Some(Remains {
-            peer,
-            session,
-            name,
+        let is_peer = peer.is_some() || session.is_some();
+        if let (Some(peer), Some(session)) = (peer, session) {
+            self.sessions.take_back(peer, session);
+        }
+        Left {
+            is_peer,
             has_written,
-        })
-    }
-
-    /// How many of the messages that were given had been given to the same replica on an earlier
-    /// connection, where that is counted.
-    pub(crate) fn resent(&self) -> u64 {
-        if !self.is_counted {
-            return 0;
         }
-        let mut count = self.given.resent();
-        for key in 0..self.open.capacity() {
-            if let Some(connection) = self.open.get(key) {
-                count = count.saturating_add(connection.resent(&self.given));
-            }
-        }
-        count
     }
 
     /// Lets a connection go whose link has ended, and notes whose it was.
     fn end<T: Transport<Connection = W>>(&mut self, transport: &mut T, key: usize)
-        ensures { T.elapsed_periods transport.new ≡ T.elapsed_periods transport.old }
+        ensures idle { T.elapsed_periods transport.new ≡ T.elapsed_periods transport.old }
+        ensures ends { self.new.contacts ≡ after self.old.contacts (event.Ended key) }
     {
-        let Some(remains) = self.remove(transport, key) else {
-            return;
-        };
-        match (remains.peer, remains.session, remains.name) {
-            (Some(peer), Some(session), _) if peer < self.peers.len() => {
-                self.peers[peer].end(session)
-            }
-            (None, _, Some(name)) => self.callers.end(&name),
-            _ => {}
-        }
+        let _ = self.remove(transport, key);
+        self.contacts.take(ContactEvent::Ended { key });
     }
 
     /// Lets a broken connection go. Its session, if the replica is to call again, begins anew.
@@ -508,33 +449,38 @@ impl<W> Connections<W> {
     ) -> Result<(), Served>
         ensures idle { T.elapsed_periods transport.new ≡ T.elapsed_periods transport.old }
         ensures early { IfErr result IsInterrupted }
-        ensures served { fault_in result ≡ break_at (get self.old.open key) cause }
+        ensures served { fault_in result ≡ break_served cause
+            (is_peer (contact_at self.old.contacts.connections key) (get self.old.open key)) }
+        ensures goes { OnOk result (LetsGo key self.old.contacts self.new.contacts) }
     {
-        let Some(remains) = self.remove(transport, key) else {
-            return Ok(());
-        };
-        let Remains {
-            peer,
-            session,
-            name,
+        let Left {
+            is_peer,
             has_written,
-        } = remains;
-        let is_peer = peer.is_some() || session.is_some();
+        } = self.remove(transport, key);
         if let Some(served) = break_served(cause, is_peer) {
             return Err(served);
         }
-        if name.is_some() {
+        if self.contacts.has_greeted(key) {
             self.broken = self.broken.saturating_add(1);
         }
-        match (peer, session, name) {
-            (Some(peer), Some(session), name) if peer < self.peers.len() => {
-                // Who ends a connection is there, though nothing could be written.
-                let was_there = has_written || matches!(cause, Cause::End);
-                self.peers[peer].broke(session, name.is_some(), was_there);
-            }
-            (None, _, Some(name)) => self.callers.broke(&name),
-            _ => {}
-        }
+        // Who ends a connection is there, though nothing could be written.
+        let was_there = has_written || matches!(cause, Cause::End);
+        self.contacts.take(ContactEvent::Broke { key, was_there });
         Ok(())
+    }
+
+    /// How many of the messages that were given had been given to the same replica on an earlier
+    /// connection, where that is counted.
+    pub(crate) fn resent(&self) -> u64 {
+        if !self.is_counted {
+            return 0;
+        }
+        let mut count = self.given.resent();
+        for key in 0..self.open.capacity() {
+            if let Some(connection) = self.open.get(key) {
+                count = count.saturating_add(connection.resent(&self.given));
+            }
+        }
+        count
     }
 }

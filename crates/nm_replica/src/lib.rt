@@ -15,10 +15,11 @@ pub mod replica;
 pub mod seats;
 pub mod served;
 mod serving;
+mod sessions;
 mod sisters;
 mod telling;
 
 pub use lending::Lending;
-pub use replica::{Holdings, Service, run_replica};
+pub use replica::{Holdings, Running, Service, poll_replica, run_replica};
 pub use seats::OwnSeats;
 pub use served::Served;

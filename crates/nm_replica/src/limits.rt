@@ -11,14 +11,6 @@ pub const MAX_POLLS: u64 = 1_000_000_000;
 /// The most connections that are accepted after one poll.
 pub const MAX_ACCEPTED: usize = 64;
 
-/// The most connections that others began and whose Hello did not come, beside one for each
-/// replica that is to call. The oldest of them is let go when another comes.
-pub const MAX_STRANGERS: usize = 64;
-
-/// After so many periods, five seconds, a connection on which no Hello came is let go: that of a
-/// stranger, and a call that nobody answers, as where it is held or dropped on its way.
-pub const HELLO_PERIODS: u64 = 100;
-
 /// The most turns that a link has after one poll.
 pub const MAX_TURNS: usize = 64;
 

@@ -1,7 +1,7 @@
 //! The records of a replica, written to its trace files while it runs.
 
 ghost use Rattle.std.specs.Prelude.{◌≡◌, IfOk, OnOk, false, true};
-ghost use Rattle.nm_replica.specs.Recording.{Streams, Wrote};
+ghost use Rattle.nm_replica.specs.Recording.{Streams, Wrote, WroteAsCounted};
 ghost use Rattle.nm_replica.specs.Served.{WasFinished};
 
 use crate::acts::{HandOutSome, HandedOut};
@@ -61,6 +61,8 @@ pub(crate) fn write_records<C: Counts, S: Sink, R: Wait>(
     is_left: bool,
 ) -> Result<Recorded, FilesFault>
     ensures streams { OnOk result (Streams S.seen C.exact C.home
+        files.old.files.items files.new.files.items) }
+    ensures wrote { IfOk result (λ r. WroteAsCounted S.seen C.exact C.home r.written
         files.old.files.items files.new.files.items) }
     ensures last { IfOk result (λ r. r.is_last ≡ true → WasFinished C.exact C.home false) }
 {

@@ -1,10 +1,10 @@
 //! A replica over a transport, until it ends.
 
-ghost use Rattle.std.specs.Prelude.{◌≡◌, length};
-ghost use Rattle.nm_replica.specs.Polls.{ending_of, idle_after};
+ghost use Rattle.std.specs.Prelude.{◌≡◌, ◌+◌, ◌≤◌, ℕ, IfErr, IfOk, IfSome, OnOk, length};
+ghost use Rattle.nm_replica.specs.Polls.{ending_of, idle_after, is_active};
 ghost use Rattle.nm_replica.specs.Recording.{Streams};
 ghost use Rattle.nm_replica.specs.Seats.{AreKept};
-ghost use Rattle.nm_replica.specs.Served.{EndsWith};
+ghost use Rattle.nm_replica.specs.Served.{EndsEarly, EndsWith};
 ghost use Rattle.nm_replica.specs.declared.served.Served.TheVariants.{Ended};
 
 use crate::lending::Lending;
@@ -20,7 +20,7 @@ use nm_progress::Progress;
 use nm_shared::{Counts, Gate, Pass, SharedBook};
 use nm_topology::Topology;
 use nm_transport::Transport;
-use std::alloc::Global;
+use std::alloc::{AllocError, Global};
 use std::sync::{Arc, Wait};
 
 /// A replica, those with which it speaks, and its limits.
@@ -89,9 +89,10 @@ pub struct Holdings<'a, C: Counts, S> {
 
 /// For how many periods in a row nothing was moved or done, after one more poll.
 fn idle_periods(before: u64, polled: Polled) -> u64
-    ensures { result ≡ idle_after before polled.was_active polled.ran_out }
+    ensures { result ≡ idle_after before
+        (is_active polled.octets polled.written polled.was_run) polled.ran_out }
 {
-    if polled.was_active {
+    if polled.is_active() {
         return 0;
     }
     if polled.ran_out {
@@ -111,6 +112,84 @@ fn ending_of(is_done: bool, idle: u64, limit: u64, polls: u64) -> Option<Served>
         return Some(Served::Stalled { polls });
     }
     None
+}
+
+/// A replica that is served a poll at a time: its connections, and what it counts.
+#[derive(Drop)]
+pub struct Running<W> {
+    serving: Serving<W>,
+    /// For how many periods in a row nothing was moved or done.
+    pub idle: u64,
+    /// How many polls were made.
+    polls: u64,
+}
+
+impl<W> Running<W> {
+    /// One that has no connection so far.
+    ///
+    /// # Errors
+    ///
+    /// Where memory was refused.
+    pub fn new<C: Counts>(alloc: Global, service: &Service<'_, C>) -> Result<Self, AllocError>
+        ensures { IfOk result (λ r. r.idle ≡ 0) }
+    {
+        Ok(Running {
+            serving: Serving::new(alloc, service)?,
+            idle: 0,
+            polls: 0,
+        })
+    }
+}
+
+/// Makes one poll of a replica: how serving ends by it, if it does. `run_replica` does this again
+/// and again.
+///
+/// # Errors
+///
+/// How serving ends where the replica was not seen to be done, and is not stalled.
+#[tactic(auto, using(crate::proofs::Polls::idles_wait, crate::proofs::Polls::ends_after))]
+pub fn poll_replica<C: Counts, S: Sink, T: Transport, R: Wait>(
+    rt: &R,
+    alloc: Global,
+    service: &Service<'_, C>,
+    holdings: &mut Holdings<'_, C, S>,
+    transport: &mut T,
+    running: &mut Running<T::Connection>,
+) -> Result<Option<Served>, Served>
+    // Each file took those at its interface of the records that were handed out.
+    ensures streams { OnOk result (Streams S.seen C.exact C.home
+        holdings.old.files.files.items holdings.new.files.files.items) }
+
+    // No more periods in a row were idle than were over, and the ending says the truth.
+    ensures idles { OnOk result ((start : ℕ)
+        → start + running.old.idle ≤ T.elapsed_periods transport.old
+        → start + running.new.idle ≤ T.elapsed_periods transport.new) }
+    ensures ends { IfOk result (λ end. IfSome end (λ served. (start : ℕ)
+        → start + running.new.idle ≤ T.elapsed_periods transport.new
+        → EndsWith C.exact C.home service.now.keeps_records service.now.idle_limit
+        (start, T.elapsed_periods transport.new) served)) }
+    ensures early { IfErr result EndsEarly }
+
+    // The seats and the passes stay.
+    ensures seats { AreKept holdings.old.seats holdings.new.seats }
+    ensures passes { length holdings.new.passes.items ≡ length holdings.old.passes.items }
+{
+    let polled = poll(
+        rt,
+        alloc,
+        service,
+        holdings,
+        transport,
+        &mut running.serving,
+    )?;
+    running.idle = idle_periods(running.idle, polled);
+    running.polls = running.polls.saturating_add(1);
+    Ok(ending_of(
+        polled.is_done,
+        running.idle,
+        service.idle_limit,
+        running.polls,
+    ))
 }
 
 /// Serves the connections of a replica, and runs its book if it is to, until the replica is done
@@ -147,21 +226,17 @@ pub fn run_replica<C: Counts, S: Sink, T: Transport, G: Gate, R: Wait>(
     ensures seats { AreKept holdings.old.seats holdings.new.seats }
     ensures passes { length holdings.new.passes.items ≡ length holdings.old.passes.items }
 {
-    let Ok(mut serving) = Serving::new(alloc, service) else {
+    let Ok(mut running) = Running::new(alloc, service) else {
         return Served::Memory;
     };
-    let mut idle = 0u64;
-    for polls in 0..MAX_POLLS {
-        if !gate.poll(serving.moved) {
+    for _ in 0..MAX_POLLS {
+        if !gate.poll(running.serving.moved) {
             return Served::Net;
         }
-        let polled = match poll(rt, alloc, service, holdings, transport, &mut serving) {
-            Ok(polled) => polled,
+        match poll_replica(rt, alloc, service, holdings, transport, &mut running) {
+            Ok(None) => {}
+            Ok(Some(served)) => return served,
             Err(served) => return served,
-        };
-        idle = idle_periods(idle, polled);
-        if let Some(served) = ending_of(polled.is_done, idle, service.idle_limit, polls + 1) {
-            return served;
         }
     }
     Served::Stalled { polls: MAX_POLLS }

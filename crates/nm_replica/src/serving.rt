@@ -1,10 +1,12 @@
 //! One poll of a replica, and what follows it.
 
-ghost use Rattle.std.specs.Prelude.{◌&&◌, ◌==◌, ◌||◌, ◌≡◌, ◌≤◌, true, length};
-ghost use Rattle.std.specs.Prelude.{IfErr, IfOk, OnOk};
+ghost use Rattle.std.specs.Prelude.{◌&&◌, ◌+◌, ◌==◌, ◌||◌, ◌≡◌, ◌≤◌, IfErr, IfOk, OnOk, false};
+ghost use Rattle.std.specs.Prelude.{length, not, true};
+ghost use Rattle.nm_base.specs.Count.{saturated};
 ghost use Rattle.nm_policy.specs.Lasting.{has_lasted, lasted_after};
-ghost use Rattle.nm_replica.specs.Leaving.{LeavesAfter};
-ghost use Rattle.nm_replica.specs.Recording.{Streams};
+ghost use Rattle.nm_policy.specs.Stays.{leaves, stayed};
+ghost use Rattle.nm_replica.specs.Polls.{is_active};
+ghost use Rattle.nm_replica.specs.Recording.{Streams, WroteAsCounted};
 ghost use Rattle.nm_replica.specs.Seats.{AreKept};
 ghost use Rattle.nm_replica.specs.Served.{EndsEarly, IsInterrupted, WasFinished, WasSeen};
 ghost use Rattle.nm_transport.specs.Transport.{elapsed_after};
@@ -21,7 +23,7 @@ use crate::telling::tell_all;
 use nm_base::{Sink, Wire};
 use nm_book::Ran;
 use nm_engine::{GivenCounts, ReadBuffer, Turn};
-use nm_policy::{Lasted, Stay};
+use nm_policy::{Contacts, Lasted, Stay};
 use nm_shared::{Counts, Pass, SharedBook};
 use nm_transport::Transport;
 use nm_transport::limits::MAX_REPORTS;
@@ -74,7 +76,9 @@ impl Moves {
     };
 
     /// These and others.
-    fn with(self, other: Moves) -> Moves {
+    fn with(self, other: Moves) -> Moves
+        ensures { result.octets ≡ saturated (self.octets + other.octets) }
+    {
         Moves {
             octets: self.octets.saturating_add(other.octets),
             has_heard: self.has_heard || other.has_heard,
@@ -89,10 +93,22 @@ impl Moves {
 pub(crate) struct Polled {
     /// A period was over, or it could not wait.
     pub ran_out: bool,
-    /// Octets moved, the book did an event, or records were written.
-    pub was_active: bool,
+    /// How many octets moved that count, and how many records were written.
+    pub octets: u64,
+    pub written: u64,
+    /// The book did events since the poll before.
+    pub was_run: bool,
     /// The replica is done, so are its links or all replicas, and its trace files are written.
     pub is_done: bool,
+}
+
+impl Polled {
+    /// Whether octets moved, records were written, or the book did events.
+    pub(crate) fn is_active(&self) -> bool
+        ensures { result ≡ is_active self.now.octets self.now.written self.now.was_run }
+    {
+        self.octets > 0 || self.written > 0 || self.was_run
+    }
 }
 
 impl<W> Serving<W> {
@@ -119,22 +135,16 @@ impl<W> Serving<W> {
             alloc,
         })
     }
+}
 
-    /// Whether the links of a replica that is done have ended, and it has stayed long enough for
-    /// those that may call again. A poll was made, and ran out or not.
-    fn may_leave(&mut self, ran_out: bool) -> bool
-        ensures { LeavesAfter ran_out self.old.connections.callers.all.items
-            self.old.connections.peers.items self.old.connections.open self.old.stay result }
-    {
-        if !self.connections.have_ended() {
-            return false;
-        }
-        self.stay.pass_poll(ran_out);
-        if self.connections.are_serving() {
-            return false;
-        }
-        self.stay.is_over(self.connections.are_sure(), self.connections.have_broken())
-    }
+/// Whether a replica that is done leaves: its links have ended, and it has stayed long enough for
+/// those that may call again. A poll was made, and ran out or not.
+fn may_leave(stay: &mut Stay, contacts: &Contacts, ran_out: bool) -> bool
+    ensures stays { stay.new ≡ stayed ran_out contacts.now stay.old }
+    ensures leaves { result ≡ leaves contacts.now stay.new }
+{
+    stay.pass_poll(contacts, ran_out);
+    stay.leaves(contacts)
 }
 
 /// What connections do in their turns.
@@ -155,8 +165,11 @@ fn turns<W: Wire, C: Counts, R: Wait>(
     serving: &mut Serving<W>,
     key: usize,
     does: Does,
-) -> (Moves, Turn) {
+) -> (Moves, Turn)
+    ensures { (serving.new.moved ≡ serving.old.moved) × (serving.new.events ≡ serving.old.events) }
+{
     let alloc = serving.alloc;
+    let counts = serving.connections.contacts.does_count(key);
     let Some(connection) = serving.connections.open.get_mut(key) else {
         return (Moves::NONE, Turn::Idle);
     };
@@ -172,7 +185,7 @@ fn turns<W: Wire, C: Counts, R: Wait>(
         }
     }
     let moves = Moves {
-        octets: connection.count_moved(),
+        octets: connection.count_moved(counts),
         has_heard: connection.has_heard(),
         has_more: last == Turn::Progress,
         given: connection.count_given(),
@@ -192,11 +205,16 @@ fn serve_all<T: Transport, C: Counts, R: Wait>(
 ) -> Result<Moves, Served>
     ensures idle { T.elapsed_periods transport.new ≡ T.elapsed_periods transport.old }
     ensures early { IfErr result IsInterrupted }
+    ensures moved { IfOk result
+        (λ m. serving.new.moved ≡ saturated (serving.old.moved + m.octets)) }
+    ensures events { serving.new.events ≡ serving.old.events }
 {
     let mut all = Moves::NONE;
     for key in 0..serving.connections.open.capacity() {
         let (moves, turn) = turns(rt, service.book, pass, serving, key, does);
-        serving.connections.settle(transport, key, turn)?;
+        serving
+            .connections
+            .settle(transport, key, turn, moves.has_heard)?;
         all = all.with(moves);
     }
     serving.moved = serving.moved.saturating_add(all.octets);
@@ -238,8 +256,12 @@ fn bear_shortage<T: Transport>(
     ensures early { IfErr result IsInterrupted }
     ensures short { IfErr result (λ _. has_lasted SHORT_PERIODS
         (lasted_after serving.old.short.periods ran_out) ≡ true) }
+    ensures borne { OnOk result
+        (has_lasted SHORT_PERIODS serving.new.short.periods ≡ false) }
+    ensures kept { (serving.new.moved ≡ serving.old.moved)
+        × (serving.new.events ≡ serving.old.events) }
 {
-    if !transport.is_short() || !serving.connections.are_wanting() {
+    if !transport.is_short() || !serving.connections.contacts.are_missing() {
         serving.short = Lasted::new();
         return Ok(());
     }
@@ -267,6 +289,8 @@ fn await_transport<T: Transport, C: Counts>(
     ensures idle { IfOk result (λ ran_out. T.elapsed_periods transport.new
         ≡ elapsed_after (T.elapsed_periods transport.old) ran_out) }
     ensures early { IfErr result IsInterrupted }
+    ensures kept { (serving.new.moved ≡ serving.old.moved)
+        × (serving.new.events ≡ serving.old.events) }
 {
     serving.connections.dial_all(alloc, transport)?;
     let may_wait = !serving.is_busy;
@@ -372,6 +396,7 @@ struct Acted {
 /// # Errors
 ///
 /// How serving ends, where it does by itself.
+#[tactic(auto, using(crate::proofs::Polls::saturated_twice))]
 fn serve_and_act<C: Counts, S, T: Transport, R: Wait>(
     rt: &R,
     alloc: Global,
@@ -389,6 +414,12 @@ fn serve_and_act<C: Counts, S, T: Transport, R: Wait>(
     // What it answers was seen of the book, and an early ending is no success.
     ensures seen { IfOk result (λ a. WasSeen C.exact C.home a.standing) }
     ensures early { IfErr result IsInterrupted }
+
+    // The octets that moved are those that the gate is told of, and the events are the book's.
+    ensures moved { IfOk result
+        (λ a. serving.new.moved ≡ saturated (serving.old.moved + a.moves.octets)) }
+    ensures run { IfOk result (λ a. (serving.new.events ≡ a.standing.events)
+        × (a.was_run ≡ not (a.standing.events == serving.old.events))) }
 {
     let heard = serve_all(
         rt,
@@ -457,6 +488,15 @@ pub(crate) fn poll<C: Counts, S: Sink, T: Transport, R: Wait>(
     ensures streams { OnOk result (Streams S.seen C.exact C.home
         holdings.old.files.files.items holdings.new.files.files.items) }
 
+    // Who was active: octets moved that the gate is told of, records were written, or the book has
+    // done more events.
+    ensures moved { IfOk result
+        (λ p. serving.new.moved ≡ saturated (serving.old.moved + p.octets)) }
+    ensures run { IfOk result
+        (λ p. p.was_run ≡ not (serving.new.events == serving.old.events)) }
+    ensures written { IfOk result (λ p. WroteAsCounted S.seen C.exact C.home p.written
+        holdings.old.files.files.items holdings.new.files.files.items) }
+
     // It answers whether the wait ran out, and whether all is done. An early ending is no success.
     ensures idle { IfOk result (λ p. T.elapsed_periods transport.new
         ≡ elapsed_after (T.elapsed_periods transport.old) p.ran_out) }
@@ -472,7 +512,8 @@ pub(crate) fn poll<C: Counts, S: Sink, T: Transport, R: Wait>(
     } = serve_and_act(rt, alloc, service, holdings, transport, serving)?;
     tell_all(rt, service.book, &mut holdings.pass, &mut holdings.seats);
     let may_end = standing.is_done
-        && (serving.may_leave(ran_out) || all_are_done(rt, service, &mut holdings.passes));
+        && (may_leave(&mut serving.stay, &serving.connections.contacts, ran_out)
+            || all_are_done(rt, service, &mut holdings.passes));
     // A replica that is done makes no records any more: those that it has are written now.
     let is_left = standing.records > standing.handed;
     let recorded = match write_records(
@@ -498,7 +539,9 @@ pub(crate) fn poll<C: Counts, S: Sink, T: Transport, R: Wait>(
     note_hold(rt, service, &mut holdings.pass, is_held);
     Ok(Polled {
         ran_out,
-        was_active: recorded.written > 0 || moves.octets > 0 || was_run,
+        octets: moves.octets,
+        written: recorded.written,
+        was_run,
         is_done: may_end && is_served(&standing, service.keeps_records, recorded.is_last),
     })
 }

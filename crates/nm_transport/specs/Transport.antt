@@ -1,8 +1,14 @@
 -- What contracts see of a transport and of its connections.
-use Rattle.std.specs.Prelude.{◌≡◌, ℕ, ◌+◌, Bool, true, false, [], if◌then◌else◌}
+use Rattle.std.specs.Prelude.{◌≡◌, ℕ, ◌+◌, Bool, true, false, [], Option, if◌then◌else◌}
 use Rattle.nm_base.specs.Wire.{WireSeen}
 use Rattle.nm_transport.specs.declared.transport.Waited.{Waited}
 use Rattle.nm_transport.specs.declared.transport.Waited.TheVariants.{Ready, RanOut, Fault}
+
+-- what contracts see of a connection over TCP: what moved on it, and the peer to which it was begun,
+-- if it was begun here
+pub record TcpSeen : Type 0 where
+  pub wire : WireSeen
+  pub peer : Option ℕ
 
 -- nothing has moved on the wire, and it has neither ended nor failed
 abbrev pub IsFresh : WireSeen → Type 0

@@ -1,6 +1,6 @@
 //! Connections over TCP.
 
-ghost use Rattle.std.specs.Prelude.{◌≡◌, ◌↔◌, [], true, IfSome};
+ghost use Rattle.std.specs.Prelude.{◌≡◌, ◌↔◌, [], true, IfSome, Some};
 
 use crate::limits::MAX_REPORTS;
 use crate::period::Period;
@@ -100,12 +100,14 @@ impl<R: Net + Clock> Transport for TcpTransport<R> {
 
     ghost elapsed_periods = { λ n. n };
 
+    ghost leads_to = { λ w. w.peer };
+
     fn connect(&mut self, peer: usize) -> Option<TcpWire> {
         let address = *self.peers.get(peer)?;
         let stream = TcpStream::connect(&self.net, address).ok()?;
         match stream.local_addr() {
             Ok(own) if meets_itself(own, address) => None,
-            _ => Some(TcpWire::new(stream)),
+            _ => Some(TcpWire::new(stream, Some(peer))),
         }
     }
 
@@ -116,7 +118,7 @@ impl<R: Net + Clock> Transport for TcpTransport<R> {
         match self.listener.accept() {
             Ok((stream, _)) => {
                 self.is_short = false;
-                Some(TcpWire::new(stream))
+                Some(TcpWire::new(stream, None))
             }
             Err(error) => {
                 self.is_called = false;

@@ -12,10 +12,12 @@ use std::io::{ErrorKind, Read, Write};
 use std::marker::Model;
 
 /// A TCP connection. A clause sees the octets that came and went, as the system answered, how often
-/// a read found the end, and how often a call failed.
+/// a read found the end, how often a call failed, and the peer to which it was begun.
 #[derive(Drop)]
 pub struct TcpWire {
     stream: TcpStream,
+    /// The number of the peer to which it was begun. `None` where somebody else began it.
+    peer: Option<usize>,
     got: Octets,
     sent: Octets,
     ended: FailureCount,
@@ -23,28 +25,36 @@ pub struct TcpWire {
 }
 
 impl Model for TcpWire {
-    ghost use Rattle.nm_base.specs.Wire.{WireSeen};
+    ghost use Rattle.nm_transport.specs.Transport.{TcpSeen};
 
-    ghost Value = { WireSeen };
+    ghost Value = { TcpSeen };
 
     ghost view = { λ s. record {
-      given = s.got.list;
-      taken = s.sent.list;
-      ends = s.ended;
-      failures = s.failed;
+      wire = record {
+        given = s.got.list;
+        taken = s.sent.list;
+        ends = s.ended;
+        failures = s.failed;
+      };
+      peer = s.peer;
     } };
 }
 
 impl TcpWire {
-    /// A connection on which nothing has moved. What is written is sent at once: a conservative
-    /// simulation is a chain of null messages, and all wait for one that the system holds back
-    /// until the last was acknowledged (RFC 896). A connection that cannot be told so is slower.
-    pub fn new(stream: TcpStream) -> Self
-        ensures { result ≡ record { given = []; taken = []; ends = 0; failures = 0 } }
+    /// A connection on which nothing has moved, to a peer or by somebody else. What is written is
+    /// sent at once: a conservative simulation is a chain of null messages, and all wait for one
+    /// that the system holds back until the last was acknowledged (RFC 896). A connection that
+    /// cannot be told so is slower.
+    pub fn new(stream: TcpStream, peer: Option<usize>) -> Self
+        ensures { result ≡ record {
+          wire = record { given = []; taken = []; ends = 0; failures = 0 };
+          peer = peer;
+        } }
     {
         let _ = stream.set_nodelay(true);
         TcpWire {
             stream,
+            peer,
             got: Octets::new(),
             sent: Octets::new(),
             ended: FailureCount::new(),
@@ -72,7 +82,7 @@ impl TcpWire {
 }
 
 impl Wire for TcpWire {
-    ghost seen = { λ s. s };
+    ghost seen = { λ s. s.wire };
 
     fn read_some(&mut self, buffer: &mut [u8]) -> WireRead {
         match self.stream.read(buffer) {

@@ -1,7 +1,7 @@
 //! What the loop asks of what carries its octets. Each call may fail, and is then made again at a
 //! later poll.
 
-ghost use Rattle.std.specs.Prelude.{◌≡◌, ℕ, [], IfSome};
+ghost use Rattle.std.specs.Prelude.{◌≡◌, ℕ, [], IfSome, Option, Some};
 ghost use Rattle.nm_transport.specs.Transport.{has_run_out};
 
 use nm_base::Wire;
@@ -40,9 +40,13 @@ pub trait Transport {
     // How many waits ended because a period was over, or because it could not wait.
     ghost elapsed_periods: { Self → ℕ };
 
+    // The number of the peer to which a connection was begun, if it was begun here.
+    ghost leads_to: { Self.Connection → Option ℕ };
+
     /// Begins a connection to the peer with this number, if it can. It may not be made yet.
     fn connect(&mut self, peer: usize) -> Option<Self::Connection>
         ensures fresh { IfSome result (λ w. IsFresh (Self.Connection.seen w)) }
+        ensures leads { IfSome result (λ w. leads_to w ≡ Some peer) }
         ensures idle { elapsed_periods self.new ≡ elapsed_periods self.old };
 
     /// The next connection that a peer began, if there is one.

@@ -1,18 +1,19 @@
 //! A transport whose connections fail after so many octets.
 
-ghost use Rattle.std.specs.Prelude.{◌≡◌, ℕ, ◌+◌, List, [], IfSome};
+ghost use Rattle.std.specs.Prelude.{◌≡◌, ℕ, ◌+◌, List, [], IfSome, Some};
 
 use nm_base::Wire;
 use nm_base::failures::FailureCount;
 use nm_base::wire::{Read, Written};
 use nm_transport::{Transport, Waited};
 
-/// A wire that fails once it took so many octets.
+/// A wire that fails once it took so many octets, and the peer to which it was begun.
 #[derive(Drop)]
 pub struct CutWire<W> {
-    wire: W,
-    left: usize,
-    failed: FailureCount,
+    pub wire: W,
+    pub peer: Option<usize>,
+    pub left: usize,
+    pub failed: FailureCount,
 }
 
 impl<W: Wire> Wire for CutWire<W> {
@@ -58,11 +59,14 @@ impl<N: Transport> Transport for CutTransport<N> {
 
     ghost elapsed_periods = { λ n. N.elapsed_periods n.transport };
 
+    ghost leads_to = { λ w. w.peer };
+
     fn connect(&mut self, peer: usize) -> Option<CutWire<N::Connection>> {
         let wire = self.transport.connect(peer)?;
         let left = self.cuts.pop().unwrap_or(usize::MAX);
         Some(CutWire {
             wire,
+            peer: Some(peer),
             left,
             failed: FailureCount::new(),
         })
@@ -72,6 +76,7 @@ impl<N: Transport> Transport for CutTransport<N> {
         let wire = self.transport.accept()?;
         Some(CutWire {
             wire,
+            peer: None,
             left: usize::MAX,
             failed: FailureCount::new(),
         })

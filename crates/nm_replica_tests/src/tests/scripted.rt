@@ -1,12 +1,14 @@
 //! A transport in memory that does what a script says, and fails at some calls.
 
-ghost use Rattle.std.specs.Prelude.{◌≡◌, ◌+◌, [], IfSome};
+ghost use Rattle.std.specs.Prelude.{◌≡◌, ◌+◌, [], IfSome, Some};
 
+use crate::tests::cut_transport::CutWire;
 use nm_base::MemWire;
 use nm_base::failures::FailureCount;
-use nm_base::mem_wire::Ending;
+use nm_base::mem_wire::{Ending, ScriptedRead};
 use nm_transport::{Transport, Waited};
 use std::alloc::Global;
+use std::collections::VecDeque;
 
 /// Which calls of a transport fail: one, or all from it on. Calls are counted from 1.
 #[derive(Clone, Copy)]
@@ -21,6 +23,37 @@ pub const NEVER: Fails = Fails {
     for_good: false,
 };
 
+/// How connections give their octets.
+#[derive(Clone, Copy, PartialEq, Eq)]
+pub enum Manner {
+    /// All at once, and then nothing.
+    Whole,
+    /// All at once, and then the other side sends no more.
+    Cut,
+    /// So many octets at once, and then one at each tenth poll.
+    Slow(usize),
+}
+
+/// How often a read of a slow connection finds nothing before the next octet: at ten polls, each of
+/// which reads twice.
+const QUIET_READS: usize = 20;
+
+/// How many octets a slow connection gives singly.
+const SINGLE_OCTETS: usize = 60;
+
+/// What the reads of a slow connection do, or `None` where memory was refused.
+fn slow_reads(alloc: Global, first: usize) -> Option<VecDeque<ScriptedRead>> {
+    let mut reads = VecDeque::new(alloc);
+    reads.push_back(ScriptedRead::Gives(first)).ok()?;
+    for _ in 0..SINGLE_OCTETS {
+        for _ in 0..QUIET_READS {
+            reads.push_back(ScriptedRead::Answers(Ending::Later)).ok()?;
+        }
+        reads.push_back(ScriptedRead::Gives(1)).ok()?;
+    }
+    Some(reads)
+}
+
 /// A transport whose connections give these octets, one after the other from the last on, and then
 /// nothing. They are the peers' that the replica calls, or of those who call.
 #[derive(Drop)]
@@ -30,6 +63,8 @@ pub struct Scripted {
     called: bool,
     calls: u64,
     fails: Fails,
+    /// How its connections give their octets.
+    pub manner: Manner,
     /// A wait reports no connection.
     pub is_silent: bool,
     /// The system has too little for one more connection.
@@ -52,6 +87,7 @@ impl Scripted {
             called,
             calls: 0,
             fails,
+            manner: Manner::Whole,
             is_silent: false,
             is_short: false,
             idle: FailureCount::new(),
@@ -70,42 +106,63 @@ impl Scripted {
         self.calls == self.fails.at || self.fails.for_good && self.calls > self.fails.at
     }
 
-    /// The next connection.
-    fn wire(&mut self) -> Option<MemWire>
+    /// The next connection, to this peer or by somebody else. It is never cut.
+    fn wire(&mut self, peer: Option<usize>) -> Option<CutWire<MemWire>>
         ensures fresh { IfSome result
-            (λ w. (w.at ≡ 0) × (w.taken ≡ []) × (w.ends ≡ 0) × (w.failures ≡ 0)) }
+            (λ w. (w.wire.at ≡ 0) × (w.wire.taken ≡ []) × (w.wire.ends ≡ 0)
+            × (w.wire.failures ≡ 0) × (w.failed ≡ 0)) }
+        ensures leads { IfSome result (λ w. w.peer ≡ peer) }
         ensures idle { self.new.idle ≡ self.old.idle }
     {
         let source = self.sources.pop()?;
         self.given = self.given.saturating_add(1);
-        MemWire::new(self.alloc, source, Ending::Later, 2_000, 7).ok()
+        let ending = if self.manner == Manner::Cut {
+            Ending::End
+        } else {
+            Ending::Later
+        };
+        let Ok(mut wire) = MemWire::new(self.alloc, source, ending, 2_000, 7) else {
+            return None;
+        };
+        if let Manner::Slow(first) = self.manner {
+            let reads = slow_reads(self.alloc, first)?;
+            wire = wire.with_script(reads, VecDeque::new(self.alloc));
+        }
+        Some(CutWire {
+            wire,
+            peer,
+            left: usize::MAX,
+            failed: FailureCount::new(),
+        })
     }
 }
 
 impl Transport for Scripted {
-    type Connection = MemWire;
+    type Connection = CutWire<MemWire>;
 
     ghost elapsed_periods = { λ n. n.idle };
 
-    fn connect(&mut self, _peer: usize) -> Option<MemWire> {
+    ghost leads_to = { λ w. w.peer };
+
+    fn connect(&mut self, peer: usize) -> Option<CutWire<MemWire>> {
         if self.fails() || self.called {
             return None;
         }
-        self.wire()
+        self.wire(Some(peer))
     }
 
-    fn accept(&mut self) -> Option<MemWire> {
+    fn accept(&mut self) -> Option<CutWire<MemWire>> {
         if self.fails() || !self.called {
             return None;
         }
-        self.wire()
+        self.wire(None)
     }
 
     fn is_short(&self) -> bool {
         self.is_short
     }
 
-    fn watch(&mut self, _connection: &mut MemWire, _key: usize) -> bool {
+    fn watch(&mut self, _connection: &mut CutWire<MemWire>, _key: usize) -> bool {
         if self.fails() {
             return false;
         }
@@ -114,7 +171,7 @@ impl Transport for Scripted {
         true
     }
 
-    fn unwatch(&mut self, _connection: &mut MemWire) {
+    fn unwatch(&mut self, _connection: &mut CutWire<MemWire>) {
         self.watched = self.watched.saturating_sub(1);
     }
 

@@ -1,12 +1,14 @@
 //! Replicas over transports that do what a script says: who speaks with them, and which calls fail.
 
-use crate::tests::scripted::{Fails, NEVER, Scripted};
+use crate::tests::scripted::{Fails, Manner, NEVER, Scripted};
 use crate::tests::sides::{Company, Noting, STAYS, serve, topology_of};
-use crate::tests::talks::{Voice, digest_of, said_by};
+use crate::tests::talks::{HELLO_OCTETS, Voice, digest_of, said_by};
 use nm_fixtures::SPLIT;
-use nm_policy::limits::LINGER_PERIODS;
+use nm_policy::limits::{
+    GREETING_PERIODS, HELLO_PERIODS, LINGER_PERIODS, MAX_STRANGERS, SILENCE_PERIODS,
+};
 use nm_replica::Served;
-use nm_replica::limits::{HELLO_PERIODS, MAX_STRANGERS, SHORT_PERIODS};
+use nm_replica::limits::SHORT_PERIODS;
 use std::alloc::Global;
 use std::process::Abort;
 use std::sync::Wait;
@@ -19,6 +21,8 @@ struct Script {
     /// Who speaks, in turn: so many of each over a connection each.
     voices: &'static [(usize, Voice)],
     fails: Fails,
+    /// How connections give their octets.
+    manner: Manner,
     /// A wait reports no connection.
     is_silent: bool,
     /// The system has too little for one more connection.
@@ -57,6 +61,7 @@ fn came_of<R: Wait + Abort>(rt: &R, alloc: Global, script: &Script) -> Outcome {
     let topology = topology_of(rt, alloc, SPLIT);
     let sources = sources_of(rt, alloc, script);
     let mut transport = Scripted::new(alloc, sources, script.company.is_called, script.fails);
+    transport.manner = script.manner;
     transport.is_silent = script.is_silent;
     transport.is_short = script.is_short;
     let gate = Noting::new();
@@ -81,6 +86,7 @@ fn called_by(voices: &'static [(usize, Voice)], idle_limit: u64) -> Script {
         },
         voices,
         fails: NEVER,
+        manner: Manner::Whole,
         is_silent: false,
         is_short: false,
     }
@@ -158,6 +164,7 @@ fn ends<R: Wait + Abort>(rt: &R, alloc: Global, number: usize, row: &Row) {
         },
         voices: row.voices,
         fails: NEVER,
+        manner: Manner::Whole,
         is_silent: row.is_silent,
         is_short: false,
     };
@@ -192,6 +199,7 @@ fn ending_of<R: Wait + Abort>(rt: &R, alloc: Global, me: u32, fails: Fails) -> S
         },
         voices: &[(2, Voice::Peer(0))],
         fails,
+        manner: Manner::Whole,
         is_silent: false,
         is_short: false,
     };
@@ -226,41 +234,68 @@ fn calls_that_fail_for_good_stall(rt: HostRuntime) {
     }
 }
 
-/// A call that nobody answers is given up after five seconds, and made again a period later.
-#[test]
-fn calls_have_an_end(rt: HostRuntime) {
-    let script = Script {
+/// Partition 0, which calls one replica, with whom these speak in this manner.
+fn calling(voices: &'static [(usize, Voice)], manner: Manner, idle_limit: u64) -> Script {
+    Script {
         company: Company {
             is_called: false,
             by_two: false,
-            idle_limit: 2 * HELLO_PERIODS + HELLO_PERIODS / 2,
+            idle_limit,
         },
-        voices: &[(9, Voice::Silent)],
+        voices,
         fails: NEVER,
+        manner,
         is_silent: false,
         is_short: false,
-    };
-    let came = came_of(&rt, rt.alloc(), &script);
-    assert!(rt; matches!(came.served, Served::Stalled { .. }));
-    assert!(rt; came.given == 3 && came.most == 1);
+    }
 }
 
-/// A call that is held, and then one that is answered: the replica is done.
+/// A call that nobody answers is given up after five seconds, and made again a period later. So is
+/// one on which nothing comes for five seconds after the Hello.
+#[test]
+fn calls_have_an_end(rt: HostRuntime) {
+    const SILENT: &[(usize, Voice)] = &[(9, Voice::Silent)];
+    const GREETED: &[(usize, Voice)] = &[(9, Voice::Greeted(0))];
+    for (voices, time) in [(SILENT, HELLO_PERIODS), (GREETED, SILENCE_PERIODS)] {
+        let script = calling(voices, Manner::Whole, 2 * time + time / 2);
+        let came = came_of(&rt, rt.alloc(), &script);
+        assert!(rt; matches!(came.served, Served::Stalled { .. }) && came.moved == 0);
+        assert!(rt; came.given == 3 && came.most == 1);
+    }
+}
+
+/// A call that is held, and then one that is answered; or one whose peer vanished after its Hello:
+/// the replica is done.
 #[test]
 fn a_call_that_was_held_is_made_again(rt: HostRuntime) {
-    let script = Script {
-        company: Company {
-            is_called: false,
-            by_two: false,
-            idle_limit: 2 * HELLO_PERIODS,
-        },
-        voices: &[(1, Voice::Silent), (2, Voice::Peer(0))],
-        fails: NEVER,
-        is_silent: false,
-        is_short: false,
-    };
+    const HELD: &[(usize, Voice)] = &[(1, Voice::Silent), (2, Voice::Peer(0))];
+    const VANISHED: &[(usize, Voice)] = &[(1, Voice::Greeted(0)), (2, Voice::Peer(0))];
+    for voices in [HELD, VANISHED] {
+        let script = calling(voices, Manner::Whole, 2 * HELLO_PERIODS);
+        let came = came_of(&rt, rt.alloc(), &script);
+        assert!(rt; came.served == Served::Ended && came.given == 3);
+    }
+}
+
+/// A peer that greets and cuts is called once a period, and is no progress.
+#[test]
+fn who_greets_and_cuts_stalls(rt: HostRuntime) {
+    let limit = 2 * GREETING_PERIODS;
+    let script = calling(&[(500, Voice::Greeted(0))], Manner::Cut, limit);
     let came = came_of(&rt, rt.alloc(), &script);
-    assert!(rt; came.served == Served::Ended && came.given == 3);
+    assert!(rt; matches!(came.served, Served::Stalled { .. }) && came.moved == 0);
+    assert!(rt; came.given > 2 && came.given <= limit + 1);
+}
+
+/// What a peer says slowly counts from a second after its Hello on: the replica is not stalled
+/// while it comes, however long that takes.
+#[test]
+fn slow_octets_count(rt: HostRuntime) {
+    let limit = 2 * GREETING_PERIODS;
+    let script = calling(&[(2, Voice::Peer(0))], Manner::Slow(HELLO_OCTETS), limit);
+    let came = came_of(&rt, rt.alloc(), &script);
+    assert!(rt; came.served == Served::Ended && came.waited > 5 * limit);
+    assert!(rt; came.moved > 40);
 }
 
 /// Rubbish before a Hello costs that connection alone; after a Hello it ends the replica.
@@ -287,11 +322,11 @@ fn octets_of_strangers_never_count(rt: HostRuntime) {
     never_count(&rt, rt.alloc(), &[(3, Voice::Silent)]);
 }
 
-/// What the peer says counts, its Hello with it.
+/// What the peer says at its greeting does not count.
 #[test]
-fn octets_of_a_peer_count(rt: HostRuntime) {
+fn octets_of_a_greeting_do_not_count(rt: HostRuntime) {
     let came = came_of(&rt, rt.alloc(), &called_by(&[(1, Voice::Peer(0))], STAYS));
-    assert!(rt; came.served == Served::Ended && came.moved >= 48);
+    assert!(rt; came.served == Served::Ended && came.moved == 0);
 }
 
 /// How many connections are open of a replica that one silent stranger called, after so many idle

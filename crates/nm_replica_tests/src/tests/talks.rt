@@ -31,7 +31,7 @@ const RUBBISH: &str = "00000001 4d";
 const REPLICA_AT: usize = 15;
 
 /// The octets of a Hello with its length.
-const HELLO_OCTETS: usize = 48;
+pub const HELLO_OCTETS: usize = 48;
 
 /// Who speaks over a connection.
 #[derive(Clone, Copy)]

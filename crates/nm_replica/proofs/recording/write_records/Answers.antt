@@ -1,4 +1,5 @@
-use Rattle.nm_replica.proofs.Recordings.{streams_more, streams_none}
+use Rattle.std.proofs.Common.{rules}
+use Rattle.nm_replica.proofs.Recordings.{counted_more, counted_none, streams_more, streams_none}
 use Rattle.nm_replica.proofs.recording.write_records.Goals as goal
 
 pub returns-then-service-clause-streams : goal.returns-then-service-clause-streams
@@ -7,6 +8,7 @@ returns-then-service-clause-streams g c = streams_none g.C.Counts.exact g.C.Coun
 pub loop-init : goal.loop-init
 loop-init g c = record {
   streams = streams_none g.C.Counts.exact g.C.Counts.home g.S.Sink.seen c.args.files.now.files.items;
+  wrote = counted_none g.C.Counts.exact g.C.Counts.home g.S.Sink.seen c.args.files.now.files.items;
   last = λ is. absurd cc;
 }
 
@@ -19,5 +21,16 @@ loop-preserved g c = record {
   streams =
       streams_more g.C.Counts.exact g.C.Counts.home g.S.Sink.seen c.args.files.now.files.items c.loop.files.files.items c.write_some.new.files.files.items
       c.loop.invariant.streams (c.in_ok-some.some.written, c.in_ok-some.ensures.wrote);
+  wrote =
+      counted_more g.C.Counts.exact g.C.Counts.home g.S.Sink.seen c.args.files.now.files.items c.loop.files.files.items c.write_some.new.files.files.items c.loop.all.written
+      c.in_ok-some.some.written _ c.loop.invariant.wrote c.in_ok-some.ensures.wrote (search rules);
   last = c.in_ok-some.ensures.last;
 }
+
+pub returns-then-service-clause-wrote : goal.returns-then-service-clause-wrote
+returns-then-service-clause-wrote g c = counted_none g.C.Counts.exact g.C.Counts.home g.S.Sink.seen c.args.files.now.files.items
+
+pub returns-then-not-some-clause-wrote : goal.returns-then-not-some-clause-wrote
+returns-then-not-some-clause-wrote g c =
+    counted_more g.C.Counts.exact g.C.Counts.home g.S.Sink.seen c.args.files.now.files.items c.loop.files.files.items c.write_some.new.files.files.items c.loop.all.written
+    c.in_ok-some.some.written _ c.loop.invariant.wrote c.in_ok-some.ensures.wrote (search rules)

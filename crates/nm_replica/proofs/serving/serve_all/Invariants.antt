@@ -2,4 +2,8 @@ use Rattle.std.proofs.Common.{◌≡◌}
 use Rattle.nm_replica.proofs.serving.serve_all.Given as goal
 
 abbrev pub invariant-loop-key : goal.invariant-loop-key
-invariant-loop-key g l = g.T.Transport.elapsed_periods l.transport ≡ g.T.Transport.elapsed_periods l.fn.transport
+invariant-loop-key g l = record {
+  idle : g.T.Transport.elapsed_periods l.transport ≡ g.T.Transport.elapsed_periods l.fn.transport;
+  moved : l.serving.moved ≡ l.fn.serving.moved;
+  events : l.serving.events ≡ l.fn.serving.events;
+}

@@ -1,0 +1,71 @@
+-- Peers that are called one after another, and connections that are let go so.
+use Rattle.std.proofs.Common.{◌≡◌, ◌≢◌, ℕ, suc, ◌+◌, ◌<◌, ◌≤◌, ◌&&◌, Bool, true, false, length, Option, None, refl, ◌∙◌, ap, arith, below_more, ⊎_elim, inl, inr}
+use Rattle.std.specs.Prelude.{nat_lt, slice_index_or}
+use Rattle.std.proofs.lemmas.Bool.{cases_lt}
+use Rattle.std.proofs.lemmas.Bool.Decides.{nat_tests}
+use Rattle.std.proofs.lemmas.List.{get_or_past}
+use Rattle.slab.specs.Slab.{Slab}
+use Rattle.nm_policy.specs.Contact.{is_stale}
+use Rattle.nm_policy.specs.Contacts.{ContactsValue, contact_at, is_slot}
+use Rattle.nm_policy.specs.Decisions.{is_due_at}
+use Rattle.nm_policy.specs.Peers.{is_due, new_peer}
+use Rattle.nm_policy.proofs.Changes.{as_long, as_many, gone, kept, no_more, others}
+use Rattle.nm_replica.specs.Connections.{Admits, Dials, Keeps, LetGoStale, LetsGo, MakesRoom}
+use Rattle.nm_replica.specs.declared.connection.Connection.{Connection}
+
+-- nobody below this number is to be called
+abbrev pub NoneWanted : ContactsValue → ℕ → Type 0
+NoneWanted s n = (peer : ℕ) → peer < n → is_due_at s.peers peer ≡ false
+
+pub one_over : (s : ContactsValue) (n : ℕ) → is_due_at s.peers n ≡ false → NoneWanted s n → NoneWanted s (n + 1)
+one_over s n free before peer low = below_more (λ p. is_due_at s.peers p ≡ false) n before free peer low
+
+module _ {W : Type 0} (leads_to : W → Option ℕ) (n : ℕ) (old new : ContactsValue) (slab : Slab (Connection W)) (did : Dials leads_to n old new slab) where
+  pub one_dialed : NoneWanted old n → NoneWanted new (n + 1)
+  one_dialed before peer low =
+      below_more (λ p. is_due_at new.peers p ≡ false) n
+      (λ p l. let ne : p ≢ n = λ e. absurd (omega (arith, l, e)) in
+      ⊎_elim (λ is. others 0 n old new (inl is) p ne ∙ before p l) (λ d. others d.0 n old new (inr d.2) p ne ∙ before p l) did)
+      (⊎_elim (λ is. no_more 0 n old new (inl is)) (λ d. no_more d.0 n old new (inr d.2)) did) peer low
+
+  pub dialed_as_many : length new.peers ≡ length old.peers
+  dialed_as_many = ⊎_elim (λ is. as_many 0 n old new (inl is)) (λ d. as_many d.0 n old new (inr d.2)) did
+
+-- nobody is to be called, where that is so below their number
+pub none_wanted : (s : ContactsValue) (n : ℕ) → length s.peers ≤ n → NoneWanted s n → (peer : ℕ) → is_due_at s.peers peer ≡ false
+none_wanted s n over below peer = by_test (nat_lt peer (length s.peers)) refl
+  where
+    by_test : (b : Bool) → nat_lt peer (length s.peers) ≡ b → is_due_at s.peers peer ≡ false
+    by_test true is = let low : peer < length s.peers = grind (arith, nat_tests) in below peer (omega (arith, low, over))
+    by_test false past = ap (λ b. b && is_due (slice_index_or s.peers peer new_peer)) past
+
+-- no connection with a key below this has waited too long
+abbrev pub NoneStale : ContactsValue → ℕ → Type 0
+NoneStale s n = (key : ℕ) → key < n → is_slot is_stale (contact_at s.connections key) ≡ false
+
+pub one_kept : (s : ContactsValue) (n : ℕ) → is_slot is_stale (contact_at s.connections n) ≡ false → NoneStale s n → NoneStale s (n + 1)
+one_kept s n early before key low = below_more (λ k. is_slot is_stale (contact_at s.connections k) ≡ false) n before early key low
+
+module _ (n : ℕ) (old new : ContactsValue) (went : LetsGo n old new) where
+  pub one_gone : NoneStale old n → NoneStale new (n + 1)
+  one_gone before key low =
+      below_more (λ k. is_slot is_stale (contact_at new.connections k) ≡ false) n
+      (λ k l. let ne : k ≢ n = λ e. absurd (omega (arith, l, e)) in ap (is_slot is_stale) (kept old new n went.0 went.1 k ne) ∙ before k l)
+      (ap (is_slot is_stale) (gone old new n went.0 went.1)) key low
+
+  pub gone_as_long : length new.connections ≡ length old.connections
+  gone_as_long = as_long old new n went.0 went.1
+
+pub none_stale : (s : ContactsValue) (n : ℕ) → length s.connections ≤ n → NoneStale s n → (key : ℕ) → is_slot is_stale (contact_at s.connections key) ≡ false
+none_stale s n over below key =
+    ⊎_elim (λ low. below key (omega (arith, low, over))) (λ past. ap (is_slot is_stale) (get_or_past s.connections key None past))
+    (cases_lt key (length s.connections))
+
+-- one more was let go that was stale
+pub one_more_gone : (first old new : ContactsValue) (key : ℕ) → (n : ℕ) × LetGoStale n first old → is_slot is_stale (contact_at old.connections key) ≡ true → LetsGo key old new
+    → (n : ℕ) × LetGoStale n first new
+one_more_gone first old new key so_far stale went = (suc so_far.0, (old, so_far.1, (key, stale, went)))
+
+-- one more was kept or not, once there was room
+pub one_more_admitted : (first old roomy new : ContactsValue) → (n : ℕ) × Admits n first old → MakesRoom old roomy → Keeps roomy new → (n : ℕ) × Admits n first new
+one_more_admitted first old roomy new so_far room keeps = (suc so_far.0, (old, so_far.1, (roomy, room, keeps)))

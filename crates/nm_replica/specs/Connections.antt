@@ -1,0 +1,114 @@
+-- What connections are told of by events, and which of them are begun and let go.
+use Rattle.std.specs.Prelude.{◌≡◌, ◌⊎◌, ℕ, suc, zero, Bool, true, false, List, slice_set, Option, Some, None, IsSomeAnd}
+use Rattle.slab.specs.Slab.{Slab, get}
+use Rattle.nm_engine.specs.Link.{greeted_by}
+use Rattle.nm_engine.specs.declared.answer.Turn.{Turn}
+use Rattle.nm_engine.specs.declared.answer.Turn.TheVariants as turn
+use Rattle.nm_frames.specs.Session.{SessionValue, broken}
+use Rattle.nm_frames.specs.declared.replica_name.ReplicaName.{ReplicaName}
+use Rattle.nm_policy.specs.Contact.{is_stale}
+use Rattle.nm_policy.specs.Contacts.{ContactsValue, after, contact_at, is_slot}
+use Rattle.nm_policy.specs.Decisions.{IsFirstStranger, IsToDrop}
+use Rattle.nm_policy.specs.Laws.{MayCome}
+use Rattle.nm_policy.specs.declared.contact.Contact.{Contact}
+use Rattle.nm_policy.specs.declared.contact_event.ContactEvent.TheVariants.{Called, NotCalled, Accepted, Heard, Greeted, Ended, Broke}
+use Rattle.nm_replica.specs.declared.connection.Connection.{Connection}
+
+-- a connection is let go, at whose other side somebody was or nobody
+abbrev pub LetsGo : ℕ → (old new : ContactsValue) → Type 0
+LetsGo key old new = (was_there : Bool) × (new ≡ after old (Broke key was_there))
+
+-- so many connections are let go in turn, each of which is stale then
+abbrev pub LetGoStale : ℕ → (old new : ContactsValue) → Type 0
+LetGoStale zero old new = new ≡ old
+LetGoStale (suc n) old new =
+    (mid : ContactsValue) × LetGoStale n old mid
+    × ((key : ℕ) × (is_slot is_stale (contact_at mid.connections key) ≡ true) × LetsGo key mid new)
+
+-- those that are stale are let go, and no others
+abbrev pub LetsStaleGo : (old new : ContactsValue) → Type 0
+LetsStaleGo old new =
+    ((n : ℕ) × LetGoStale n old new)
+    × ((key : ℕ) → is_slot is_stale (contact_at new.connections key) ≡ false)
+
+-- A peer is called: by a connection that leads to it, under a key that is free; or no connection
+-- could be begun.
+abbrev pub Dials : {W : Type 0} → (leads_to : W → Option ℕ) → (peer : ℕ)
+    → (old new : ContactsValue) → Slab (Connection W) → Type 0
+Dials leads_to peer old new slab =
+    (new ≡ after old (NotCalled peer))
+    ⊎ ((key : ℕ) × MayCome old (Called key peer) × (new ≡ after old (Called key peer))
+    × IsSomeAnd (get slab key) (λ c. leads_to c.link.wire ≡ Some peer))
+
+-- the stranger that came first is let go, if there is one
+abbrev pub DropsFirst : Option ℕ → (old new : ContactsValue) → Type 0
+DropsFirst None old new = new ≡ old
+DropsFirst (Some key) old new = LetsGo key old new
+
+abbrev pub DropsStranger : (old new : ContactsValue) → Type 0
+DropsStranger old new =
+    (first : Option ℕ) × IsFirstStranger old.connections first × DropsFirst first old new
+
+-- the stranger that came first is let go, where there are as many as there may be
+abbrev pub MakesRoom : (old new : ContactsValue) → Type 0
+MakesRoom old new = (first : Option ℕ) × IsToDrop old first × DropsFirst first old new
+
+-- a connection that somebody began is kept under a key that is free, or is not
+abbrev pub Keeps : (old new : ContactsValue) → Type 0
+Keeps old new =
+    (new ≡ old)
+    ⊎ ((key : ℕ) × MayCome old (Accepted key) × (new ≡ after old (Accepted key)))
+
+-- so many connections that others began are kept or not, each once there is room for it
+abbrev pub Admits : ℕ → (old new : ContactsValue) → Type 0
+Admits zero old new = new ≡ old
+Admits (suc n) old new =
+    (mid : ContactsValue) × Admits n old mid
+    × ((roomy : ContactsValue) × MakesRoom mid roomy × Keeps roomy new)
+
+-- which replica the peer of a connection is is known, once its Hello has come
+abbrev pub learned_name : ℕ → Option ReplicaName → ContactsValue → ContactsValue
+learned_name key None s = s
+learned_name key (Some name) s = after s (Greeted key name)
+
+abbrev pub learned : {W : Type 0} → ℕ → Option (Connection W) → ContactsValue → ContactsValue
+learned key None s = s
+learned key (Some c) s = learned_name key (greeted_by c.link.session) s
+
+-- it is noted that octets came, where they did
+abbrev pub heard_at : ℕ → (has_heard : Bool) → ContactsValue → ContactsValue
+heard_at key false s = s
+heard_at key true s = after s (Heard key)
+
+-- What a turn of a connection comes to, once it is known who is there: the end of its link is
+-- noted; a broken one is let go; any other stays, or is let go where the other side sends no more,
+-- and always where that has begun another.
+abbrev pub SettlesAs : ℕ → Turn → (old new : ContactsValue) → Type 0
+SettlesAs key turn.Progress old new =
+    (is_slot (λ c. c.is_replaced) (contact_at old.connections key) ≡ true → LetsGo key old new)
+    × ((new ≡ old) ⊎ LetsGo key old new)
+SettlesAs key turn.Idle old new =
+    (is_slot (λ c. c.is_replaced) (contact_at old.connections key) ≡ true → LetsGo key old new)
+    × ((new ≡ old) ⊎ LetsGo key old new)
+SettlesAs key turn.Ended old new = new ≡ after old (Ended key)
+SettlesAs key (turn.Broken cause) old new = LetsGo key old new
+SettlesAs key turn.Failed old new = ⊥
+
+abbrev pub Settles : {W : Type 0} → ℕ → Turn → (has_heard : Bool) → Option (Connection W)
+    → (old new : ContactsValue) → Type 0
+Settles key turn has_heard connection old new =
+    SettlesAs key turn (learned key connection (heard_at key has_heard old)) new
+
+-- the session of a connection to a peer comes back to that peer, at its greeting
+abbrev pub with_session_of : Option ℕ → Option SessionValue → List (Option SessionValue)
+    → List (Option SessionValue)
+with_session_of None session sessions = sessions
+with_session_of (Some peer) None sessions = sessions
+with_session_of (Some peer) (Some s) sessions = slice_set sessions peer (Some (broken s))
+
+abbrev pub with_session_back : {W : Type 0} → Option Contact → Option (Connection W)
+    → List (Option SessionValue) → List (Option SessionValue)
+with_session_back None connection sessions = sessions
+with_session_back (Some contact) None sessions = sessions
+with_session_back (Some contact) (Some c) sessions =
+    with_session_of contact.peer c.link.session sessions
