@@ -1,8 +1,16 @@
 -- What a process comes to.
-use Rattle.std.specs.Prelude.{◌≡◌, ℕ}
+use Rattle.std.specs.Prelude.{◌≡◌, ◌⊎◌, ℕ}
+use Rattle.std.specs.declared.io.ErrorKind.{ErrorKind}
+use Rattle.std.specs.declared.io.ErrorKind.TheVariants.{OutOfMemory}
+use Rattle.nm_base.specs.declared.fault.Fault.{Fault}
+use Rattle.nm_base.specs.declared.fault.Fault.TheVariants.{Memory, Refused}
 use Rattle.nm_topology.specs.TopologyValue.{TopologyValue}
 use Rattle.nm_book.specs.Book.{BookValue}
 use Rattle.nm_replica.specs.Finished.{IsFinished}
+use Rattle.nm_replica.specs.declared.served.Served.{Served}
+use Rattle.nm_replica.specs.declared.served.Served.TheVariants as served
+use Rattle.nm_process.specs.declared.fault.ProcessCause.{ProcessCause}
+use Rattle.nm_process.specs.declared.fault.ProcessCause.TheVariants as cause
 
 -- The book is replica r of partition p of this topology, nothing is left to do for it, and its
 -- trace is whole.
@@ -12,3 +20,17 @@ pub record IsDoneReplica (t : TopologyValue) (p r : ℕ) (b : BookValue) : Type 
   pub replica : b.replica ≡ r
   pub finished : IsFinished b
   pub whole : b.handed ≡ 0
+
+-- why a replica is not done whose serving came to this
+abbrev pub unfinished_fault : Served → Fault ProcessCause
+unfinished_fault served.Ended = Refused cause.Stalled
+unfinished_fault (served.Stalled polls) = Refused cause.Stalled
+unfinished_fault served.Net = Refused cause.Net
+unfinished_fault (served.File iface written) = Refused cause.Broken
+unfinished_fault served.Memory = Memory
+
+-- what an error of the system of this kind is to a process: memory was refused, or else the network
+-- failed
+abbrev pub IsFaultOf : ErrorKind → Fault ProcessCause → Type 0
+IsFaultOf kind fault = ((kind ≡ OutOfMemory) × (fault ≡ Memory))
+    ⊎ ((kind ≡ OutOfMemory → ⊥) × (fault ≡ Refused cause.Net))

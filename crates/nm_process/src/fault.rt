@@ -1,5 +1,8 @@
 //! Why the replica of a process is not done.
 
+ghost use Rattle.std.specs.IoError.{error_kind};
+ghost use Rattle.nm_process.specs.Process.{IsFaultOf};
+
 use nm_base::Fault;
 use std::io::{self, ErrorKind};
 use thiserror::Error;
@@ -24,7 +27,9 @@ pub enum ProcessCause {
 pub type ProcessFault = Fault<ProcessCause>;
 
 /// What an error of the system is to a process.
-pub(crate) fn fault_of(error: io::Error) -> ProcessFault {
+pub(crate) fn fault_of(error: io::Error) -> ProcessFault
+    ensures { IsFaultOf (error_kind error) result }
+{
     if error.kind() == ErrorKind::OutOfMemory {
         ProcessFault::Memory
     } else {

@@ -3,7 +3,7 @@
 ghost use Rattle.std.specs.Prelude.{◌≡◌, ◌^◌, IfOk, IfSome};
 ghost use Rattle.std.specs.Arc.{arc_value};
 ghost use Rattle.nm_replica.specs.Finished.{IsFinished};
-ghost use Rattle.nm_process.specs.Process.{IsDoneReplica};
+ghost use Rattle.nm_process.specs.Process.{IsDoneReplica, unfinished_fault};
 ghost use Rattle.nm_shared.specs.Counted.{IsBlankOf};
 ghost use Rattle.nm_shared.specs.Home.{home_at, home_of};
 
@@ -157,7 +157,9 @@ fn serve_with<C: Counts, R: Net + Wait + Clock + Drop + Copy>(
 }
 
 /// Why a replica is not done whose serving came to this.
-fn cause_of(served: Served) -> ProcessFault {
+fn unfinished_fault(served: Served) -> ProcessFault
+    ensures { result ≡ unfinished_fault served }
+{
     match served {
         Served::Ended | Served::Stalled { .. } => ProcessFault::Refused(ProcessCause::Stalled),
         Served::Net => ProcessFault::Refused(ProcessCause::Net),
@@ -208,20 +210,20 @@ fn run_named<M: Naming + Send + Sync, E: Ledger + Send + Sync, R: Net + Wait + C
     let (pass, served) = serve_with(rt, alloc, process, &shared, pass)?;
     match close(alloc, shared, pass)? {
         Some(book) => Ok(ProcessEnd { book, served }),
-        None => Err(cause_of(served)),
+        None => Err(unfinished_fault(served)),
     }
 }
 
 /// Serves one replica of a partition over TCP until it is done and all its links have ended, or
-/// until nothing moved for so many polls of 50 ms in a row, or the network or memory fails. Its book
-/// knows all and did all of its events, however serving ended. It merges with nobody, and nothing is
-/// certified.
+/// until nothing moved for so many polls of 50 ms in a row, or the network or memory fails. Its
+/// book knows all and did all of its events, however serving ended. It merges with nobody, and
+/// nothing is certified.
 ///
 /// # Errors
 ///
 /// Of a replica that is not done: `Net` where it cannot listen at its address, a peer broke the
-/// rules or told what cannot be; `Stalled` where nothing moved for so long; `Memory` where memory was
-/// refused. The book is let go then.
+/// rules or told what cannot be; `Stalled` where nothing moved for so long; `Memory` where memory
+/// was refused. The book is let go then.
 pub fn run_process<R: Net + Wait + Clock + Drop + Copy>(
     rt: &R,
     alloc: Global,

@@ -12,7 +12,11 @@ use Rattle.nm_sim.specs.Totals.{totals_of}
 use Rattle.nm_book.specs.Book.{BookValue, state_of}
 use Rattle.nm_peers.specs.Listeners.{AreListeners}
 use Rattle.nm_peers.specs.declared.listener.Listener.{Listener}
+use Rattle.nm_base.specs.declared.fault.Fault.{Fault}
+use Rattle.nm_base.specs.declared.fault.Fault.TheVariants as fault
 use Rattle.nm_process.specs.Process.{IsDoneReplica}
+use Rattle.nm_process.specs.declared.fault.ProcessCause.{ProcessCause}
+use Rattle.nm_process.specs.declared.fault.ProcessCause.TheVariants as cause
 use Rattle.nm_replica.specs.declared.served.Served.{Served}
 use Rattle.nm_replica.specs.declared.served.Served.TheVariants as served
 use Rattle.nm_replica.specs.declared.served.Served.TheVariants.{Ended, Net}
@@ -68,6 +72,13 @@ late_status (served.Stalled polls) = Some Stalled
 late_status Net = Some File
 late_status (served.File iface written) = Some File
 late_status served.Memory = Some Memory
+
+-- the status of a replica that is not done
+abbrev pub process_status : Fault ProcessCause → Status
+process_status fault.Memory = Memory
+process_status (fault.Refused cause.Net) = File
+process_status (fault.Refused cause.Stalled) = Stalled
+process_status (fault.Refused cause.Broken) = File
 
 -- The lines are said of a replica that is done, all of whose links have ended, too. Nothing is,
 -- where serving it ended otherwise.

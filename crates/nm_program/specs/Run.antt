@@ -8,7 +8,11 @@ use Rattle.nm_sim.specs.Trace.{IsTraceBefore}
 use Rattle.nm_book.specs.Book.{BookValue}
 use Rattle.nm_rounds.specs.Certify.{AreCertified, cert_fault_number}
 use Rattle.nm_rounds.specs.declared.certify.CertFault.{CertFault}
+use Rattle.nm_base.specs.declared.fault.Fault.{Fault}
+use Rattle.nm_base.specs.declared.fault.Fault.TheVariants as fault
 use Rattle.nm_run.specs.Report.{IsNotCertified}
+use Rattle.nm_run.specs.declared.fault.RunCause.{RunCause}
+use Rattle.nm_run.specs.declared.fault.RunCause.TheVariants as cause
 use Rattle.nm_command.specs.declared.status.Status.{Status}
 use Rattle.nm_command.specs.declared.status.Status.TheVariants.{Done, File, Memory, NotCertified, Stalled}
 use Rattle.nm_files.specs.Outputs.{Files}
@@ -32,6 +36,15 @@ pub record SaysCertified (text octets : List ℕ) : Type 0 where
 abbrev pub HasFault : TopologyValue → ℕ → ℕ → Type 0
 HasFault network replicas n =
     (fault : CertFault) × IsNotCertified network replicas fault × (n ≡ cert_fault_number fault)
+
+-- the status of a run that has no report
+abbrev pub run_status : Fault RunCause → Status
+run_status fault.Memory = Memory
+run_status (fault.Refused (cause.File iface written)) = File
+run_status (fault.Refused cause.Net) = File
+run_status (fault.Refused (cause.NotCertified found)) = NotCertified (cert_fault_number found)
+run_status (fault.Refused (cause.Stalled polls)) = Stalled
+run_status (fault.Refused cause.Broken) = File
 
 -- how a run that was begun ends with no report; one that is not certified leaves what the names of
 -- its files had

@@ -12,6 +12,7 @@ ghost use Rattle.nm_offline.specs.Output.{SaysOfInputs, files_seen};
 ghost use Rattle.nm_program.specs.Node.{EndsNode, FailsNode, SaysServed, StopsNode, node_asked};
 ghost use Rattle.nm_program.specs.Surroundings.{surroundings};
 ghost use Rattle.nm_program.specs.Node.{late_status, own_files, own_line, own_lines};
+ghost use Rattle.nm_program.specs.Node.{process_status};
 ghost use Rattle.nm_command.specs.declared.status.Status.TheVariants.{Done, File, Memory, Stalled};
 ghost use Rattle.nm_files.specs.Outputs.{HasMade};
 ghost use Rattle.nm_topology.specs.PartValues.{IfaceValue};
@@ -120,6 +121,18 @@ fn write_book<F: Outputs>(
     )
 }
 
+/// What the fault of a replica is to the program.
+fn status_of(fault: ProcessFault) -> Status
+    ensures value { result ≡ process_status fault }
+    ensures kinds { (result ≡ File) ⊎ (result ≡ Memory) ⊎ (result ≡ Stalled) }
+{
+    match fault {
+        ProcessFault::Memory => Status::Memory,
+        ProcessFault::Refused(ProcessCause::Stalled) => Status::Stalled,
+        ProcessFault::Refused(ProcessCause::Net | ProcessCause::Broken) => Status::File,
+    }
+}
+
 /// What a replica came to that was served.
 fn end_of<R: Net + Wait + Clock + Drop + Copy>(
     means: &Means<'_, R>,
@@ -142,9 +155,10 @@ fn end_of<R: Net + Wait + Clock + Drop + Copy>(
     means.progress.begin(topology.stop());
     match run_process(means.rt, means.alloc, &process) {
         Ok(end) => Ok(end),
-        Err(ProcessFault::Memory) => Err(Status::Memory),
-        Err(ProcessFault::Refused(ProcessCause::Stalled)) => Err(Status::Stalled),
-        Err(ProcessFault::Refused(ProcessCause::Net | ProcessCause::Broken)) => Err(Status::File),
+        Err(fault) => {
+            means.note(matches!(&fault, ProcessFault::Refused(ProcessCause::Broken)));
+            Err(status_of(fault))
+        }
     }
 }
 

@@ -17,6 +17,7 @@ ghost use Rattle.nm_offline.specs.Input.{inputs_seen};
 ghost use Rattle.nm_offline.specs.Lines.{iface_line, iface_lines};
 ghost use Rattle.nm_offline.specs.Output.{SaysOfInput, files_seen};
 ghost use Rattle.nm_program.specs.Run.{EndsRun, FailsRun, SaysCertified, SaysRun, StopsRun};
+ghost use Rattle.nm_program.specs.Run.{run_status};
 ghost use Rattle.nm_program.specs.Surroundings.{surroundings};
 
 use crate::means::Means;
@@ -75,9 +76,15 @@ fn run_text(
     Ok(text)
 }
 
+/// Whether the program itself is at fault.
+fn is_own(fault: &RunFault) -> bool {
+    matches!(fault, RunFault::Refused(RunCause::Broken))
+}
+
 /// What the fault of a run is to the program.
 fn status_of(fault: RunFault) -> Status
-    ensures { (network : TopologyValue) (replicas : ℕ) (before after : Option Files)
+    ensures value { result ≡ run_status fault }
+    ensures stops { (network : TopologyValue) (replicas : ℕ) (before after : Option Files)
         → HasReason network replicas fault → (IsOfFiles fault ⊎ (after ≡ before))
         → StopsRun network replicas before after result }
 {
@@ -132,7 +139,10 @@ where
     means.progress.begin(network.stop());
     match run_all(means.rt, means.alloc, &plan, outputs, &OpenGate) {
         Ok(report) => Output::of(report_text(means.alloc, network, &report), Status::Done),
-        Err(fault) => Err(status_of(fault)),
+        Err(fault) => {
+            means.note(is_own(&fault));
+            Err(status_of(fault))
+        }
     }
 }
 

@@ -5,6 +5,9 @@ use nm_base::Sink;
 use nm_base::sink::write_all;
 use nm_command::Status;
 
+/// What is said where the program itself is at fault.
+const BROKEN: &str = "what cannot happen did: please report it, with the topology and the words\n";
+
 /// What helps with a fault.
 fn hint(status: Status) -> &'static str {
     match status {
@@ -17,11 +20,14 @@ fn hint(status: Status) -> &'static str {
     }
 }
 
-/// Says more of a fault: the file that failed and why, or what helps.
+/// Says more of a fault: that it is the program's own, the file that failed and why, or what helps.
 pub fn say_more<E: Sink>(status: Status, noted: &Noted, errors: &mut E) {
     let _ = write_all(errors, hint(status).as_bytes());
     if status != Status::File {
         return;
+    }
+    if noted.is_broken.get() {
+        let _ = write_all(errors, BROKEN.as_bytes());
     }
     if let Some(text) = noted.take_file() {
         let _ = write_all(errors, text.as_str().as_bytes());

@@ -96,6 +96,7 @@ fn over_system<N: Runtime, E: Sink>(
         rt: system,
         alloc: rt.alloc(),
         progress,
+        is_broken: &noted.is_broken,
     };
     let out = StdSink::new(writer);
     let (status, mut out) = run(&means, words, &mut inputs, &mut outputs, out, errors);

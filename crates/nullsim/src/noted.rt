@@ -4,9 +4,12 @@ use std::alloc::{AllocError, Global};
 use std::cell::Cell;
 use std::io::{self, ErrorKind, Write};
 
-/// The file that failed last and why, and whether standard output was closed at its other end.
+/// The file that failed last and why, whether standard output was closed at its other end, and
+/// whether the program itself is at fault.
 #[derive(Drop)]
 pub struct Noted {
+    /// What cannot happen did.
+    pub is_broken: Cell<bool>,
     file: Cell<Option<String>>,
     is_closed: Cell<bool>,
 }
@@ -20,6 +23,7 @@ impl Noted {
     /// Nothing.
     pub fn new() -> Self {
         Noted {
+            is_broken: Cell::new(false),
             file: Cell::new(None),
             is_closed: Cell::new(false),
         }

@@ -42,8 +42,8 @@ impl<'a> Inputs for SystemInputs<'a> {
 /// an interface each they take 15 MiB.
 const HELD_BACK_OCTETS: usize = 16_384;
 
-/// The files of the system that are made or replaced: each is written as a part, and renamed once it
-/// is whole. What they have is not told.
+/// The files of the system that are made or replaced: each is written as a part, and renamed once
+/// it is whole. What they have is not told.
 #[derive(Drop)]
 pub struct SystemOutputs<'a> {
     runtime: &'a HostRuntime,

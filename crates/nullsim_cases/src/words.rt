@@ -6,6 +6,7 @@ use nm_files::mem_outputs::MemFile;
 use nm_program::{Means, MemInputs, NamedInputs, Runtime, run};
 use nm_progress::Progress;
 use std::alloc::Global;
+use std::cell::Cell;
 use std::rt::Files;
 use std::{fs, io};
 
@@ -70,11 +71,12 @@ fn run_program<R: Runtime + AllocGlobal>(
         standard: given.standard,
         files: given.files,
     });
-    let progress = Progress::new();
+    let (progress, is_broken) = (Progress::new(), Cell::new(false));
     let means = Means {
         rt,
         alloc: rt.alloc(),
         progress: &progress,
+        is_broken: &is_broken,
     };
     let (status, out) = run(&means, words, &mut inputs, outputs, out, errors);
     (status.code(), out)

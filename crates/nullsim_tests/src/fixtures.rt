@@ -7,6 +7,7 @@ use nm_files::mem_outputs::MemFile;
 use nm_program::{Inputs, Means, NamedInputs, Runtime, run};
 use nm_progress::Progress;
 use std::alloc::{AllocError, Global};
+use std::cell::Cell;
 use std::io;
 
 /// The words of a line.
@@ -47,11 +48,12 @@ pub fn run_line<I: Inputs + Drop, R: AllocGlobal + Runtime>(
     };
     let out = MemSink::new(alloc, 1_000)?;
     let mut errors = MemSink::new(alloc, 64)?;
-    let progress = Progress::new();
+    let (progress, is_broken) = (Progress::new(), Cell::new(false));
     let means = Means {
         rt,
         alloc,
         progress: &progress,
+        is_broken: &is_broken,
     };
     let (status, out) = run(
         &means,
