@@ -6,8 +6,9 @@ ghost use Rattle.nm_command.specs.Command.{AsksWithinLimits, asked_number, comma
 ghost use Rattle.nm_command.specs.Command.{command_value, form_of, of_five, of_four, of_number};
 ghost use Rattle.nm_command.specs.Command.{of_six, of_three, of_two, shown_of};
 ghost use Rattle.nm_command.specs.Command.{series_of, timed_of, trace_from};
-ghost use Rattle.nm_base.specs.declared.limits.TheConstants.{MAX_PARTITION, MAX_REPLICA, MAX_SOURCE};
-ghost use Rattle.nm_base.specs.declared.limits.TheConstants.{MAX_REPLICAS, MAX_TIME, MAX_WORKERS};
+ghost use Rattle.nm_base.specs.declared.limits.TheConstants.{MAX_PARTITION, MAX_REPLICA};
+ghost use Rattle.nm_base.specs.declared.limits.TheConstants.{MAX_REPLICAS, MAX_SOURCE, MAX_TIME};
+ghost use Rattle.nm_base.specs.declared.limits.TheConstants.{MAX_WORKERS};
 
 use crate::arguments::{
     AllArguments, NodeArguments, PacketsArguments, PathArguments, RunArguments, SeriesArguments,

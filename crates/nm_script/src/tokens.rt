@@ -2,8 +2,8 @@
 
 ghost use Rattle.std.specs.Prelude.{◌≡◌};
 ghost use Rattle.std.specs.Str.{bytes_eq};
-ghost use Rattle.nm_script.specs.Tokens.{step_said, step_of_four, step_of_three, step_of_two, to_u8};
-ghost use Rattle.nm_script.specs.Tokens.{to_u32};
+ghost use Rattle.nm_script.specs.Tokens.{step_said, step_of_four, step_of_three, step_of_two};
+ghost use Rattle.nm_script.specs.Tokens.{to_u8, to_u32};
 
 use nm_base::{ChanNo, PartNo};
 use nm_rounds::WorldStep;
