@@ -30,6 +30,7 @@ help:
 	@echo 'make check-parts  tries links, files that were left and other processes where trace files are written'
 	@echo 'make check-frames compares the reader of frames with a model of its own over generated streams'
 	@echo 'make check-links breaks the connections of replicas at random octets, with ten thousand seeds, and certifies what they come to'
+	@echo 'make check-worlds tries replicas in a million worlds of several machines, each drawn from a seed'
 	@echo 'make check-network runs the tests of tools/network, which wants networkx, METIS and Graphviz (docs/FORMATS.md); a test passed over is no pass'
 	@echo 'make check-pcap  reads the traces of the examples with tshark, or else tcpdump, one of which it needs'
 	@echo 'make cut-connections cuts the connection of two nodes a thousand times, and compares their files with those of the one event list'
@@ -60,6 +61,9 @@ run: bin/nullsim
 
 bin/nm_bench: $(SOURCES) | toolchain
 	@tools/build nm_bench $@ $(JOBS)
+
+bin/nm_worlds: $(SOURCES) | toolchain
+	@tools/build nm_worlds $@ $(JOBS)
 
 bench: bin/nullsim bin/nm_bench
 	@python3 bench/one.py bin/nullsim bin/nm_bench line grid star line-1000 grid-1000 star-1000 ring-1000 mixed routes large many line=79365
@@ -130,6 +134,9 @@ check-links: bin/nm_bench
 check-network: bin/nullsim
 	@tools/check-network bin/nullsim
 
+check-worlds: bin/nm_worlds
+	@tools/check-worlds
+
 check-pcap: bin/nullsim
 	@tools/check-pcap bin/nullsim examples/*.toml
 
@@ -139,7 +146,7 @@ cut-connections: bin/nullsim
 demo: bin/nullsim
 	@tools/demo
 
-deep: bin/nullsim bin/nm_bench
+deep: bin/nullsim bin/nm_bench bin/nm_worlds
 	@tools/deep $(STEPS)
 
 test: toolchain

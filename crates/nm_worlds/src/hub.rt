@@ -1,0 +1,232 @@
+//! What joins the machines of a world: calls on their way, and the connections that were made.
+
+ghost use Rattle.std.specs.Prelude.{◌≡◌, IfOk, IfSome, Some};
+ghost use Rattle.nm_worlds.specs.Wires.{IsNew};
+
+use crate::flow::{Clock, Way, way};
+use crate::weather::{Fate, Weather};
+use crate::wire::WorldWire;
+use std::alloc::{AllocError, Global};
+use std::cell::RefCell;
+use std::collections::VecDeque;
+use std::rc::Rc;
+
+/// A call that arrives at this time.
+#[derive(Drop)]
+struct Call {
+    at: u64,
+    wire: WorldWire,
+    ghost is_new: { IsNew wire },
+}
+
+/// A connection between two machines: the way from the first to the second, and the way back.
+#[derive(Drop)]
+struct Pair {
+    machines: [usize; 2],
+    ways: [Way; 2],
+}
+
+/// A machine reads no more from this way, or a connection broke.
+fn cut(way: &Way) {
+    if let Ok(mut flow) = way.try_borrow_mut() {
+        flow.is_cut = true;
+    }
+}
+
+/// A machine writes no more on this way.
+fn end(way: &Way) {
+    if let Ok(mut flow) = way.try_borrow_mut() {
+        flow.is_over = true;
+    }
+}
+
+/// The network of a world.
+#[derive(Drop)]
+pub struct Hub {
+    alloc: Global,
+    clock: Clock,
+    pub weather: Weather,
+    /// The calls to each machine.
+    calls: Vec<VecDeque<Call>>,
+    /// Whether each machine is there.
+    are_there: Vec<bool>,
+    pairs: Vec<Pair>,
+}
+
+/// A network that all machines have.
+pub type Shared = Rc<RefCell<Hub>>;
+
+impl Hub {
+    /// So many machines, which are there and are not connected.
+    pub fn new(
+        alloc: Global,
+        clock: Clock,
+        weather: Weather,
+        machines: usize,
+    ) -> Result<Self, AllocError> {
+        let (mut calls, mut are_there) = (Vec::new(alloc), Vec::new(alloc));
+        for _ in 0..machines {
+            calls.push(VecDeque::new(alloc))?;
+            are_there.push(true)?;
+        }
+        Ok(Hub {
+            alloc,
+            clock,
+            weather,
+            calls,
+            are_there,
+            pairs: Vec::new(alloc),
+        })
+    }
+
+    /// Both ends of a connection from one machine to another, that takes so long and lives so long.
+    fn join(
+        &mut self,
+        from: usize,
+        to: usize,
+        peer: usize,
+        delay: u64,
+        lives: [usize; 2],
+    ) -> Result<(WorldWire, WorldWire), AllocError>
+        ensures caller { IfOk result (λ ends. IsNew ends.0 × (ends.0.peer ≡ Some peer)) }
+        ensures callee { IfOk result (λ ends. IsNew ends.1) }
+    {
+        let there = way(self.alloc, delay, lives[0])?;
+        let back = way(self.alloc, delay, lives[1])?;
+        let caller = WorldWire::new(
+            self.clock.clone()?,
+            back.clone()?,
+            there.clone()?,
+            Some(peer),
+        );
+        let callee = WorldWire::new(self.clock.clone()?, there.clone()?, back.clone()?, None);
+        self.pairs.push(Pair {
+            machines: [from, to],
+            ways: [there, back],
+        })?;
+        Ok((caller, callee))
+    }
+
+    /// A machine calls another, which is its peer of this number.
+    pub fn call(&mut self, from: usize, to: usize, peer: usize) -> Option<WorldWire>
+        ensures { IfSome result (λ w. IsNew w × (w.peer ≡ Some peer)) }
+    {
+        let now = self.clock.get();
+        if self.is_short(from) {
+            return None;
+        }
+        let is_there = *self.are_there.get(to)?;
+        let (delay, lives) = match self.weather.fate(now, is_there) {
+            Fate::Refused => return None,
+            Fate::Hangs => return self.hang(from, to, peer),
+            Fate::Cut => return self.refuse(from, to, peer),
+            Fate::Made { delay, lives } => (delay, lives),
+        };
+        let (caller, callee) = self.join(from, to, peer, delay, lives).ok()?;
+        let call = Call {
+            at: now.saturating_add(delay),
+            wire: callee,
+        };
+        self.calls.get_mut(to)?.push_back(call).ok()?;
+        Some(caller)
+    }
+
+    /// A call that nobody answers: what is written on it goes nowhere.
+    fn hang(&mut self, from: usize, to: usize, peer: usize) -> Option<WorldWire>
+        ensures { IfSome result (λ w. IsNew w × (w.peer ≡ Some peer)) }
+    {
+        let (caller, _callee) = self.join(from, to, peer, 0, [usize::MAX, usize::MAX]).ok()?;
+        Some(caller)
+    }
+
+    /// A call that somebody accepts and cuts.
+    fn refuse(&mut self, from: usize, to: usize, peer: usize) -> Option<WorldWire>
+        ensures { IfSome result (λ w. IsNew w × (w.peer ≡ Some peer)) }
+    {
+        let (caller, callee) = self.join(from, to, peer, 0, [usize::MAX, usize::MAX]).ok()?;
+        callee.close();
+        Some(caller)
+    }
+
+    /// Whether a machine stands still.
+    pub fn is_paused(&self, machine: usize) -> bool {
+        self.weather.pause.is_of(machine, self.clock.get())
+    }
+
+    /// Whether a machine has too little for one more connection.
+    pub fn is_short(&self, machine: usize) -> bool {
+        self.weather.shortage.is_of(machine, self.clock.get())
+    }
+
+    /// The next connection that somebody began to this machine, if it has arrived.
+    pub fn accept(&mut self, machine: usize) -> Option<WorldWire>
+        ensures { IfSome result IsNew }
+    {
+        if self.is_short(machine) {
+            return None;
+        }
+        let now = self.clock.get();
+        let calls = self.calls.get_mut(machine)?;
+        if calls.front()?.at > now {
+            return None;
+        }
+        let call = calls.pop_front()?;
+        Some(call.wire)
+    }
+
+    /// A machine vanishes. Its connections break, or nobody learns it; calls to it are lost.
+    pub fn lose(&mut self, machine: usize, is_silent: bool) {
+        if let Some(slot) = self.are_there.get_mut(machine) {
+            *slot = false;
+        }
+        if let Some(calls) = self.calls.get_mut(machine) {
+            calls.clear();
+        }
+        if is_silent {
+            return;
+        }
+        for pair in self.pairs.iter() {
+            if pair.machines.contains(&machine) {
+                cut(&pair.ways[0]);
+                cut(&pair.ways[1]);
+            }
+        }
+    }
+
+    /// A replica has ended, and the system closes its connections.
+    pub fn leave(&mut self, machine: usize) {
+        for pair in self.pairs.iter() {
+            let [there, back] = &pair.ways;
+            if pair.machines[0] == machine {
+                end(there);
+                cut(back);
+            }
+            if pair.machines[1] == machine {
+                end(back);
+                cut(there);
+            }
+        }
+    }
+
+    /// It is there again.
+    pub fn find(&mut self, machine: usize) {
+        if let Some(slot) = self.are_there.get_mut(machine) {
+            *slot = true;
+        }
+    }
+
+    /// What is written now arrives after the outage, if there is one.
+    pub fn hold(&mut self) {
+        if !self.weather.is_out(self.clock.get()) {
+            return;
+        }
+        for pair in self.pairs.iter() {
+            let until = self.weather.after_outage();
+            for way in pair.ways.iter() {
+                if let Ok(mut flow) = way.try_borrow_mut() {
+                    flow.hold(until);
+                }
+            }
+        }
+    }
+}

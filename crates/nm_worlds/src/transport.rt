@@ -1,0 +1,99 @@
+//! The transport of a machine of a world.
+
+ghost use Rattle.std.specs.Prelude.{◌≡◌, IfSome, Some};
+ghost use Rattle.nm_worlds.specs.Wires.{IsNew};
+
+use crate::hub::Shared;
+use crate::wire::WorldWire;
+use nm_base::failures::FailureCount;
+use nm_transport::limits::PERIOD_MILLISECONDS;
+use nm_transport::{Transport, Waited};
+
+/// The transport of a machine: the others that it calls, by the numbers of its peers.
+#[derive(Drop)]
+pub struct WorldTransport {
+    hub: Shared,
+    machine: usize,
+    peers: Vec<usize>,
+    /// Its time, in milliseconds, and when its period is over.
+    now: u64,
+    period_end: u64,
+    idle: FailureCount,
+}
+
+impl WorldTransport {
+    /// That of this machine.
+    pub fn new(hub: Shared, machine: usize, peers: Vec<usize>, now: u64) -> Self {
+        WorldTransport {
+            hub,
+            machine,
+            peers,
+            now,
+            period_end: now.saturating_add(PERIOD_MILLISECONDS),
+            idle: FailureCount::new(),
+        }
+    }
+
+    /// Time went on.
+    pub fn pass(&mut self, now: u64) {
+        self.now = now;
+    }
+
+    /// A connection that the network makes, or does not.
+    fn call(&self, peer: usize) -> Option<WorldWire>
+        ensures { IfSome result (λ w. IsNew w × (w.peer ≡ Some peer)) }
+    {
+        let to = *self.peers.get(peer)?;
+        let Ok(mut hub) = self.hub.try_borrow_mut() else {
+            return None;
+        };
+        hub.call(self.machine, to, peer)
+    }
+}
+
+impl Transport for WorldTransport {
+    type Connection = WorldWire;
+
+    ghost elapsed_periods = { λ n. n.idle };
+
+    ghost leads_to = { λ w. w.peer };
+
+    fn connect(&mut self, peer: usize) -> Option<WorldWire> {
+        self.call(peer)
+    }
+
+    fn accept(&mut self) -> Option<WorldWire> {
+        match self.hub.try_borrow_mut() {
+            Ok(mut hub) => hub.accept(self.machine),
+            Err(_) => None,
+        }
+    }
+
+    fn is_short(&self) -> bool {
+        match self.hub.try_borrow_mut() {
+            Ok(hub) => hub.is_short(self.machine),
+            Err(_) => false,
+        }
+    }
+
+    fn watch(&mut self, _connection: &mut WorldWire, _key: usize) -> bool {
+        true
+    }
+
+    fn unwatch(&mut self, connection: &mut WorldWire) {
+        connection.close();
+    }
+
+    fn wait(&mut self, _may_wait: bool) -> Waited {
+        if self.now < self.period_end {
+            return Waited::Ready;
+        }
+        self.period_end = self.now.saturating_add(PERIOD_MILLISECONDS);
+        self.idle.rise();
+        Waited::RanOut
+    }
+
+    fn report(&self, number: usize) -> Option<usize> {
+        Some(number)
+    }
+}
