@@ -1,11 +1,14 @@
 -- What a process comes to.
-use Rattle.std.specs.Prelude.{◌≡◌, ◌⊎◌, ℕ}
+use Rattle.std.specs.Prelude.{◌≡◌, ◌⊎◌, ℕ, ◌<◌, Bool, true, false}
 use Rattle.std.specs.declared.io.ErrorKind.{ErrorKind}
 use Rattle.std.specs.declared.io.ErrorKind.TheVariants.{OutOfMemory}
 use Rattle.nm_base.specs.declared.fault.Fault.{Fault}
 use Rattle.nm_base.specs.declared.fault.Fault.TheVariants.{Memory, Refused}
 use Rattle.nm_topology.specs.TopologyValue.{TopologyValue}
-use Rattle.nm_book.specs.Book.{BookValue}
+use Rattle.nm_book.specs.Book.{BookValue, replica_of}
+use Rattle.nm_model.specs.Certificate.{is_done}
+use Rattle.nm_shared.specs.Home.{Home, home_of}
+use Rattle.nm_sim.specs.Network.{net_of}
 use Rattle.nm_replica.specs.Finished.{IsFinished}
 use Rattle.nm_replica.specs.declared.served.Served.{Served}
 use Rattle.nm_replica.specs.declared.served.Served.TheVariants as served
@@ -28,6 +31,19 @@ unfinished_fault (served.Stalled polls) = Refused cause.Stalled
 unfinished_fault served.Net = Refused cause.Net
 unfinished_fault (served.File iface written) = Refused cause.Broken
 unfinished_fault served.Memory = Memory
+
+-- a replica is told that it is stalled
+abbrev pub is_stall : Fault ProcessCause → Bool
+is_stall Memory = false
+is_stall (Refused cause.Net) = false
+is_stall (Refused cause.Stalled) = true
+is_stall (Refused cause.Broken) = false
+
+-- a book of this replica has something left to do, or has handed records out
+abbrev pub IsUnfinished : Home → Type 0
+IsUnfinished home =
+    (b : BookValue) × (home_of b ≡ home)
+    × ((is_done (net_of b.topology) b.partition (replica_of b) ≡ false) ⊎ (0 < b.handed))
 
 -- what an error of the system of this kind is to a process: memory was refused, or else the network
 -- failed

@@ -1,7 +1,8 @@
 //! Why the replica of a process is not done.
 
 ghost use Rattle.std.specs.IoError.{error_kind};
-ghost use Rattle.nm_process.specs.Process.{IsFaultOf};
+ghost use Rattle.nm_process.specs.Process.{IsFaultOf, is_stall};
+ghost use Rattle.std.specs.Prelude.{◌≡◌, false};
 
 use nm_base::Fault;
 use std::io::{self, ErrorKind};
@@ -28,7 +29,8 @@ pub type ProcessFault = Fault<ProcessCause>;
 
 /// What an error of the system is to a process.
 pub(crate) fn fault_of(error: io::Error) -> ProcessFault
-    ensures { IsFaultOf (error_kind error) result }
+    ensures kind { IsFaultOf (error_kind error) result }
+    ensures stall { is_stall result ≡ false }
 {
     if error.kind() == ErrorKind::OutOfMemory {
         ProcessFault::Memory

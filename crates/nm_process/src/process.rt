@@ -1,9 +1,13 @@
 //! One replica over TCP, until it is done.
 
-ghost use Rattle.std.specs.Prelude.{◌≡◌, ◌^◌, IfOk, IfSome};
+ghost use Rattle.std.specs.Prelude.{◌≡◌, ◌^◌, IfErr, IfOk, IfSome, None, Some, [], false};
+ghost use Rattle.std.specs.Prelude.{true};
 ghost use Rattle.std.specs.Arc.{arc_value};
+ghost use Rattle.nm_peers.specs.Peers.{ArePeers, own_address};
+ghost use Rattle.nm_peers.specs.declared.peers.Peers.{Peers};
 ghost use Rattle.nm_replica.specs.Finished.{IsFinished};
-ghost use Rattle.nm_process.specs.Process.{IsDoneReplica, unfinished_fault};
+ghost use Rattle.nm_process.specs.Process.{IsDoneReplica, IsUnfinished, is_stall};
+ghost use Rattle.nm_process.specs.Process.{unfinished_fault};
 ghost use Rattle.nm_shared.specs.Counted.{IsBlankOf};
 ghost use Rattle.nm_shared.specs.Home.{home_at, home_of};
 
@@ -24,7 +28,7 @@ use nm_transport::TcpTransport;
 use std::alloc::Global;
 use std::io::{self, ErrorKind};
 use std::marker::Brand;
-use std::net::Net;
+use std::net::{Net, SocketAddr};
 use std::sync::ledger::{Blank, Ledger};
 use std::sync::{Arc, Wait};
 use std::time::Clock;
@@ -58,18 +62,60 @@ pub struct ProcessEnd {
     pub served: Served,
 }
 
-/// Listens at the process's own address, and calls its peers.
-fn open_transport<R: Net + Clock + Drop + Copy>(
+/// Listens at the address that the replica of a book has among these, and calls these peers.
+fn open_transport<C: Counts, R: Net + Clock + Drop + Copy>(
     rt: &R,
     alloc: Global,
     process: &Process<'_>,
+    book: &SharedBook<C>,
     peers: &Peers,
 ) -> io::Result<TcpTransport<R>> {
-    let own = own_address(process.listeners, process.partition, process.replica);
+    let own = own_address(process.listeners, book.partition, book.replica);
     let own = own.ok_or(ErrorKind::AddrNotAvailable)?;
+    listen_at(rt, alloc, process, book, own, peers)
+}
+
+/// Listens at this address, and calls these peers.
+fn listen_at<C: Counts, R: Net + Clock + Drop + Copy>(
+    rt: &R,
+    alloc: Global,
+    process: &Process<'_>,
+    book: &SharedBook<C>,
+    own: SocketAddr,
+    peers: &Peers,
+) -> io::Result<TcpTransport<R>>
+    requires { Some own ≡ own_address process.now.listeners.now book.now.partition
+        book.now.replica }
+{
     let listener = TcpListener::bind(rt, own)?;
     let addresses = peers.addresses.as_slice().to_vec(alloc)?;
     TcpTransport::new(*rt, alloc, Poll::new(rt)?, listener, addresses)
+}
+
+/// Serves a replica over this transport, which is shared with nobody else.
+fn serve_over<C: Counts, R: Net + Wait + Clock + Drop + Copy>(
+    rt: &R,
+    alloc: Global,
+    process: &Process<'_>,
+    service: &Service<'_, C>,
+    holdings: &mut Holdings<'_, C, MemSink>,
+    transport: &mut TcpTransport<R>,
+) -> Served
+    // It speaks with all neighbours that its book's replica has among the listeners.
+    requires topology { service.now.topology ≡ process.now.topology }
+    requires peers { (peers : Peers)
+        × ArePeers (arc_value process.now.topology.now) service.now.book.now.partition
+        process.now.listeners.now peers
+        × (service.now.peers.now ≡ peers.partitions.items)
+        × (service.now.callers.now ≡ peers.callers.items) }
+
+    // It is stalled after as many periods as the process says, merges with nobody, and its book
+    // keeps its records.
+    requires limits { (service.now.idle_limit ≡ process.now.idle_limit)
+        × (service.now.run_limit ≡ RUN_EVENTS) × (service.now.keeps_records ≡ true) }
+    requires alone { (service.now.books.now ≡ []) × (service.now.lending.now.has_pool ≡ false) }
+{
+    run_replica(rt, alloc, service, holdings, transport, &OpenGate)
 }
 
 /// Serves a replica that is shared with nobody else: what that came to, whether it is done or not.
@@ -83,24 +129,18 @@ fn serve<C: Counts, R: Net + Wait + Clock + Drop + Copy>(
     process: &Process<'_>,
     book: &SharedBook<C>,
     holdings: &mut Holdings<'_, C, MemSink>,
-) -> Result<Served, ProcessFault> {
-    let peers = peers_of(
-        alloc,
-        process.topology,
-        process.partition,
-        process.listeners,
-    )?;
-    let mut transport = open_transport(rt, alloc, process, &peers).map_err(fault_of)?;
+) -> Result<Served, ProcessFault>
+    ensures { IfErr result (λ f. is_stall f ≡ false) }
+{
+    let peers = peers_of(alloc, process.topology, book.partition, process.listeners)?;
+    let mut transport = open_transport(rt, alloc, process, book, &peers).map_err(fault_of)?;
     let lending = Lending::alone();
     let service = Service {
         topology: process.topology,
-        partition: process.partition,
-        replica: process.replica,
         book,
         peers: peers.partitions.as_slice(),
         callers: peers.callers.as_slice(),
         books: &[],
-        sister: None,
         idle_limit: process.idle_limit,
         run_limit: RUN_EVENTS,
         lending: &lending,
@@ -109,7 +149,7 @@ fn serve<C: Counts, R: Net + Wait + Clock + Drop + Copy>(
         // Files are made of them once it is done.
         keeps_records: true,
     };
-    Ok(run_replica(rt, alloc, &service, holdings, &mut transport, &OpenGate))
+    Ok(serve_over(rt, alloc, process, &service, holdings, &mut transport))
 }
 
 /// A shared book of a replica, which no other one is.
@@ -123,6 +163,7 @@ fn shared_of<M: Naming + Send + Sync, E: Ledger + Send + Sync>(
     requires events { IsBlankOf E.name E.parts events.name events.parts }
     requires home { M.home
         ≡ home_at (arc_value process.now.topology.now) process.now.partition process.now.replica }
+    ensures { IfErr result (λ f. is_stall f ≡ false) }
 {
     let topology = Arc::try_clone(process.topology)?;
     let (counts, whole) = Ledgers::<M, E>::open(messages, events);
@@ -141,9 +182,11 @@ fn serve_with<C: Counts, R: Net + Wait + Clock + Drop + Copy>(
     process: &Process<'_>,
     book: &SharedBook<C>,
     pass: Pass<C>,
-) -> Result<(Pass<C>, Served), ProcessFault> {
+) -> Result<(Pass<C>, Served), ProcessFault>
+    ensures { IfErr result (λ f. is_stall f ≡ false) }
+{
     let (board, owners, _) = ClockBoard::new(alloc, process.topology)?;
-    let (partition, replica) = (process.partition, process.replica);
+    let (partition, replica) = (book.partition, book.replica);
     let seats = OwnSeats::of_replica(alloc, process.topology, &board, partition, replica, owners)?;
     let mut holdings = Holdings {
         pass,
@@ -176,8 +219,10 @@ fn close<M: Naming + Send + Sync, E: Ledger + Send + Sync>(
     pass: Pass<Ledgers<M, E>>,
 ) -> Result<Option<Book>, ProcessFault>
     requires { (M.parts ≡ 2 ^ 32) × (E.parts ≡ 2 ^ 32) }
-    ensures { IfOk result (λ closed. IfSome closed
+    ensures done { IfOk result (λ closed. IfSome closed
         (λ b. (home_of b ≡ M.home) × IsFinished b × (b.handed ≡ 0))) }
+    ensures left { IfOk result (λ closed. closed ≡ None → IsUnfinished M.home) }
+    ensures fault { IfErr result (λ f. is_stall f ≡ false) }
 {
     let mut passes = Vec::new(alloc);
     passes.push(pass)?;
@@ -202,8 +247,11 @@ fn run_named<M: Naming + Send + Sync, E: Ledger + Send + Sync, R: Net + Wait + C
     requires events { IsBlankOf E.name E.parts events.name events.parts }
     requires home { M.home
         ≡ home_at (arc_value process.now.topology.now) process.now.partition process.now.replica }
-    ensures { IfOk result (λ end. IsDoneReplica (arc_value process.now.topology.now)
+    ensures done { IfOk result (λ end. IsDoneReplica (arc_value process.now.topology.now)
         process.now.partition process.now.replica end.book) }
+    ensures stalled { IfErr result (λ f. is_stall f ≡ true
+        → IsUnfinished (home_at (arc_value process.now.topology.now) process.now.partition
+        process.now.replica)) }
 {
     let shared = shared_of::<M, E>(alloc, process, messages, events)?;
     let pass = shared.pass(rt)?;
@@ -223,14 +271,17 @@ fn run_named<M: Naming + Send + Sync, E: Ledger + Send + Sync, R: Net + Wait + C
 ///
 /// Of a replica that is not done: `Net` where it cannot listen at its address, a peer broke the
 /// rules or told what cannot be; `Stalled` where nothing moved for so long; `Memory` where memory
-/// was refused. The book is let go then.
+/// was refused. The book is let go then. Who is told `Stalled` was not done.
 pub fn run_process<R: Net + Wait + Clock + Drop + Copy>(
     rt: &R,
     alloc: Global,
     process: &Process<'_>,
 ) -> Result<ProcessEnd, ProcessFault>
-    ensures { IfOk result (λ end. IsDoneReplica (arc_value process.now.topology.now)
+    ensures done { IfOk result (λ end. IsDoneReplica (arc_value process.now.topology.now)
         process.now.partition process.now.replica end.book) }
+    ensures stalled { IfErr result (λ f. is_stall f ≡ true
+        → IsUnfinished (home_at (arc_value process.now.topology.now) process.now.partition
+        process.now.replica)) }
 {
     run_named::<Brand, Brand, R>(rt, alloc, process, Blank::new(PARTS), Blank::new(PARTS))
 }

@@ -1,10 +1,11 @@
 -- Peers that are called one after another, and connections that are let go so.
-use Rattle.std.proofs.Common.{◌≡◌, ◌≢◌, ℕ, suc, ◌+◌, ◌<◌, ◌≤◌, ◌&&◌, Bool, true, false, length, Option, None, refl, ◌∙◌, ap, arith, below_more, ⊎_elim, inl, inr}
+use Rattle.std.proofs.Common.{◌≡◌, ◌≢◌, ℕ, suc, ◌+◌, ◌<◌, ◌≤◌, ◌&&◌, Bool, true, false, length, List, Option, None, refl, ◌∙◌, ap, arith, below_more, ⊎_elim, inl, inr}
 use Rattle.std.specs.Prelude.{nat_lt, slice_index_or}
 use Rattle.std.proofs.lemmas.Bool.{cases_lt}
 use Rattle.std.proofs.lemmas.Bool.Decides.{nat_tests}
 use Rattle.std.proofs.lemmas.List.{get_or_past}
 use Rattle.slab.specs.Slab.{Slab}
+use Rattle.nm_frames.specs.Session.{SessionValue}
 use Rattle.nm_policy.specs.Contact.{is_stale}
 use Rattle.nm_policy.specs.Contacts.{ContactsValue, contact_at, is_slot}
 use Rattle.nm_policy.specs.Decisions.{is_due_at}
@@ -20,7 +21,8 @@ NoneWanted s n = (peer : ℕ) → peer < n → is_due_at s.peers peer ≡ false
 pub one_over : (s : ContactsValue) (n : ℕ) → is_due_at s.peers n ≡ false → NoneWanted s n → NoneWanted s (n + 1)
 one_over s n free before peer low = below_more (λ p. is_due_at s.peers p ≡ false) n before free peer low
 
-module _ {W : Type 0} (leads_to : W → Option ℕ) (n : ℕ) (old new : ContactsValue) (slab : Slab (Connection W)) (did : Dials leads_to n old new slab) where
+module _ {W : Type 0} (leads_to : W → Option ℕ) (sessions : List (Option SessionValue)) (n : ℕ) (old new : ContactsValue) (slab : Slab (Connection W))
+    (did : Dials leads_to sessions n old new slab) where
   pub one_dialed : NoneWanted old n → NoneWanted new (n + 1)
   one_dialed before peer low =
       below_more (λ p. is_due_at new.peers p ≡ false) n

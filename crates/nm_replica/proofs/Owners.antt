@@ -1,5 +1,6 @@
 -- Seats that own words of a board.
-use Rattle.std.proofs.Common.{◌≡◌, ℕ, zero, suc, List, [], ◌∷◌, ◌++◌, All, refl, sym, subst, arith}
+use Rattle.std.proofs.Common.{◌≡◌, ℕ, zero, suc, ◌+◌, ◌<◌, List, [], ◌∷◌, ◌++◌, All, length, slice_set, take, refl, sym, subst, arith}
+use Rattle.std.proofs.lemmas.List.{take_more_set}
 use Rattle.std.proofs.lemmas.List.Elements.{All-cons, All-nil, All-push, All-rest}
 use Rattle.nm_shared.specs.declared.board.ClockBoard.{ClockBoard}
 use Rattle.nm_shared.specs.declared.board.OwnerSeat.{OwnerSeat}
@@ -23,3 +24,8 @@ moves_one P own mine rest left x first last all more =
 
 pub lets_one : {A : Type 0} (P : A → Type 0) (rest left : List A) (x : A) → rest ≡ x ∷ left → All P rest → All P left
 lets_one P rest left x first more = All-rest P x left rest first more
+
+-- one seat more is told
+pub one_told : (P : OwnerSeat → Type 0) (seats : List OwnerSeat) (n : ℕ) (seat : OwnerSeat) → n < length seats → All P (take n seats) → P seat
+    → All P (take (n + 1) (slice_set seats n seat))
+one_told P seats n seat low before is = subst (All P) (sym (take_more_set seats n seat low)) (All-push P (take n seats) seat before is)

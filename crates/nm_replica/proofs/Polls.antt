@@ -1,12 +1,12 @@
 -- What polls come to, and why serving ends by them.
-use Rattle.std.proofs.Common.{◌≡◌, ◌≤◌, ◌+◌, inl, ℕ, Bool, true, false, if◌then◌else◌, Some, None, refl, subst, arith}
+use Rattle.std.proofs.Common.{◌≡◌, ◌≤◌, ◌+◌, inl, ℕ, Bool, true, false, if◌then◌else◌, Option, Some, None, refl, subst, arith}
 use Rattle.std.proofs.lemmas.Bool.Decides.{nat_tests}
 use Rattle.std.specs.Prelude.{nat_le}
 use Rattle.nm_base.specs.Count.{saturated}
 use Rattle.nm_shared.specs.Home.{Home}
 use Rattle.nm_replica.specs.Polls.{ending_of, idle_after}
 use Rattle.nm_transport.specs.Transport.{elapsed_after}
-use Rattle.nm_replica.specs.Served.{EndsWith, WasFinished}
+use Rattle.nm_replica.specs.Served.{EndsWith, PolledOnce, WasFinished}
 use Rattle.nm_replica.specs.declared.served.Served.{Served}
 use Rattle.nm_replica.specs.declared.served.Served.TheVariants.{Ended, Stalled}
 
@@ -32,6 +32,12 @@ ends_after exact own keeps limit before after idle polls false served finished i
         let same : Stalled polls ≡ served = cc in
         subst (EndsWith exact own keeps limit (before, after)) same (inl (omega (arith, few, idles)))
     by_test false is f = let none : None ≡ Some served = f in absurd cc
+
+-- one poll, from what it came to
+pub polled_once : (finished : Type 0) (limit polls idle idle' before after : ℕ) (end : Option Served) (was_active ran_out is_done : Bool)
+    → idle' ≡ idle_after idle was_active ran_out → after ≡ elapsed_after before ran_out → end ≡ ending_of is_done idle' limit polls
+    → (is_done ≡ true → finished) → PolledOnce finished limit polls (idle, idle') (before, after) end
+polled_once finished limit polls idle idle' before after end was_active ran_out is_done a b c d = (was_active, ran_out, is_done, a, b, c, d)
 
 -- what moved in two rounds of turns
 pub saturated_twice : (m h s : ℕ) → saturated (saturated (m + h) + s) ≡ saturated (m + saturated (h + s))

@@ -1,5 +1,5 @@
 -- Records that a replica hands out, and the trace files to which they go.
-use Rattle.std.proofs.Common.{◌≡◌, ℕ, ◌+◌, ◌≤◌, Bool, true, All, List, [], ◌∷◌, ◌++◌, flat_map, length, take, drop, slice_get, Option, Some, is_some, if◌then◌else◌, length-drop, refl, sym, ◌∙◌, ap, subst, arith, append-nil}
+use Rattle.std.proofs.Common.{◌≡◌, inl, inr, ℕ, ◌+◌, ◌≤◌, Bool, true, All, List, [], ◌∷◌, ◌++◌, flat_map, length, take, drop, slice_get, Option, Some, is_some, Result, Ok, Err, IfErr, if◌then◌else◌, length-drop, refl, sym, ◌∙◌, ap, subst, arith, append-nil}
 use Rattle.std.proofs.lemmas.Grind.{flat_map-append}
 use Rattle.std.proofs.lemmas.List.{append_assoc, get_or-drop, length-append}
 use Rattle.std.proofs.lemmas.List.Elements.{All-append, All-cons, All-drop, All-take}
@@ -13,7 +13,9 @@ use Rattle.nm_files.proofs.Files.{more_records, no_records}
 use Rattle.nm_files.proofs.Records.{one_more}
 use Rattle.nm_book.specs.Book.{BookValue, state_of}
 use Rattle.nm_shared.specs.Home.{Home, home_of}
-use Rattle.nm_replica.specs.Recording.{AreHandedOut, HandsOut, Streams, TakesOut, Wrote, WroteAsCounted, out_of}
+use Rattle.nm_files.specs.Files.{FailedAt}
+use Rattle.nm_files.specs.declared.trace_files.FileFault.{FileFault}
+use Rattle.nm_replica.specs.Recording.{AreHandedOut, HandsOut, Streamed, Streams, TakesOut, Wrote, WroteAsCounted, out_of}
 
 pub none_out : (b : BookValue) (room : List (Record (List ℕ))) → TakesOut b room b room
 none_out b room =
@@ -113,3 +115,24 @@ module _ (exact : Bool) (own : Home) where
             took = more_records seen a.records b.records old mid new a.took b.took;
           },
         )
+
+    -- all that was handed out is the most that there may be
+    pub streamed_all : (old new : List (Option (Writer S))) → Streams seen exact own old new → Streamed seen exact own old new
+    streamed_all old new all = (new, all, inl refl)
+
+    pub streamed_none : (files : List (Option (Writer S))) → Streamed seen exact own files files
+    streamed_none files = streamed_all files files (streams_none files)
+
+    -- a file failed at the first hand-out
+    pub streamed_failed : (old new : List (Option (Writer S))) (records : List (Record (List ℕ))) (fault : FileFault) → AreHandedOut exact own records
+        → FailedAt seen records old new fault → Streamed seen exact own old new
+    streamed_failed old new records fault handed failed = (old, streams_none old, inr (records, fault, handed, failed))
+
+    pub streamed_more : (old mid new : List (Option (Writer S))) → Streams seen exact own old mid → Streamed seen exact own mid new
+        → Streamed seen exact own old new
+    streamed_more old mid new v w = (w.0, streams_more old mid w.0 v w.1, w.2)
+
+-- what holds anyway holds where there is an error
+pub on_error : {V E : Type 0} {K : Type 0} (r : Result V E) → K → IfErr r (λ _. K)
+on_error (Ok v) k = tt
+on_error (Err e) k = k

@@ -1,6 +1,7 @@
 -- What connections are told of by events, and which of them are begun and let go.
-use Rattle.std.specs.Prelude.{◌≡◌, ◌⊎◌, ℕ, suc, zero, Bool, true, false, List, slice_set, Option, Some, None, IsSomeAnd}
+use Rattle.std.specs.Prelude.{◌≡◌, ◌⊎◌, ℕ, suc, zero, Bool, true, false, List, slice_index_or, slice_set, Option, Some, None, IsSomeAnd}
 use Rattle.slab.specs.Slab.{Slab, get}
+use Rattle.nm_engine.specs.Acceptor.{AcceptorValue}
 use Rattle.nm_engine.specs.Link.{greeted_by}
 use Rattle.nm_engine.specs.declared.answer.Turn.{Turn}
 use Rattle.nm_engine.specs.declared.answer.Turn.TheVariants as turn
@@ -8,10 +9,10 @@ use Rattle.nm_frames.specs.Session.{SessionValue, broken}
 use Rattle.nm_frames.specs.declared.replica_name.ReplicaName.{ReplicaName}
 use Rattle.nm_policy.specs.Contact.{is_stale}
 use Rattle.nm_policy.specs.Contacts.{ContactsValue, after, contact_at, is_slot}
-use Rattle.nm_policy.specs.Decisions.{IsFirstStranger, IsToDrop}
+use Rattle.nm_policy.specs.Decisions.{IsFirstStranger, IsToDrop, is_due_at}
 use Rattle.nm_policy.specs.Laws.{MayCome}
 use Rattle.nm_policy.specs.declared.contact.Contact.{Contact}
-use Rattle.nm_policy.specs.declared.contact_event.ContactEvent.TheVariants.{Called, NotCalled, Accepted, Heard, Greeted, Ended, Broke}
+use Rattle.nm_policy.specs.declared.contact_event.ContactEvent.TheVariants.{Called, NotCalled, Accepted, Heard, Greeted, Ended, Broke, Polled}
 use Rattle.nm_replica.specs.declared.connection.Connection.{Connection}
 
 -- a connection is let go, at whose other side somebody was or nobody
@@ -31,14 +32,15 @@ LetsStaleGo old new =
     ((n : ℕ) × LetGoStale n old new)
     × ((key : ℕ) → is_slot is_stale (contact_at new.connections key) ≡ false)
 
--- A peer is called: by a connection that leads to it, under a key that is free; or no connection
--- could be begun.
-abbrev pub Dials : {W : Type 0} → (leads_to : W → Option ℕ) → (peer : ℕ)
-    → (old new : ContactsValue) → Slab (Connection W) → Type 0
-Dials leads_to peer old new slab =
+-- A peer is called: by a connection that leads to it and has its session, under a key that is
+-- free; or no connection could be begun.
+abbrev pub Dials : {W : Type 0} → (leads_to : W → Option ℕ) → List (Option SessionValue)
+    → (peer : ℕ) → (old new : ContactsValue) → Slab (Connection W) → Type 0
+Dials leads_to sessions peer old new slab =
     (new ≡ after old (NotCalled peer))
     ⊎ ((key : ℕ) × MayCome old (Called key peer) × (new ≡ after old (Called key peer))
-    × IsSomeAnd (get slab key) (λ c. leads_to c.link.wire ≡ Some peer))
+    × IsSomeAnd (get slab key) (λ c. (leads_to c.link.wire.wire ≡ Some peer)
+    × (c.link.session ≡ slice_index_or sessions peer None)))
 
 -- the stranger that came first is let go, if there is one
 abbrev pub DropsFirst : Option ℕ → (old new : ContactsValue) → Type 0
@@ -59,12 +61,35 @@ Keeps old new =
     (new ≡ old)
     ⊎ ((key : ℕ) × MayCome old (Accepted key) × (new ≡ after old (Accepted key)))
 
+-- one that is kept takes sessions for this replica
+abbrev pub Awaits : {W : Type 0} → AcceptorValue → (old new : ContactsValue)
+    → Slab (Connection W) → Type 0
+Awaits me old new slab =
+    (new ≡ old)
+    ⊎ ((key : ℕ) × (new ≡ after old (Accepted key))
+    × IsSomeAnd (get slab key) (λ c. c.link.acceptor ≡ Some me))
+
 -- so many connections that others began are kept or not, each once there is room for it
 abbrev pub Admits : ℕ → (old new : ContactsValue) → Type 0
 Admits zero old new = new ≡ old
 Admits (suc n) old new =
     (mid : ContactsValue) × Admits n old mid
     × ((roomy : ContactsValue) × MakesRoom mid roomy × Keeps roomy new)
+
+-- the stranger that came first is let go, or nobody
+abbrev pub DropsSome : (old new : ContactsValue) → Type 0
+DropsSome old new = (new ≡ old) ⊎ DropsStranger old new
+
+-- One wait: nobody was left to be called before it; then a poll is noted, at which a period was
+-- over or not, and those go that are stale; then others are admitted; and at last a stranger may be
+-- let go, where the system has too little.
+abbrev pub WaitsOnce : (ran_out : Bool) → ContactsValue → Type 0
+WaitsOnce ran_out new =
+    (before : ContactsValue) × (passed : ContactsValue) × (admitted : ContactsValue)
+    × ((peer : ℕ) → is_due_at before.peers peer ≡ false)
+    × LetsStaleGo (after before (Polled ran_out)) passed
+    × ((n : ℕ) × Admits n passed admitted)
+    × DropsSome admitted new
 
 -- which replica the peer of a connection is is known, once its Hello has come
 abbrev pub learned_name : ℕ → Option ReplicaName → ContactsValue → ContactsValue

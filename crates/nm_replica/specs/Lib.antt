@@ -1,6 +1,8 @@
 pub mod Breaks
 pub mod Connections
+pub mod CountedWire
 pub mod Finished
+pub mod Moved
 pub mod Polls
 pub mod Recording
 pub mod Seats

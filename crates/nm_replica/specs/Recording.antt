@@ -1,11 +1,12 @@
 -- Records that a replica hands out, and the trace files to which they go.
-use Rattle.std.specs.Prelude.{◌≡◌, ℕ, ◌+◌, ◌≤◌, Bool, true, All, List, ◌++◌, drop, flat_map, length, take, Option}
+use Rattle.std.specs.Prelude.{◌≡◌, ◌⊎◌, ℕ, ◌+◌, ◌≤◌, Bool, true, All, List, ◌++◌, drop, flat_map, length, take, Option}
 use Rattle.nm_base.specs.Count.{saturated}
 use Rattle.nm_base.specs.Sink.{SinkSeen}
 use Rattle.nm_base.specs.declared.limits.TheConstants.{MAX_TIME}
 use Rattle.nm_base.specs.declared.record.Record.{Record}
 use Rattle.nm_pcap.specs.Writer.{Writer}
-use Rattle.nm_files.specs.Files.{FilesTook}
+use Rattle.nm_files.specs.Files.{FailedAt, FilesTook}
+use Rattle.nm_files.specs.declared.trace_files.FileFault.{FileFault}
 use Rattle.nm_book.specs.Book.{BookValue, state_of}
 use Rattle.nm_shared.specs.Home.{Home, home_of}
 
@@ -52,3 +53,18 @@ abbrev pub WroteAsCounted : {S : Type 0} → (S → SinkSeen) → Bool → Home 
     → List (Option (Writer S)) → List (Option (Writer S)) → Type 0
 WroteAsCounted seen exact own written old new =
     (n : ℕ) × (written ≡ saturated n) × Wrote seen exact own n old new
+
+-- a file failed at one of some records that were handed out, once those before it were taken
+abbrev pub FailedStream : {S : Type 0} → (S → SinkSeen) → Bool → Home
+    → List (Option (Writer S)) → List (Option (Writer S)) → Type 0
+FailedStream seen exact own old new =
+    (records : List (Record (List ℕ))) × (fault : FileFault) × AreHandedOut exact own records
+    × FailedAt seen records old new fault
+
+-- However serving ended, the files took the parts of what was handed out, each those at its own
+-- interface, or those before a record at which one of them failed.
+abbrev pub Streamed : {S : Type 0} → (S → SinkSeen) → Bool → Home
+    → List (Option (Writer S)) → List (Option (Writer S)) → Type 0
+Streamed {S} seen exact own old new =
+    (mid : List (Option (Writer S))) × Streams seen exact own old mid
+    × ((new ≡ mid) ⊎ FailedStream seen exact own mid new)

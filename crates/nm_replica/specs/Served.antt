@@ -1,5 +1,5 @@
 -- How the serving of a replica ends.
-use Rattle.std.specs.Prelude.{◌≡◌, ◌⊎◌, ℕ, ◌+◌, ◌≤◌, ◌<◌, ◌==◌, ◌&&◌, Bool, true, false, List, length, slice_index_or, Option, Some, None, if◌then◌else◌}
+use Rattle.std.specs.Prelude.{◌≡◌, ◌⊎◌, ℕ, ◌+◌, ◌≤◌, ◌<◌, ◌==◌, ◌&&◌, Bool, true, false, List, length, slice_index_or, Option, Some, None, not, if◌then◌else◌}
 use Rattle.nm_engine.specs.declared.answer.Cause.{Cause}
 use Rattle.nm_engine.specs.declared.answer.Cause.TheVariants as cause
 use Rattle.nm_base.specs.declared.fault.Fault.{Fault}
@@ -9,10 +9,12 @@ use Rattle.nm_book.specs.Book.{BookValue, replica_of, state_of}
 use Rattle.nm_model.specs.Certificate.{is_done}
 use Rattle.nm_shared.specs.Home.{Home, home_of}
 use Rattle.nm_sim.specs.Network.{net_of}
+use Rattle.nm_transport.specs.Transport.{elapsed_after}
 use Rattle.nm_replica.specs.declared.acts.Standing.{Standing}
 use Rattle.nm_replica.specs.declared.served.Served.{Served}
 use Rattle.nm_replica.specs.declared.served.Served.TheVariants.{Ended, Net, Memory, File, Stalled}
 use Rattle.nm_replica.specs.Finished.{IsFinished}
+use Rattle.nm_replica.specs.Polls.{ending_of, idle_after}
 use Rattle.nm_replica.specs.declared.limits.TheConstants.{MAX_POLLS}
 
 -- how serving ends because a link broke: not, where its wire did, or where who said no Hello spoke
@@ -50,6 +52,11 @@ WasFinished exact own keeps =
     (b : BookValue) × (exact ≡ true → home_of b ≡ own) × IsFinished b
     × (keeps ≡ false → b.handed ≡ length (state_of b).records)
 
+-- whether the second of these replicas, each by its partition and its number in that, is the sister
+-- of the first: the other one of its partition
+abbrev pub is_sister_of : ℕ × ℕ → ℕ × ℕ → Bool
+is_sister_of own other = (other.0 == own.0) && not (other.1 == own.1)
+
 -- Of each of so many replicas a book was seen to be done. It had done no fewer events than the
 -- replica's pass has counted, if the counts are exact.
 abbrev pub WereFinished : (exact : Bool) → (replicas : ℕ) → (counted : List ℕ) → Type 0
@@ -75,6 +82,17 @@ EndsWith exact own keeps limit waits Memory = Unit {0}
 EndsWith exact own keeps limit waits (File iface written) = Unit {0}
 EndsWith exact own keeps limit waits (Stalled polls) =
     (waits.0 + limit ≤ waits.1) ⊎ (MAX_POLLS ≤ polls)
+
+-- What one poll comes to, the last of so many: it was active or not, a period was over or not, and
+-- the replica was found done or not. Idle periods and waits that ran out, as before and after it,
+-- and whether serving ends, follow from these three.
+abbrev pub PolledOnce : (finished : Type 0) → (limit polls : ℕ) → (idle waits : ℕ × ℕ) → Option Served → Type 0
+PolledOnce finished limit polls idle waits end =
+    (was_active : Bool) × (ran_out : Bool) × (is_done : Bool)
+    × (idle.1 ≡ idle_after idle.0 was_active ran_out)
+    × (waits.1 ≡ elapsed_after waits.0 ran_out)
+    × (end ≡ ending_of is_done idle.1 limit polls)
+    × (is_done ≡ true → finished)
 
 -- how serving ends where it is interrupted: the network failed, or memory was refused
 abbrev pub IsInterrupted : Served → Type 0

@@ -1,19 +1,30 @@
 //! One connection of a replica.
 
-ghost use Rattle.std.specs.Prelude.{◌≡◌, false};
+ghost use Rattle.std.specs.Prelude.{◌&&◌, ◌-◌, ◌≡◌, if◌then◌else◌, nat_lt};
 ghost use Rattle.nm_engine.specs.Link.{has_greeted};
+ghost use Rattle.nm_replica.specs.Moved.{moved_on};
 
 use crate::given_before::GivenBefore;
 use crate::moved::CountingWire;
 use nm_engine::{GivenCounts, Link};
 use nm_frames::Session;
 
+/// How many octets moved on a connection whose peer greeted, and how many of them count as
+/// activity.
+#[derive(Clone, Copy)]
+pub(crate) struct MovedCounts {
+    pub all: u64,
+    pub counted: u64,
+}
+
 /// A link, and what of it has been counted.
 #[derive(Drop)]
 pub(crate) struct Connection<W> {
     pub link: Link<CountingWire<W>>,
-    /// How many octets had moved, and come, when they were counted last.
+    /// How many octets had moved when the gate was told last, and when activity was counted last.
+    told: u64,
     counted: u64,
+    /// How many octets had come when that was looked at last.
     heard: u64,
     /// What its link had given when that was counted last.
     given: GivenCounts,
@@ -26,31 +37,42 @@ impl<W> Connection<W> {
     {
         Connection {
             link,
+            told: 0,
             counted: 0,
             heard: 0,
             given: GivenCounts::NONE,
         }
     }
 
-    /// How many octets moved since they were counted last, where those of this connection count.
-    /// Before the peer's Hello has come none count: they may be a stranger's. What does not count
-    /// never will.
-    pub(crate) fn count_moved(&mut self, counts: bool) -> u64
-        ensures strangers { has_greeted self.old.link.session ≡ false → result ≡ 0 }
-        ensures ended { counts ≡ false → result ≡ 0 }
+    /// How many octets moved since they were counted last. Before the peer's Hello has come they
+    /// may be a stranger's: none is told, and none counts. Those are told when it has come, and
+    /// never count, as what moves while octets of this connection do not count.
+    pub(crate) fn count_moved(&mut self, counts: bool) -> MovedCounts
+        ensures all { result.all ≡ (if has_greeted self.old.link.session
+            then moved_on self.old.link.wire - self.old.told else 0) }
+        ensures counted { result.counted ≡ (if has_greeted self.old.link.session && counts
+            then moved_on self.old.link.wire - self.old.counted else 0) }
+        ensures noted { (self.new.counted ≡ moved_on self.old.link.wire)
+            × (self.new.told ≡ (if has_greeted self.old.link.session
+            then moved_on self.old.link.wire else self.old.told)) }
     {
-        let all = self.link.wire().moved();
-        let more = all.saturating_sub(self.counted);
-        self.counted = all;
-        if self.link.has_greeted() && counts {
-            more
-        } else {
-            0
+        let moved = self.link.wire().moved();
+        let since = moved.saturating_sub(self.counted);
+        self.counted = moved;
+        if !self.link.has_greeted() {
+            return MovedCounts { all: 0, counted: 0 };
         }
+        let all = moved.saturating_sub(self.told);
+        self.told = moved;
+        let counted = if counts { since } else { 0 };
+        MovedCounts { all, counted }
     }
 
     /// Whether octets have come since it was asked last.
-    pub(crate) fn has_heard(&mut self) -> bool {
+    pub(crate) fn has_heard(&mut self) -> bool
+        ensures value { result ≡ nat_lt self.old.heard self.old.link.wire.came }
+        ensures noted { self.new.heard ≡ self.old.link.wire.came }
+    {
         let all = self.link.wire().came();
         let is_more = all > self.heard;
         self.heard = all;
@@ -79,7 +101,8 @@ impl<W> Connection<W> {
 
     /// Takes it apart: its wire, its session, if it has one, and whether octets were written on it.
     pub(crate) fn into_parts(self) -> (W, Option<Session>, bool)
-        ensures { result.1 ≡ self.link.session }
+        ensures { (result.0 ≡ self.link.wire.wire) × (result.1 ≡ self.link.session)
+            × (result.2 ≡ nat_lt 0 self.link.wire.written) }
     {
         let (wire, session) = self.link.back();
         let has_written = wire.has_written();

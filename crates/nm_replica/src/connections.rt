@@ -1,7 +1,7 @@
 //! The connections of a replica: begun, accepted and let go as its contacts say.
 
 ghost use Rattle.std.specs.Arc.{arc_value};
-ghost use Rattle.std.specs.Prelude.{◌≡◌, IfErr, IfOk, IfSome, OnOk, Some, ℕ, false, length};
+ghost use Rattle.std.specs.Prelude.{◌≡◌, ◌≤◌, IfErr, IfOk, IfSome, OnOk, Some, ℕ, false, length};
 ghost use Rattle.std.specs.Prelude.{true};
 ghost use Rattle.slab.specs.Slab.{get};
 ghost use Rattle.nm_policy.specs.Contacts.{after, contact_at, is_slot};
@@ -9,9 +9,10 @@ ghost use Rattle.nm_policy.specs.Decisions.{is_due_at};
 ghost use Rattle.nm_policy.specs.Laws.{at_first};
 ghost use Rattle.nm_policy.specs.declared.contact_event.ContactEvent.TheVariants as event;
 ghost use Rattle.nm_replica.specs.Breaks.{fault_in, is_peer};
-ghost use Rattle.nm_replica.specs.Connections.{Admits, Dials, DropsStranger, Keeps, LetsGo};
+ghost use Rattle.nm_replica.specs.Connections.{Admits, Awaits, Dials, DropsStranger, Keeps, LetsGo};
 ghost use Rattle.nm_replica.specs.Connections.{LetsStaleGo, MakesRoom, Settles, heard_at};
 ghost use Rattle.nm_replica.specs.Connections.{learned, with_session_back};
+ghost use Rattle.nm_replica.specs.Moved.{has_written, is_end, was_there};
 ghost use Rattle.nm_replica.specs.Served.{IsInterrupted, break_served};
 ghost use Rattle.nm_replica.specs.Sessions.{first_sessions};
 
@@ -34,7 +35,7 @@ use std::sync::Arc;
 pub(crate) struct Connections<W> {
     pub open: Slab<Connection<W>>,
     pub contacts: Contacts,
-    sessions: Sessions,
+    pub sessions: Sessions,
     /// On how many connections the peer said Hello, and how many of these broke.
     pub begun: u64,
     pub broken: u64,
@@ -51,6 +52,13 @@ struct Left {
     is_peer: bool,
     /// Octets were written on it, so that somebody was there.
     has_written: bool,
+}
+
+/// Whether a link broke since the other side sends no more.
+fn is_end(cause: Cause) -> bool
+    ensures { result ≡ is_end cause }
+{
+    matches!(cause, Cause::End)
 }
 
 /// A connection to this peer, which the transport watches under this key, if it can.
@@ -102,9 +110,16 @@ impl<W> Connections<W> {
         })
     }
 
+    /// A key that no connection reaches: each has a lesser one.
+    pub(crate) fn key_end(&self) -> usize
+        ensures { length self.now.open.slots ≤ result }
+    {
+        self.open.capacity()
+    }
+
     /// Whether more may be read that no wait reports.
     pub(crate) fn have_more(&self) -> bool {
-        for key in 0..self.open.capacity() {
+        for key in 0..self.key_end() {
             if let Some(connection) = self.open.get(key) {
                 if connection.link.wire().is_ready() {
                     return true;
@@ -123,7 +138,7 @@ impl<W> Connections<W> {
 
     /// A wait ran out: each connection is looked at, whatever was reported.
     pub(crate) fn note_all(&self) {
-        for key in 0..self.open.capacity() {
+        for key in 0..self.key_end() {
             self.note(key);
         }
     }
@@ -142,7 +157,8 @@ impl<W> Connections<W> {
         requires { is_due_at self.old.contacts.peers peer ≡ true }
         ensures idle { T.elapsed_periods transport.new ≡ T.elapsed_periods transport.old }
         ensures dials { OnOk result
-            (Dials T.leads_to peer self.old.contacts self.new.contacts self.new.open) }
+            (Dials T.leads_to self.old.sessions peer self.old.contacts self.new.contacts
+            self.new.open) }
     {
         self.open.reserve(1)?;
         let key = self.open.vacant_key();
@@ -211,6 +227,11 @@ impl<W> Connections<W> {
     ) -> Result<(), AllocError>
         ensures idle { T.elapsed_periods transport.new ≡ T.elapsed_periods transport.old }
         ensures keeps { OnOk result (Keeps self.old.contacts self.new.contacts) }
+        ensures awaits { OnOk result (Awaits (record {
+          topology = arc_value neighbours.now.topology.now;
+          me = neighbours.now.partition;
+          replica = neighbours.now.replica;
+        }) self.old.contacts self.new.contacts self.new.open) }
     {
         let mut wire = wire;
         let topology = Arc::try_clone(neighbours.topology)?;
@@ -277,48 +298,34 @@ impl<W> Connections<W> {
 
     /// A poll was made, and ran out or not. Connections that are stale are let go, and calls among
     /// them are made again.
-    ///
-    /// # Errors
-    ///
-    /// How serving ends, where it does.
     pub(crate) fn pass_poll<T: Transport<Connection = W>>(
         &mut self,
         transport: &mut T,
         ran_out: bool,
-    ) -> Result<(), Served>
+    )
         ensures idle { T.elapsed_periods transport.new ≡ T.elapsed_periods transport.old }
-        ensures early { IfErr result IsInterrupted }
-        ensures stale { OnOk result
-            (LetsStaleGo (after self.old.contacts (event.Polled ran_out)) self.new.contacts) }
+        ensures stale { LetsStaleGo (after self.old.contacts (event.Polled ran_out))
+            self.new.contacts }
     {
         self.contacts.take(ContactEvent::Polled { ran_out });
-        self.let_stale_go(transport)
+        self.let_stale_go(transport);
     }
 
     /// Lets the connections go on which no Hello came for their time, or nothing for as long from a
     /// peer for which the replica waits.
-    ///
-    /// # Errors
-    ///
-    /// How serving ends, where it does.
-    fn let_stale_go<T: Transport<Connection = W>>(
-        &mut self,
-        transport: &mut T,
-    ) -> Result<(), Served>
+    fn let_stale_go<T: Transport<Connection = W>>(&mut self, transport: &mut T)
         ensures idle { T.elapsed_periods transport.new ≡ T.elapsed_periods transport.old }
-        ensures early { IfErr result IsInterrupted }
-        ensures stale { OnOk result (LetsStaleGo self.old.contacts self.new.contacts) }
+        ensures stale { LetsStaleGo self.old.contacts self.new.contacts }
     {
         for key in 0..self.contacts.key_count() {
             if self.contacts.is_stale(key) {
-                self.let_go(transport, key, Cause::Fault)?;
+                self.break_at(transport, key);
             }
         }
-        Ok(())
     }
 
-    /// Does what the last turn of the connection with this key asks for, in which octets came or did
-    /// not.
+    /// Does what the last turn of the connection with this key asks for, in which octets came or
+    /// did not.
     ///
     /// # Errors
     ///
@@ -402,6 +409,7 @@ impl<W> Connections<W> {
         ensures contacts { self.new.contacts ≡ self.old.contacts }
         ensures peer { result.is_peer
             ≡ is_peer (contact_at self.old.contacts.connections key) (get self.old.open key) }
+        ensures written { result.has_written ≡ has_written (get self.old.open key) }
         ensures sessions { self.new.sessions
             ≡ with_session_back (contact_at self.old.contacts.connections key)
             (get self.old.open key) self.old.sessions }
@@ -452,6 +460,8 @@ impl<W> Connections<W> {
         ensures served { fault_in result ≡ break_served cause
             (is_peer (contact_at self.old.contacts.connections key) (get self.old.open key)) }
         ensures goes { OnOk result (LetsGo key self.old.contacts self.new.contacts) }
+        ensures told { OnOk result (self.new.contacts ≡ after self.old.contacts
+            (event.Broke key (was_there cause (get self.old.open key)))) }
     {
         let Left {
             is_peer,
@@ -460,13 +470,31 @@ impl<W> Connections<W> {
         if let Some(served) = break_served(cause, is_peer) {
             return Err(served);
         }
+        // Who ends a connection is there, though nothing could be written.
+        self.note_broken(key, has_written || is_end(cause));
+        Ok(())
+    }
+
+    /// Lets a connection go on which nothing came in time. Its session, if the replica is to call
+    /// again, begins anew.
+    fn break_at<T: Transport<Connection = W>>(&mut self, transport: &mut T, key: usize)
+        ensures idle { T.elapsed_periods transport.new ≡ T.elapsed_periods transport.old }
+        ensures goes { LetsGo key self.old.contacts self.new.contacts }
+        ensures told { self.new.contacts ≡ after self.old.contacts
+            (event.Broke key (has_written (get self.old.open key))) }
+    {
+        let Left { has_written, .. } = self.remove(transport, key);
+        self.note_broken(key, has_written);
+    }
+
+    /// Notes that the connection with this key broke, at whose other side somebody was or nobody.
+    fn note_broken(&mut self, key: usize, was_there: bool)
+        ensures { self.new.contacts ≡ after self.old.contacts (event.Broke key was_there) }
+    {
         if self.contacts.has_greeted(key) {
             self.broken = self.broken.saturating_add(1);
         }
-        // Who ends a connection is there, though nothing could be written.
-        let was_there = has_written || matches!(cause, Cause::End);
         self.contacts.take(ContactEvent::Broke { key, was_there });
-        Ok(())
     }
 
     /// How many of the messages that were given had been given to the same replica on an earlier
@@ -476,7 +504,7 @@ impl<W> Connections<W> {
             return 0;
         }
         let mut count = self.given.resent();
-        for key in 0..self.open.capacity() {
+        for key in 0..self.key_end() {
             if let Some(connection) = self.open.get(key) {
                 count = count.saturating_add(connection.resent(&self.given));
             }

@@ -12,7 +12,7 @@ use std::sync::Wait;
 /// Where it notes what it does, if that is asked for.
 fn own<'a, C: Counts>(service: &Service<'a, C>) -> Option<ReplicaFigures<'a>> {
     let figures = service.progress?.figures()?;
-    Some(figures.of(service.partition, service.replica))
+    Some(figures.of(service.book.partition, service.book.replica))
 }
 
 /// It waits now, or does not.

@@ -1,5 +1,7 @@
 //! Who runs a book that has a pool beside its replica's own thread.
 
+ghost use Rattle.std.specs.Prelude.{◌≡◌, false, true};
+
 use std::sync::atomic::{AtomicBool, Ordering};
 
 /// Says who runs a book: a pool, to which it is lent, or its replica's own thread, after each of
@@ -8,7 +10,8 @@ use std::sync::atomic::{AtomicBool, Ordering};
 /// lock.
 #[derive(Drop)]
 pub struct Lending {
-    has_pool: bool,
+    /// It is lent at times. Else the replica's own thread always runs the book.
+    pub has_pool: bool,
     is_lent: AtomicBool,
     /// The pool may do more than when it looked last.
     has_news: AtomicBool,
@@ -16,7 +19,9 @@ pub struct Lending {
 
 impl Lending {
     /// The book is lent to a pool.
-    pub fn new() -> Self {
+    pub fn new() -> Self
+        ensures { result.has_pool ≡ true }
+    {
         Lending {
             has_pool: true,
             is_lent: AtomicBool::new(true),
@@ -25,7 +30,9 @@ impl Lending {
     }
 
     /// There is no pool: the replica's own thread always runs the book.
-    pub fn alone() -> Self {
+    pub fn alone() -> Self
+        ensures { result.has_pool ≡ false }
+    {
         Lending {
             has_pool: false,
             is_lent: AtomicBool::new(false),

@@ -1,6 +1,7 @@
 //! A wire that counts what moves on it, and is read only where something may have come.
 
-ghost use Rattle.std.specs.Prelude.{◌≡◌};
+ghost use Rattle.std.specs.Prelude.{◌≡◌, ◌+◌, nat_lt};
+ghost use Rattle.nm_base.specs.Count.{saturated};
 
 use nm_base::Wire;
 use nm_base::wire::{Read, Written};
@@ -24,16 +25,17 @@ pub struct CountingWire<W> {
 }
 
 impl<W> Model for CountingWire<W> {
-    // The wire alone.
-    ghost Value = { W };
+    ghost use Rattle.nm_replica.specs.CountedWire.{CountedWire};
 
-    ghost view = { λ c. c.wire };
+    ghost Value = { CountedWire W };
+
+    ghost view = { λ c. record { wire = c.wire; came = c.came; written = c.written } };
 }
 
 impl<W> CountingWire<W> {
     /// None has moved.
     pub fn new(wire: W) -> Self
-        ensures { result ≡ wire }
+        ensures { result ≡ record { wire = wire; came = 0; written = 0 } }
     {
         CountingWire {
             wire,
@@ -45,17 +47,23 @@ impl<W> CountingWire<W> {
     }
 
     /// How many octets moved.
-    pub fn moved(&self) -> u64 {
+    pub fn moved(&self) -> u64
+        ensures { result ≡ saturated (self.now.came + self.now.written) }
+    {
         self.came.saturating_add(self.written)
     }
 
     /// How many of them came.
-    pub fn came(&self) -> u64 {
+    pub fn came(&self) -> u64
+        ensures { result ≡ self.now.came }
+    {
         self.came
     }
 
     /// Whether octets were written.
-    pub fn has_written(&self) -> bool {
+    pub fn has_written(&self) -> bool
+        ensures { result ≡ nat_lt 0 self.now.written }
+    {
         self.written > 0
     }
 
@@ -76,7 +84,7 @@ impl<W> CountingWire<W> {
 
     /// The wire.
     pub fn into_wire(self) -> W
-        ensures { result ≡ self }
+        ensures { result ≡ self.wire }
     {
         self.wire
     }
@@ -88,21 +96,22 @@ impl<W> CountingWire<W> {
 
     /// So many octets came.
     fn count_read(&mut self, octets: usize)
-        ensures { self.new ≡ self.old }
+        ensures { self.new ≡ record self.old { came = saturated (self.old.came + octets) } }
     {
         self.came = self.came.saturating_add(octets as u64);
     }
 
     /// So many octets were written.
     fn count_written(&mut self, octets: usize)
-        ensures { self.new ≡ self.old }
+        ensures { self.new
+            ≡ record self.old { written = saturated (self.old.written + octets) } }
     {
         self.written = self.written.saturating_add(octets as u64);
     }
 }
 
 impl<W: Wire> Wire for CountingWire<W> {
-    ghost seen = { λ c. W.seen c };
+    ghost seen = { λ c. W.seen c.wire };
 
     fn read_some(&mut self, buffer: &mut [u8]) -> Read {
         if !self.is_ready() {

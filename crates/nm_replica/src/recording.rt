@@ -1,7 +1,7 @@
 //! The records of a replica, written to its trace files while it runs.
 
-ghost use Rattle.std.specs.Prelude.{◌≡◌, IfOk, OnOk, false, true};
-ghost use Rattle.nm_replica.specs.Recording.{Streams, Wrote, WroteAsCounted};
+ghost use Rattle.std.specs.Prelude.{◌≡◌, IfErr, IfOk, OnOk, false, true};
+ghost use Rattle.nm_replica.specs.Recording.{Streamed, Streams, Wrote, WroteAsCounted};
 ghost use Rattle.nm_replica.specs.Served.{WasFinished};
 
 use crate::acts::{HandOutSome, HandedOut};
@@ -34,6 +34,8 @@ fn write_some<C: Counts, S: Sink, R: Wait>(
 ) -> Result<Recorded, FilesFault>
     ensures wrote { IfOk result (λ r. Wrote S.seen C.exact C.home r.written
         files.old.files.items files.new.files.items) }
+    ensures so_far { IfErr result (λ _. Streamed S.seen C.exact C.home
+        files.old.files.items files.new.files.items) }
     ensures last { IfOk result (λ r. r.is_last ≡ true → WasFinished C.exact C.home false) }
 {
     let room = Vec::with_capacity(alloc, MAX_HANDED)?;
@@ -60,9 +62,13 @@ pub(crate) fn write_records<C: Counts, S: Sink, R: Wait>(
     files: &mut TraceFiles<S>,
     is_left: bool,
 ) -> Result<Recorded, FilesFault>
+    ensures keeps { service.now.keeps_records ≡ true
+        → IfOk result (λ r. (r.written ≡ 0) × (r.has_more ≡ false) × (r.is_last ≡ false)) }
     ensures streams { OnOk result (Streams S.seen C.exact C.home
         files.old.files.items files.new.files.items) }
     ensures wrote { IfOk result (λ r. WroteAsCounted S.seen C.exact C.home r.written
+        files.old.files.items files.new.files.items) }
+    ensures so_far { IfErr result (λ _. Streamed S.seen C.exact C.home
         files.old.files.items files.new.files.items) }
     ensures last { IfOk result (λ r. r.is_last ≡ true → WasFinished C.exact C.home false) }
 {

@@ -1,10 +1,11 @@
 //! A replica over a transport, until it ends.
 
-ghost use Rattle.std.specs.Prelude.{◌≡◌, ◌+◌, ◌≤◌, ℕ, IfErr, IfOk, IfSome, OnOk, length};
+ghost use Rattle.std.specs.Prelude.{◌≡◌, ◌+◌, IfErr, IfOk, OnOk, length};
+ghost use Rattle.nm_base.specs.Count.{saturated};
 ghost use Rattle.nm_replica.specs.Polls.{ending_of, idle_after, is_active};
-ghost use Rattle.nm_replica.specs.Recording.{Streams};
-ghost use Rattle.nm_replica.specs.Seats.{AreKept};
-ghost use Rattle.nm_replica.specs.Served.{EndsEarly, EndsWith};
+ghost use Rattle.nm_replica.specs.Recording.{Streamed, Streams};
+ghost use Rattle.nm_replica.specs.Seats.{AreKept, StandOnBoard};
+ghost use Rattle.nm_replica.specs.Served.{EndsEarly, EndsWith, PolledOnce, WasFinished};
 ghost use Rattle.nm_replica.specs.declared.served.Served.TheVariants.{Ended};
 
 use crate::lending::Lending;
@@ -27,9 +28,7 @@ use std::sync::{Arc, Wait};
 #[derive(Clone, Copy)]
 pub struct Service<'a, C: Counts> {
     pub topology: &'a Arc<Topology>,
-    pub partition: PartNo,
-    /// 0 or 1.
-    pub replica: u8,
+    /// Its book, which says which replica it is.
     pub book: &'a SharedBook<C>,
     /// The partitions of the peers to which it connects, by their numbers in the network: one for
     /// each replica of a partition above its own with which it shares a channel.
@@ -39,8 +38,6 @@ pub struct Service<'a, C: Counts> {
     /// The books of all replicas of the run, its own among them. None in a run of its own, where it
     /// merges with nobody.
     pub books: &'a [SharedBook<C>],
-    /// The place of its sister in that list, if it has one.
-    pub sister: Option<usize>,
     /// After so many periods in a row in which nothing moved and nothing was done it is stalled.
     pub idle_limit: u64,
     /// How many events it does at most after each poll.
@@ -58,15 +55,20 @@ pub struct Service<'a, C: Counts> {
 
 impl<'a, C: Counts> Service<'a, C> {
     /// What its connections are for.
-    pub(crate) fn neighbours(&self) -> Neighbours<'a> {
+    pub(crate) fn neighbours(&self) -> Neighbours<'a>
+        ensures { (result.topology ≡ self.now.topology)
+            × (result.partition ≡ self.now.book.now.partition)
+            × (result.replica ≡ self.now.book.now.replica)
+            × (result.peers ≡ self.now.peers) × (result.callers ≡ self.now.callers) }
+    {
         let figures = match self.progress {
             Some(progress) => progress.figures(),
             None => None,
         };
         Neighbours {
             topology: self.topology,
-            partition: self.partition,
-            replica: self.replica,
+            partition: self.book.partition,
+            replica: self.book.replica,
             peers: self.peers,
             callers: self.callers,
             are_counted: figures.is_some(),
@@ -120,8 +122,8 @@ pub struct Running<W> {
     serving: Serving<W>,
     /// For how many periods in a row nothing was moved or done.
     pub idle: u64,
-    /// How many polls were made.
-    polls: u64,
+    /// How many polls were made, which stops at the greatest `u64`.
+    pub polls: u64,
 }
 
 impl<W> Running<W> {
@@ -131,7 +133,7 @@ impl<W> Running<W> {
     ///
     /// Where memory was refused.
     pub fn new<C: Counts>(alloc: Global, service: &Service<'_, C>) -> Result<Self, AllocError>
-        ensures { IfOk result (λ r. r.idle ≡ 0) }
+        ensures { IfOk result (λ r. (r.idle ≡ 0) × (r.polls ≡ 0)) }
     {
         Ok(Running {
             serving: Serving::new(alloc, service)?,
@@ -147,7 +149,7 @@ impl<W> Running<W> {
 /// # Errors
 ///
 /// How serving ends where the replica was not seen to be done, and is not stalled.
-#[tactic(auto, using(crate::proofs::Polls::idles_wait, crate::proofs::Polls::ends_after))]
+#[tactic(auto, using(crate::proofs::Polls::polled_once))]
 pub fn poll_replica<C: Counts, S: Sink, T: Transport, R: Wait>(
     rt: &R,
     alloc: Global,
@@ -156,22 +158,23 @@ pub fn poll_replica<C: Counts, S: Sink, T: Transport, R: Wait>(
     transport: &mut T,
     running: &mut Running<T::Connection>,
 ) -> Result<Option<Served>, Served>
-    // Each file took those at its interface of the records that were handed out.
+    // Each file took those at its interface of the records that were handed out; where it fails,
+    // those before the record at which a file failed.
     ensures streams { OnOk result (Streams S.seen C.exact C.home
         holdings.old.files.files.items holdings.new.files.files.items) }
+    ensures so_far { IfErr result (λ _. Streamed S.seen C.exact C.home
+        holdings.old.files.files.items holdings.new.files.files.items) }
 
-    // No more periods in a row were idle than were over, and the ending says the truth.
-    ensures idles { OnOk result ((start : ℕ)
-        → start + running.old.idle ≤ T.elapsed_periods transport.old
-        → start + running.new.idle ≤ T.elapsed_periods transport.new) }
-    ensures ends { IfOk result (λ end. IfSome end (λ served. (start : ℕ)
-        → start + running.new.idle ≤ T.elapsed_periods transport.new
-        → EndsWith C.exact C.home service.now.keeps_records service.now.idle_limit
-        (start, T.elapsed_periods transport.new) served)) }
+    // What is counted of idle periods, and whether serving ends by it, are what they are to be.
+    ensures exact { IfOk result (PolledOnce (WasFinished C.exact C.home service.now.keeps_records)
+        service.now.idle_limit running.new.polls (running.old.idle, running.new.idle)
+        (T.elapsed_periods transport.old, T.elapsed_periods transport.new)) }
+    ensures polls { OnOk result (running.new.polls ≡ saturated (running.old.polls + 1)) }
     ensures early { IfErr result EndsEarly }
 
-    // The seats and the passes stay.
+    // The seats and the passes stay, and the promise of each seat's channel stands on the board.
     ensures seats { AreKept holdings.old.seats holdings.new.seats }
+    ensures told { OnOk result (StandOnBoard C.exact C.home holdings.new.seats) }
     ensures passes { length holdings.new.passes.items ≡ length holdings.old.passes.items }
 {
     let polled = poll(
@@ -200,7 +203,7 @@ pub fn poll_replica<C: Counts, S: Sink, T: Transport, R: Wait>(
 /// A connection that breaks is begun again by the side that began it; an octet or a Hello that
 /// should not be costs a connection that said no Hello, and after one the replica. The promise of
 /// each outgoing channel stands on the board before a poll ends. Before each poll the gate is
-/// asked, and told how many octets have moved.
+/// asked, and told how many octets have moved with peers, whether they count as activity or not.
 ///
 /// `Ended` where the replica was seen to be done, with no record left to hand out. `File` where a
 /// trace file failed. `Stalled` after no fewer periods than its limit, or after 10^9 polls. `Net`
@@ -214,8 +217,11 @@ pub fn run_replica<C: Counts, S: Sink, T: Transport, G: Gate, R: Wait>(
     transport: &mut T,
     gate: &G,
 ) -> Served
-    // Where serving ended, each file took those at its interface of the records handed out.
+    // Where serving ended, each file took those at its interface of the records handed out; and
+    // however it ended, those before a record at which a file failed.
     ensures streams { result ≡ Ended → Streams S.seen C.exact C.home
+        holdings.old.files.files.items holdings.new.files.files.items }
+    ensures so_far { Streamed S.seen C.exact C.home
         holdings.old.files.files.items holdings.new.files.files.items }
 
     // The ending says the truth about the replica and about the time that passed.

@@ -1,14 +1,18 @@
 //! One poll of a replica, and what follows it.
 
-ghost use Rattle.std.specs.Prelude.{◌&&◌, ◌+◌, ◌==◌, ◌||◌, ◌≡◌, ◌≤◌, IfErr, IfOk, OnOk, false};
-ghost use Rattle.std.specs.Prelude.{length, not, true};
+ghost use Rattle.std.specs.Prelude.{◌%◌, ◌&&◌, ◌+◌, ◌-◌, ◌==◌, ◌||◌, ◌≡◌, IfErr, IfOk, OnOk};
+ghost use Rattle.std.specs.Prelude.{false, if◌then◌else◌, is_some, length, not, true};
+ghost use Rattle.std.specs.Arc.{arc_value};
 ghost use Rattle.nm_base.specs.Count.{saturated};
 ghost use Rattle.nm_policy.specs.Lasting.{has_lasted, lasted_after};
+ghost use Rattle.nm_policy.specs.Laws.{at_first};
 ghost use Rattle.nm_policy.specs.Stays.{leaves, stayed};
+ghost use Rattle.nm_replica.specs.Connections.{DropsSome, WaitsOnce};
 ghost use Rattle.nm_replica.specs.Polls.{is_active};
-ghost use Rattle.nm_replica.specs.Recording.{Streams, WroteAsCounted};
-ghost use Rattle.nm_replica.specs.Seats.{AreKept};
+ghost use Rattle.nm_replica.specs.Recording.{Streamed, Streams, WroteAsCounted};
+ghost use Rattle.nm_replica.specs.Seats.{AreKept, StandOnBoard};
 ghost use Rattle.nm_replica.specs.Served.{EndsEarly, IsInterrupted, WasFinished, WasSeen};
+ghost use Rattle.nm_replica.specs.Sessions.{first_sessions};
 ghost use Rattle.nm_transport.specs.Transport.{elapsed_after};
 
 use crate::acts::{Stand, Standing};
@@ -18,7 +22,7 @@ use crate::limits::{MAX_TURNS, MERGE_POLLS, SCARCE_PERIODS, SHORT_PERIODS};
 use crate::recording::write_records;
 use crate::replica::{Holdings, Service};
 use crate::served::{Served, file_served};
-use crate::sisters::{all_are_done, merge_sister};
+use crate::sisters::{Merged, all_are_done, merge_sister};
 use crate::telling::tell_all;
 use nm_base::{Sink, Wire};
 use nm_book::Ran;
@@ -34,9 +38,10 @@ use std::sync::Wait;
 #[derive(Drop)]
 pub(crate) struct Serving<W> {
     pub connections: Connections<W>,
-    /// How many octets have moved on connections whose peer greeted, which stops at the greatest
-    /// `u64`.
+    /// How many octets have moved on connections whose peer greeted, of which the gate is told, and
+    /// how many of them count as activity. Each stops at the greatest `u64`.
     pub moved: u64,
+    pub counted: u64,
     /// How many events the book had done when it was looked at last.
     events: u64,
     /// The book was done when it was looked at last.
@@ -56,7 +61,8 @@ pub(crate) struct Serving<W> {
 /// What turns of connections came to.
 #[derive(Clone, Copy)]
 struct Moves {
-    /// How many octets moved that count.
+    /// How many octets moved with peers, and how many of them count as activity.
+    moved: u64,
     octets: u64,
     /// Octets came.
     has_heard: bool,
@@ -69,6 +75,7 @@ struct Moves {
 impl Moves {
     /// Nothing moved.
     const NONE: Moves = Moves {
+        moved: 0,
         octets: 0,
         has_heard: false,
         has_more: false,
@@ -77,9 +84,11 @@ impl Moves {
 
     /// These and others.
     fn with(self, other: Moves) -> Moves
-        ensures { result.octets ≡ saturated (self.octets + other.octets) }
+        ensures moved { result.moved ≡ saturated (self.moved + other.moved) }
+        ensures octets { result.octets ≡ saturated (self.octets + other.octets) }
     {
         Moves {
+            moved: self.moved.saturating_add(other.moved),
             octets: self.octets.saturating_add(other.octets),
             has_heard: self.has_heard || other.has_heard,
             has_more: self.has_more || other.has_more,
@@ -93,7 +102,9 @@ impl Moves {
 pub(crate) struct Polled {
     /// A period was over, or it could not wait.
     pub ran_out: bool,
-    /// How many octets moved that count, and how many records were written.
+    /// How many octets moved with peers, how many of them count as activity, and how many records
+    /// were written.
+    pub moved: u64,
     pub octets: u64,
     pub written: u64,
     /// The book did events since the poll before.
@@ -103,7 +114,7 @@ pub(crate) struct Polled {
 }
 
 impl Polled {
-    /// Whether octets moved, records were written, or the book did events.
+    /// Whether octets moved that count, records were written, or the book did events.
     pub(crate) fn is_active(&self) -> bool
         ensures { result ≡ is_active self.now.octets self.now.written self.now.was_run }
     {
@@ -120,11 +131,18 @@ impl<W> Serving<W> {
     pub(crate) fn new<C: Counts>(
         alloc: Global,
         service: &Service<'_, C>,
-    ) -> Result<Self, AllocError> {
+    ) -> Result<Self, AllocError>
+        ensures contacts { IfOk result (λ s. s.connections.contacts
+            ≡ at_first (length service.now.peers.now) service.now.callers.now) }
+        ensures sessions { IfOk result (λ s. s.connections.sessions
+            ≡ first_sessions (arc_value service.now.topology.now) service.now.book.now.partition
+            service.now.book.now.replica service.now.peers.now) }
+    {
         let buffer = ReadBuffer::new(alloc)?;
         Ok(Serving {
             connections: Connections::new(alloc, &service.neighbours())?,
             moved: 0,
+            counted: 0,
             events: 0,
             was_done: false,
             polls: 0,
@@ -166,7 +184,8 @@ fn turns<W: Wire, C: Counts, R: Wait>(
     key: usize,
     does: Does,
 ) -> (Moves, Turn)
-    ensures { (serving.new.moved ≡ serving.old.moved) × (serving.new.events ≡ serving.old.events) }
+    ensures { (serving.new.moved ≡ serving.old.moved) × (serving.new.counted ≡ serving.old.counted)
+        × (serving.new.events ≡ serving.old.events) }
 {
     let alloc = serving.alloc;
     let counts = serving.connections.contacts.does_count(key);
@@ -184,8 +203,10 @@ fn turns<W: Wire, C: Counts, R: Wait>(
             break;
         }
     }
+    let counted = connection.count_moved(counts);
     let moves = Moves {
-        octets: connection.count_moved(counts),
+        moved: counted.all,
+        octets: counted.counted,
         has_heard: connection.has_heard(),
         has_more: last == Turn::Progress,
         given: connection.count_given(),
@@ -206,18 +227,21 @@ fn serve_all<T: Transport, C: Counts, R: Wait>(
     ensures idle { T.elapsed_periods transport.new ≡ T.elapsed_periods transport.old }
     ensures early { IfErr result IsInterrupted }
     ensures moved { IfOk result
-        (λ m. serving.new.moved ≡ saturated (serving.old.moved + m.octets)) }
+        (λ m. serving.new.moved ≡ saturated (serving.old.moved + m.moved)) }
+    ensures counted { IfOk result
+        (λ m. serving.new.counted ≡ saturated (serving.old.counted + m.octets)) }
     ensures events { serving.new.events ≡ serving.old.events }
 {
     let mut all = Moves::NONE;
-    for key in 0..serving.connections.open.capacity() {
+    for key in 0..serving.connections.key_end() {
         let (moves, turn) = turns(rt, service.book, pass, serving, key, does);
         serving
             .connections
             .settle(transport, key, turn, moves.has_heard)?;
         all = all.with(moves);
     }
-    serving.moved = serving.moved.saturating_add(all.octets);
+    serving.moved = serving.moved.saturating_add(all.moved);
+    serving.counted = serving.counted.saturating_add(all.octets);
     Ok(all)
 }
 
@@ -258,7 +282,10 @@ fn bear_shortage<T: Transport>(
         (lasted_after serving.old.short.periods ran_out) ≡ true) }
     ensures borne { OnOk result
         (has_lasted SHORT_PERIODS serving.new.short.periods ≡ false) }
+    ensures strangers { DropsSome serving.old.connections.contacts
+        serving.new.connections.contacts }
     ensures kept { (serving.new.moved ≡ serving.old.moved)
+        × (serving.new.counted ≡ serving.old.counted)
         × (serving.new.events ≡ serving.old.events) }
 {
     if !transport.is_short() || !serving.connections.contacts.are_missing() {
@@ -289,7 +316,10 @@ fn await_transport<T: Transport, C: Counts>(
     ensures idle { IfOk result (λ ran_out. T.elapsed_periods transport.new
         ≡ elapsed_after (T.elapsed_periods transport.old) ran_out) }
     ensures early { IfErr result IsInterrupted }
+    ensures waits { IfOk result
+        (λ ran_out. WaitsOnce ran_out serving.new.connections.contacts) }
     ensures kept { (serving.new.moved ≡ serving.old.moved)
+        × (serving.new.counted ≡ serving.old.counted)
         × (serving.new.events ≡ serving.old.events) }
 {
     serving.connections.dial_all(alloc, transport)?;
@@ -298,7 +328,7 @@ fn await_transport<T: Transport, C: Counts>(
     let ran_out = transport.wait(may_wait).has_run_out();
     note_wait(service, false);
     note_reports(transport, &serving.connections, ran_out);
-    serving.connections.pass_poll(transport, ran_out)?;
+    serving.connections.pass_poll(transport, ran_out);
     let neighbours = service.neighbours();
     serving
         .connections
@@ -308,14 +338,10 @@ fn await_transport<T: Transport, C: Counts>(
 }
 
 /// How many events the replica does at most after a poll: none while its book is lent.
-fn own_limit<C: Counts>(service: &Service<'_, C>) -> u64
-    ensures { result ≤ service.now.run_limit }
+fn own_limit(is_lent: bool, run_limit: u64) -> u64
+    ensures { result ≡ (if is_lent then 0 else run_limit) }
 {
-    if service.lending.is_lent() {
-        0
-    } else {
-        service.run_limit
-    }
+    if is_lent { 0 } else { run_limit }
 }
 
 /// Its run left events to do: whether the replica is to go on with them at once. Where there is a
@@ -341,7 +367,7 @@ fn run_book<C: Counts, R: Wait>(
     ensures { IfOk result (λ s. WasSeen C.exact C.home s.0) }
 {
     let mut was_cut = false;
-    let limit = own_limit(service);
+    let limit = own_limit(service.lending.is_lent(), service.run_limit);
     if limit > 0 {
         match service.book.run(rt, pass, alloc, limit) {
             Ran::All(_) => {}
@@ -352,6 +378,30 @@ fn run_book<C: Counts, R: Wait>(
     let standing = service.book.act(rt, pass, Stand);
     note_progress(service, standing.safe, standing.records);
     Ok((standing, was_cut))
+}
+
+/// Merges what the sister knows after so many polls, where that is to be done then.
+///
+/// # Errors
+///
+/// Where memory was refused.
+fn merge_at<C: Counts, S, R: Wait>(
+    rt: &R,
+    alloc: Global,
+    service: &Service<'_, C>,
+    holdings: &mut Holdings<'_, C, S>,
+    polls: u64,
+) -> Result<Option<Merged>, AllocError>
+    ensures due { IfOk result
+        (λ m. is_some m ≡ (polls % MERGE_POLLS == MERGE_POLLS - 1)) }
+    ensures files { holdings.new.files ≡ holdings.old.files }
+    ensures seats { holdings.new.seats ≡ holdings.old.seats }
+    ensures passes { length holdings.new.passes.items ≡ length holdings.old.passes.items }
+{
+    if polls % MERGE_POLLS != MERGE_POLLS - 1 {
+        return Ok(None);
+    }
+    Ok(Some(merge_sister(rt, alloc, service, holdings)?))
 }
 
 /// What the replica does by itself after a poll: its events, and what its sister knows. It answers
@@ -372,9 +422,7 @@ fn act_alone<C: Counts, S, R: Wait>(
     ensures seats { holdings.new.seats ≡ holdings.old.seats }
     ensures passes { length holdings.new.passes.items ≡ length holdings.old.passes.items }
 {
-    if polls % MERGE_POLLS == MERGE_POLLS - 1 {
-        merge_sister(rt, alloc, service, holdings)?;
-    }
+    merge_at(rt, alloc, service, holdings, polls)?;
     run_book(rt, alloc, service, &mut holdings.pass)
 }
 
@@ -415,9 +463,12 @@ fn serve_and_act<C: Counts, S, T: Transport, R: Wait>(
     ensures seen { IfOk result (λ a. WasSeen C.exact C.home a.standing) }
     ensures early { IfErr result IsInterrupted }
 
-    // The octets that moved are those that the gate is told of, and the events are the book's.
+    // The octets that moved are those that the gate is told of, those that count are among them,
+    // and the events are the book's.
     ensures moved { IfOk result
-        (λ a. serving.new.moved ≡ saturated (serving.old.moved + a.moves.octets)) }
+        (λ a. serving.new.moved ≡ saturated (serving.old.moved + a.moves.moved)) }
+    ensures counted { IfOk result
+        (λ a. serving.new.counted ≡ saturated (serving.old.counted + a.moves.octets)) }
     ensures run { IfOk result (λ a. (serving.new.events ≡ a.standing.events)
         × (a.was_run ≡ not (a.standing.events == serving.old.events))) }
 {
@@ -480,18 +531,24 @@ pub(crate) fn poll<C: Counts, S: Sink, T: Transport, R: Wait>(
     transport: &mut T,
     serving: &mut Serving<T::Connection>,
 ) -> Result<Polled, Served>
-    // The seats and the passes stay.
+    // The seats and the passes stay, and the promise of each seat's channel stands on the board.
     ensures seats { AreKept holdings.old.seats holdings.new.seats }
+    ensures told { OnOk result (StandOnBoard C.exact C.home holdings.new.seats) }
     ensures passes { length holdings.new.passes.items ≡ length holdings.old.passes.items }
 
-    // Each file took those at its interface of the records that were handed out.
+    // Each file took those at its interface of the records that were handed out; where it fails,
+    // those before the record at which a file failed.
     ensures streams { OnOk result (Streams S.seen C.exact C.home
         holdings.old.files.files.items holdings.new.files.files.items) }
+    ensures so_far { IfErr result (λ _. Streamed S.seen C.exact C.home
+        holdings.old.files.files.items holdings.new.files.files.items) }
 
-    // Who was active: octets moved that the gate is told of, records were written, or the book has
-    // done more events.
+    // The gate is told of the octets that moved with peers. Who was active: octets moved that
+    // count, records were written, or the book has done more events.
     ensures moved { IfOk result
-        (λ p. serving.new.moved ≡ saturated (serving.old.moved + p.octets)) }
+        (λ p. serving.new.moved ≡ saturated (serving.old.moved + p.moved)) }
+    ensures counted { IfOk result
+        (λ p. serving.new.counted ≡ saturated (serving.old.counted + p.octets)) }
     ensures run { IfOk result
         (λ p. p.was_run ≡ not (serving.new.events == serving.old.events)) }
     ensures written { IfOk result (λ p. WroteAsCounted S.seen C.exact C.home p.written
@@ -510,10 +567,10 @@ pub(crate) fn poll<C: Counts, S: Sink, T: Transport, R: Wait>(
         was_run,
         moves,
     } = serve_and_act(rt, alloc, service, holdings, transport, serving)?;
-    tell_all(rt, service.book, &mut holdings.pass, &mut holdings.seats);
     let may_end = standing.is_done
         && (may_leave(&mut serving.stay, &serving.connections.contacts, ran_out)
             || all_are_done(rt, service, &mut holdings.passes));
+    tell_all(rt, service.book, &mut holdings.pass, &mut holdings.seats);
     // A replica that is done makes no records any more: those that it has are written now.
     let is_left = standing.records > standing.handed;
     let recorded = match write_records(
@@ -539,6 +596,7 @@ pub(crate) fn poll<C: Counts, S: Sink, T: Transport, R: Wait>(
     note_hold(rt, service, &mut holdings.pass, is_held);
     Ok(Polled {
         ran_out,
+        moved: moves.moved,
         octets: moves.octets,
         written: recorded.written,
         was_run,

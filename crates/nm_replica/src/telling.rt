@@ -1,7 +1,7 @@
 //! What the board is told.
 
 ghost use Rattle.std.specs.Prelude.{◌≡◌};
-ghost use Rattle.nm_replica.specs.Seats.{AreKept};
+ghost use Rattle.nm_replica.specs.Seats.{AreKept, StandOnBoard, StandsOnBoard};
 ghost use Rattle.nm_shared.specs.Board.{IsOwnerOf, owned_word};
 
 use crate::seats::OwnSeats;
@@ -20,10 +20,12 @@ fn tell<C: Counts, R: Wait>(
     requires { IsOwnerOf board.now seat.old }
     ensures owner { IsOwnerOf board.now seat.new }
     ensures word { owned_word seat.new ≡ owned_word seat.old }
+    ensures told { StandsOnBoard C.exact C.home seat.new }
 {
     let channel = seat.channel();
-    if let Some(null) = book.act(rt, pass, MakeNull { channel }) {
-        board.raise(seat, &null);
+    match book.act(rt, pass, MakeNull { channel }) {
+        Some(null) => board.raise(seat, &null),
+        None => {}
     }
 }
 
@@ -34,7 +36,8 @@ pub(crate) fn tell_all<C: Counts, R: Wait>(
     pass: &mut Pass<C>,
     own: &mut OwnSeats<'_>,
 )
-    ensures { AreKept own.old own.new }
+    ensures kept { AreKept own.old own.new }
+    ensures told { StandOnBoard C.exact C.home own.new }
 {
     for number in 0..own.seats.len() {
         tell(rt, book, pass, own.board, &mut own.seats[number]);

@@ -1,5 +1,5 @@
 -- The trace files of a run, closed one after another.
-use Rattle.std.proofs.Common.{◌≡◌, ℕ, ◌+◌, List, [], ◌∷◌, ◌++◌, length, map, get_or, slice_get, Option, Some, None, refl, sym, ◌∙◌, ap, subst, length-append, ⊎_elim}
+use Rattle.std.proofs.Common.{◌≡◌, inl, inr, ℕ, ◌+◌, List, [], ◌∷◌, ◌++◌, length, map, get_or, slice_get, Option, Some, None, refl, sym, ◌∙◌, ap, subst, length-append, ⊎_elim}
 use Rattle.std.proofs.lemmas.Bool.{cases_lt}
 use Rattle.std.proofs.lemmas.List.{get_or_past, map-append}
 use Rattle.std.proofs.lemmas.List.Elements.{All-get_or}
@@ -8,11 +8,13 @@ use Rattle.nm_pcap.specs.Writer.{Writer}
 use Rattle.nm_topology.specs.PartValues.{IfaceValue}
 use Rattle.nm_topology.specs.TopologyValue.{TopologyValue}
 use Rattle.nm_files.specs.Files.{AreCounted, IsCounted}
-use Rattle.nm_files.specs.Outputs.{AreWhole, Files, HasMade}
+use Rattle.nm_files.specs.Outputs.{AreWhole, Files, HasMade, HasMadeSome}
 use Rattle.nm_shared.proofs.Pools.{all_more}
-use Rattle.nm_run.specs.Files.{AreClosed, AreFilesOf, HaveFiles, IsFileOf}
+use Rattle.nm_run.specs.Faults.{IsFaultAt, IsOneOf}
+use Rattle.nm_run.specs.Files.{AreClosed, AreFilesOf, HaveFiles, HaveSomeFiles, IsFileOf}
 use Rattle.nm_run.specs.declared.files.ClosedFile.{ClosedFile}
 use Rattle.nm_run.specs.declared.report.IfaceTotals.{IfaceTotals}
+use Rattle.nm_run.specs.declared.stop.Stop.{Stop}
 
 module _ (folder : List ℕ) (t : TopologyValue) (totals : List IfaceTotals) where
   no_file : AreFilesOf folder t totals 0 []
@@ -50,9 +52,20 @@ module _ (folder : List ℕ) (t : TopologyValue) (totals : List IfaceTotals) whe
         → ((files : Files) → AreWhole made (map (λ c. closed c.file) all) files → HasMade made after files) → HaveFiles made after folder t totals
     all_placed after all are placed first told = let c = are first told in (c.0, c.1, placed c.0 (λ _ _. c.2) first told)
 
+    -- or only the first of them
+    pub some_placed : (after : Option Files) (all : List (ClosedFile C)) → AreClosed closed made (AreFilesOf folder t totals (length t.ifaces)) all
+        → ((files : Files) → AreWhole made (map (λ c. closed c.file) all) files → HasMadeSome made after files) → HaveSomeFiles made after folder t totals
+    some_placed after all are placed first told = let c = are first told in (c.0, c.1, placed c.0 (λ _ _. c.2))
+
 -- of files that are counted each is, if it is there
 pub one_counted : {S : Type 0} (seen : S → SinkSeen) (made : Option Files) (files : List (Option (Writer S))) (n : ℕ) → AreCounted seen made files
     → IsCounted seen made (get_or files n None)
 one_counted seen made files n are =
     ⊎_elim (λ low. All-get_or (IsCounted seen made) files n None low are) (λ past. subst (IsCounted seen made) (sym (get_or_past files n None past)) tt)
     (cases_lt n (length files))
+
+-- one of some files failed, which is told with its interface and its octets
+pub one_of : {C : Type 0} (before rest : List (ClosedFile C)) (one : ClosedFile C) (s : Stop) → IsFaultAt one.iface one.written s
+    → IsOneOf (map (λ c. (c.iface, c.written)) (before ++ one ∷ rest)) s
+one_of [] rest one s is = inl is
+one_of (b ∷ before) rest one s is = inr (one_of before rest one s is)

@@ -2,3 +2,5 @@ pub mod Reports
 pub mod Stops
 pub mod ReplicaEndings
 pub mod ClosedFiles
+pub mod Replicas
+pub mod Words

@@ -1,5 +1,5 @@
 -- Why a run has no report.
-use Rattle.std.specs.Prelude.{◌≡◌, ◌⊎◌, ℕ}
+use Rattle.std.specs.Prelude.{◌≡◌, ◌⊎◌, ℕ, List, [], ◌∷◌}
 use Rattle.nm_base.specs.declared.fault.Fault.{Fault}
 use Rattle.nm_base.specs.declared.fault.Fault.TheVariants.{Memory, Refused}
 use Rattle.nm_topology.specs.TopologyValue.{TopologyValue}
@@ -25,6 +25,15 @@ HasReason t replicas (Refused cause.Net) = Unit {0}
 HasReason t replicas (Refused (cause.NotCertified fault)) = IsNotCertified t replicas fault
 HasReason t replicas (Refused (cause.Stalled polls)) = Unit {0}
 HasReason t replicas (Refused cause.Broken) = Unit {0}
+
+-- the trace file of this interface failed when it had so many octets; or memory was refused
+abbrev pub IsFaultAt : (iface written : ℕ) → Stop → Type 0
+IsFaultAt iface written s = (s ≡ stop.File iface written) ⊎ (s ≡ stop.Memory)
+
+-- so one of these did, each an interface and how many octets its file has
+abbrev pub IsOneOf : List (ℕ × ℕ) → Stop → Type 0
+IsOneOf [] s = ⊥
+IsOneOf (file ∷ files) s = IsFaultAt file.0 file.1 s ⊎ IsOneOf files s
 
 -- it may be that a trace file did not get its name: those before it have theirs then
 abbrev pub IsOfFiles : Fault RunCause → Type 0

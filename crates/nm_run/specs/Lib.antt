@@ -4,3 +4,4 @@ pub mod Endings
 pub mod Files
 pub mod Sides
 pub mod Took
+pub mod Replicas

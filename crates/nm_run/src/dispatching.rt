@@ -5,11 +5,11 @@ ghost use Rattle.std.specs.List.{list_all};
 ghost use Rattle.nm_shared.specs.Board.{IsSeatOf};
 
 use crate::jobs::{Watched, jobs_for};
+use crate::stations::Own;
 use crate::threads::Threaded;
 use mio::{Events, Poll};
 use nm_base::Time;
 use nm_book::Ran;
-use nm_frames::ReplicaName;
 use nm_progress::Figure;
 use nm_shared::workers::BookPass;
 use nm_shared::{Gate, Job, Plain, PoolReport, Seat, pool};
@@ -33,9 +33,13 @@ pub(crate) struct Dispatcher<'a> {
     pub passes: Vec<BookPass<Plain>>,
 }
 
+/// Jobs were given until all replicas had ended: only `dispatch` makes it.
+#[derive(Clone, Copy)]
+pub(crate) struct Dispatched(());
+
 impl<'a> Dispatcher<'a> {
-    /// The passes of jobs, and those with which it looked at books.
-    pub(crate) fn into_passes(self) -> Result<Vec<BookPass<Plain>>, AllocError> {
+    /// The passes of jobs, and those with which it looked at books, once it has ended.
+    pub(crate) fn into_passes(self, _: Dispatched) -> Result<Vec<BookPass<Plain>>, AllocError> {
         let Dispatcher {
             watched,
             mut passes,
@@ -56,10 +60,9 @@ fn note<G>(
     answer: Ran,
 ) -> Result<u64, AllocError> {
     let count = watched.note(answer)?;
-    let station = watched.own.station;
+    let Own { station, book, .. } = watched.own;
     if let Some(figures) = threaded.plan.progress.figures() {
-        let ReplicaName { partition, replica } = station.role.name;
-        let own = figures.of(partition, replica);
+        let own = figures.of(book.partition, book.replica);
         own.add(Figure::Jobs, 1);
         own.set(Figure::IsLent, u64::from(station.lending.is_lent()));
     }
@@ -163,12 +166,12 @@ fn give_jobs<G: Gate + Sync, R: Threads + Wait + Sync>(
 fn note_progress<G>(threaded: &Threaded<'_, G>, all: &[Watched<'_>]) {
     let (mut time, mut records) = (u64::MAX, 0u64);
     for watched in all {
-        let name = watched.own.station.role.name;
-        if name.replica == 0 {
+        let book = watched.own.book;
+        if book.replica == 0 {
             records = records.saturating_add(watched.records);
             if watched.safe < time {
                 time = watched.safe;
-                threaded.plan.progress.note_last(name.partition);
+                threaded.plan.progress.note_last(book.partition);
             }
         }
     }
@@ -203,17 +206,17 @@ pub(crate) fn dispatch<G: Gate + Sync, R: Threads + Wait + Sync>(
     rt: &R,
     threaded: &Threaded<'_, G>,
     dispatcher: &mut Dispatcher<'_>,
-) -> Result<(), AllocError>
+) -> Result<Dispatched, AllocError>
     requires workers { (1 ≤ threaded.now.plan.now.workers) × (threaded.now.plan.now.workers ≤ 64) }
     requires seat { IsSeatOf threaded.now.board.now dispatcher.old.seat }
 {
     let mut were_done = false;
     for _ in 0..u64::MAX {
         if threaded.are_over() {
-            return Ok(());
+            return Ok(Dispatched(()));
         }
         let Ok(events) = give_jobs(rt, threaded, dispatcher) else {
-            threaded.fail();
+            let _ = threaded.fail();
             return Err(AllocError);
         };
         note_progress(threaded, dispatcher.watched.as_slice());
@@ -226,5 +229,5 @@ pub(crate) fn dispatch<G: Gate + Sync, R: Threads + Wait + Sync>(
             listen(dispatcher);
         }
     }
-    Ok(())
+    Ok(Dispatched(()))
 }

@@ -1,11 +1,14 @@
 //! The trace files of a run, made and closed.
 
-ghost use Rattle.std.specs.Prelude.{◌≡◌, ℕ, ◌<◌, All, IfErr, IfOk, List, OnOk, Option, Some};
-ghost use Rattle.std.specs.Prelude.{length, map, slice_get};
+ghost use Rattle.std.specs.Prelude.{◌≡◌, ℕ, ◌*◌, ◌<◌, All, IfErr, IfOk, IfSome, IsSomeAnd, List};
+ghost use Rattle.std.specs.Prelude.{None, OnOk, Option, Some, get_or, length, map, slice_get};
 ghost use Rattle.nm_files.specs.Files.{AreCounted, IsCounted};
-ghost use Rattle.nm_files.specs.Outputs.{AreWhole, Files, HasMade};
-ghost use Rattle.nm_run.specs.Faults.{IsOfFiles, run_fault};
-ghost use Rattle.nm_run.specs.Files.{AreClosed, AreFilesOf, IsFileOf};
+ghost use Rattle.nm_files.specs.Outputs.{AreWhole, Files, HasMade, HasMadeSome};
+ghost use Rattle.nm_model.specs.Partition.{receiver_of};
+ghost use Rattle.nm_sim.specs.Network.{net_of};
+ghost use Rattle.nm_run.specs.Faults.{IsFaultAt, IsOfFiles, IsOneOf, run_fault};
+ghost use Rattle.nm_run.specs.Files.{AreClosed, AreFilesOf, AreOpen, AreOwnFiles, IsFileOf};
+ghost use Rattle.nm_run.specs.Files.{IsNextFile};
 ghost use Rattle.nm_topology.specs.PartValues.{IfaceValue};
 
 use crate::report::IfaceTotals;
@@ -14,6 +17,7 @@ use nm_base::{IfaceNo, PartNo, Sink};
 use nm_book::channels::partition_of;
 use nm_files::names::name_of;
 use nm_files::{OutputFault, Outputs, TraceFiles};
+use nm_frames::ReplicaName;
 use nm_pcap::PcapOut;
 use nm_topology::Topology;
 use std::alloc::Global;
@@ -39,6 +43,8 @@ fn open_own<F: Outputs>(
     requires counted { AreCounted F.File.seen (F.made outputs.old) files.old.files.items }
 
     // So are they with this one, and none was placed.
+    ensures next { OnOk result (IsNextFile folder.entry.topology.now partition iface
+        files.old.files.items files.new.files.items) }
     ensures counted { OnOk result
         (AreCounted F.File.seen (F.made outputs.old) files.new.files.items) }
     ensures same { F.made outputs.new ≡ F.made outputs.old }
@@ -56,12 +62,14 @@ fn open_own<F: Outputs>(
 }
 
 /// Makes the trace files of the interfaces of a partition, in the order of the topology's text.
-pub(crate) fn open_files<F: Outputs>(
+fn open_files<F: Outputs>(
     alloc: Global,
     folder: TraceFolder<'_>,
     partition: PartNo,
     outputs: &mut F,
 ) -> Result<TraceFiles<F::File>, Stop>
+    ensures own { IfOk result (λ f. AreOpen folder.entry.topology.now partition
+        (length folder.entry.topology.now.ifaces) f.files.items) }
     ensures counted { IfOk result
         (λ f. AreCounted F.File.seen (F.made outputs.old) f.files.items) }
     ensures same { F.made outputs.new ≡ F.made outputs.old }
@@ -74,6 +82,26 @@ pub(crate) fn open_files<F: Outputs>(
     Ok(files)
 }
 
+/// The trace files of a replica, as they are made: those of its partition's interfaces, where it is
+/// the first replica of that, and else none.
+pub(crate) fn files_of<F: Outputs>(
+    alloc: Global,
+    folder: TraceFolder<'_>,
+    name: ReplicaName,
+    outputs: &mut F,
+) -> Result<TraceFiles<F::File>, Stop>
+    ensures own { IfOk result (λ f. AreOwnFiles folder.entry.topology.now name.partition
+        name.replica f.files.items) }
+    ensures counted { IfOk result
+        (λ f. AreCounted F.File.seen (F.made outputs.old) f.files.items) }
+    ensures same { F.made outputs.new ≡ F.made outputs.old }
+{
+    if name.replica > 0 {
+        return Ok(TraceFiles::new(alloc));
+    }
+    open_files(alloc, folder, name.partition, outputs)
+}
+
 /// The trace file of an interface, if there is one. The first replica of its partition has it,
 /// whose files stand behind those of so many replicas of each partition before.
 fn take_file<S: Sink>(
@@ -83,7 +111,10 @@ fn take_file<S: Sink>(
     files: &mut Vec<TraceFiles<S>>,
 ) -> Option<PcapOut<S>>
     requires { iface < length topology.now.ifaces }
-    ensures { (made : Option Files)
+    ensures own { IfSome result (λ file. IsSomeAnd (slice_get files.old.items
+        (receiver_of (net_of topology.now) iface * replicas))
+        (λ own. get_or own.files.items iface None ≡ Some file)) }
+    ensures counted { (made : Option Files)
         → All (λ own. AreCounted S.seen made own.files.items) files.old.items
         → IsCounted S.seen made result
         × All (λ own. AreCounted S.seen made own.files.items) files.new.items }
@@ -115,6 +146,7 @@ fn close_one<F: Outputs>(
         → IfOk result (λ c. (whole : List ℕ × List ℕ) × (F.closed c.file ≡ Some whole)
         × ((x : IfaceValue) → slice_get folder.entry.topology.now.ifaces iface ≡ Some x
         → IsFileOf folder.entry.folder.now x totals.now whole)) }
+    ensures told { IfErr result (IsFaultAt iface file.written) }
     ensures same { F.made outputs.new ≡ F.made outputs.old }
 {
     let written = file.written_octets();
@@ -176,7 +208,11 @@ pub(crate) fn place_files<F: Outputs>(
     ensures placed { (files : Files)
         → AreWhole (F.made outputs.old) (map (λ c. F.closed c.file) closed.items) files
         → OnOk result (HasMade (F.made outputs.old) (F.made outputs.new) files) }
+    ensures some { (files : Files)
+        → AreWhole (F.made outputs.old) (map (λ c. F.closed c.file) closed.items) files
+        → HasMadeSome (F.made outputs.old) (F.made outputs.new) files }
     ensures fault { IfErr result (λ stop. IsOfFiles (run_fault stop)) }
+    ensures told { IfErr result (IsOneOf (map (λ c. (c.iface, c.written)) closed.items)) }
 {
     for one in closed {
         if let Err(fault) = outputs.place(one.file) {
@@ -188,7 +224,8 @@ pub(crate) fn place_files<F: Outputs>(
 
 /// What the fault of a trace file is that had so many octets.
 fn fault_of(fault: OutputFault, iface: IfaceNo, written: u64) -> Stop
-    ensures { IsOfFiles (run_fault result) }
+    ensures files { IsOfFiles (run_fault result) }
+    ensures told { IsFaultAt iface written result }
 {
     match fault {
         OutputFault::Failed => Stop::File { iface, written },

@@ -3,6 +3,7 @@
 ghost use Rattle.std.specs.Prelude.{◌≡◌, ◌⊎◌, ◌↔◌, ℕ, ◌-◌, ◌<◌, All, IfOk, IsTrue, MatchResult};
 ghost use Rattle.std.specs.Prelude.{length};
 ghost use Rattle.nm_book.specs.declared.running.Ran.TheVariants.{All as AllDone, Limit, Memory};
+ghost use Rattle.nm_run.specs.Replicas.{AreWordsOf};
 ghost use Rattle.nm_shared.specs.Board.{IsSeatOf};
 
 use crate::stations::Own;
@@ -47,7 +48,9 @@ fn words_of(
     topology: &Topology,
     partition: PartNo,
     replicas: u8,
-) -> Result<Vec<usize>, AllocError> {
+) -> Result<Vec<usize>, AllocError>
+    ensures { IfOk result (λ words. AreWordsOf topology.now partition replicas words.items) }
+{
     let mut words = Vec::new(alloc);
     for number in 0..topology.receivers().len() {
         let channel = topology.channel_number(number);
@@ -89,9 +92,8 @@ impl<'a> Watched<'a> {
         own: Own<'a>,
         pass: Pass<Plain>,
     ) -> Result<Self, AllocError> {
-        let partition = own.station.role.name.partition;
         Ok(Watched {
-            words: words_of(alloc, topology, partition, replicas)?,
+            words: words_of(alloc, topology, own.book.partition, replicas)?,
             own,
             pass,
             safe: 0,
@@ -104,7 +106,7 @@ impl<'a> Watched<'a> {
     /// Its pass of the book.
     pub(crate) fn into_pass(self) -> BookPass<Plain> {
         BookPass {
-            book: self.own.station.role.index,
+            book: self.own.index,
             pass: self.pass,
         }
     }

@@ -1,13 +1,16 @@
 //! Where the replicas of a run listen, and what is kept of each from then on.
 
-use crate::stations::{Role, Station};
+ghost use Rattle.std.specs.Prelude.{◌==◌, ◌≡◌, ◌∷◌, [], IfOk, OnOk, map, not};
+ghost use Rattle.std.specs.Net.Addr.{ipv4_octets};
+ghost use Rattle.nm_run.specs.Replicas.{IsNextListener, listener_pair};
+
+use crate::stations::Station;
 use crate::stop::Stop;
 use mio::net::TcpListener;
 use mio::{Poll, Token, Waker};
-use nm_base::PartNo;
-use nm_frames::ReplicaName;
 use nm_peers::Listener;
 use nm_replica::Lending;
+use nm_shared::{Plain, SharedBook};
 use std::alloc::Global;
 use std::io;
 use std::net::{Ipv4Addr, Net, SocketAddr};
@@ -22,8 +25,8 @@ pub(crate) struct Post {
     pub poll: Poll,
 }
 
-/// What the replicas of a run begin with, by partition and replica: what is kept of each, its post,
-/// and where it listens.
+/// What the replicas of a run begin with, in the order of their books: what is kept of each, its
+/// post, and where it listens.
 #[derive(Drop)]
 pub(crate) struct Posts {
     pub stations: Vec<Station>,
@@ -38,15 +41,26 @@ pub(crate) fn woken_poll<R: Net>(net: &R) -> io::Result<(Poll, Waker)> {
     Ok((poll, waker))
 }
 
-/// A socket that listens at a free port of 127.0.0.1, for this replica.
-fn listen<R: Net>(net: &R, name: ReplicaName) -> io::Result<(TcpListener, Listener)> {
-    let socket = TcpListener::bind(net, SocketAddr::from((Ipv4Addr::LOCALHOST, 0)))?;
+/// Where the replicas of a run listen: 127.0.0.1 (RFC 1122, section 3.2.1.3), which no other
+/// machine reaches.
+fn own_host() -> Ipv4Addr
+    ensures { ipv4_octets result ≡ 127 ∷ 0 ∷ 0 ∷ 1 ∷ [] }
+{
+    Ipv4Addr::LOCALHOST
+}
+
+/// A socket that listens at a free port of 127.0.0.1, for the replica of this book.
+fn listen<R: Net>(net: &R, book: &SharedBook<Plain>) -> io::Result<(TcpListener, Listener)>
+    ensures { IfOk result (λ opened. (opened.1.partition ≡ book.now.partition)
+        × (opened.1.replica ≡ book.now.replica)) }
+{
+    let socket = TcpListener::bind(net, SocketAddr::from((own_host(), 0)))?;
     match socket.local_addr()? {
         SocketAddr::V4(address) => Ok((
             socket,
             Listener {
-                partition: name.partition,
-                replica: name.replica,
+                partition: book.partition,
+                replica: book.replica,
                 address,
             },
         )),
@@ -54,23 +68,29 @@ fn listen<R: Net>(net: &R, name: ReplicaName) -> io::Result<(TcpListener, Listen
     }
 }
 
-/// Opens the post of one replica, whose book is lent so at first.
-fn open_one<R: Net>(net: &R, posts: &mut Posts, role: Role, lending: Lending) -> Result<(), Stop> {
-    let (socket, listener) = listen(net, role.name)?;
+/// Opens the post of the replica of a book, which is lent so at first.
+fn open_one<R: Net>(
+    net: &R,
+    posts: &mut Posts,
+    book: &SharedBook<Plain>,
+    lending: Lending,
+) -> Result<(), Stop>
+    ensures { OnOk result (IsNextListener posts.old.listeners.items posts.new.listeners.items
+        (book.now.partition, book.now.replica)) }
+{
+    let (socket, listener) = listen(net, book)?;
     let (poll, waker) = woken_poll(net)?;
     posts.posts.push(Post { socket, poll })?;
     posts.listeners.push(listener)?;
-    posts.stations.push(Station {
-        role,
-        lending,
-        waker,
-    })?;
+    posts.stations.push(Station { lending, waker })?;
     Ok(())
 }
 
 /// Each book is lent to the pool at first. A partition that is alone has no messages to wait for:
 /// its own threads run its books, and write records while they are near the processor.
-fn first_lending(partitions: u32) -> Lending {
+fn first_lending(partitions: u32) -> Lending
+    ensures { result.has_pool ≡ not (partitions == 1) }
+{
     if partitions == 1 {
         Lending::alone()
     } else {
@@ -78,7 +98,7 @@ fn first_lending(partitions: u32) -> Lending {
     }
 }
 
-/// Opens the posts of all replicas.
+/// Opens the posts of all replicas, in the order of their books.
 ///
 /// # Errors
 ///
@@ -87,22 +107,18 @@ pub(crate) fn open_posts<R: Net>(
     net: &R,
     alloc: Global,
     partitions: u32,
-    replicas: u8,
-) -> Result<Posts, Stop> {
+    books: &[SharedBook<Plain>],
+) -> Result<Posts, Stop>
+    ensures { IfOk result (λ p. map listener_pair p.listeners.items
+        ≡ map (λ b. (b.partition, b.replica)) books.now) }
+{
     let mut posts = Posts {
         stations: Vec::new(alloc),
         posts: Vec::new(alloc),
         listeners: Vec::new(alloc),
     };
-    for partition in 0..partitions {
-        for replica in 0..replicas {
-            let name = ReplicaName {
-                partition: PartNo::new(partition),
-                replica,
-            };
-            let role = Role::new(name, replicas, posts.stations.len());
-            open_one(net, &mut posts, role, first_lending(partitions))?;
-        }
+    for number in 0..books.len() {
+        open_one(net, &mut posts, &books[number], first_lending(partitions))?;
     }
     Ok(posts)
 }

@@ -1,11 +1,13 @@
 //! A run of all partitions.
 
-ghost use Rattle.std.specs.Prelude.{◌≡◌, ◌⊎◌, ◌≤◌, All, IfErr, IfOk, length};
+ghost use Rattle.std.specs.Prelude.{◌≡◌, ◌⊎◌, ◌≤◌, All, IfErr, IfOk, length, map};
 ghost use Rattle.std.specs.Arc.{arc_value};
 ghost use Rattle.nm_files.specs.Files.{AreCounted};
 ghost use Rattle.nm_run.specs.Faults.{HasReason, IsOfFiles};
 ghost use Rattle.nm_replica.specs.Seats.{board_of};
-ghost use Rattle.nm_run.specs.Files.{AreClosed, AreFilesOf, HaveFiles};
+ghost use Rattle.nm_peers.specs.Peers.{ArePeers};
+ghost use Rattle.nm_run.specs.Files.{AreClosed, AreFilesOf, AreNamed, AreOwnFiles, HaveFiles};
+ghost use Rattle.nm_run.specs.Replicas.{AreAllReplicas};
 ghost use Rattle.nm_shared.specs.Board.{AreFirstOwners};
 ghost use Rattle.nm_run.specs.Report.{AreOfRun, IsCertifiedRun};
 
@@ -13,7 +15,7 @@ use crate::closing::{certify_all, close_run};
 use crate::dispatching::Dispatcher;
 use crate::endings::check_endings;
 use crate::fault::RunFault;
-use crate::files::{ClosedFile, TraceFolder, close_all, open_files, place_files};
+use crate::files::{ClosedFile, TraceFolder, close_all, files_of, place_files};
 use crate::jobs::Watched;
 use crate::posts::{Post, Posts, open_posts, woken_poll};
 use crate::report::{Report, report_of};
@@ -25,7 +27,7 @@ use crate::threads::Threaded;
 use mio::{Events, Poll};
 use nm_base::PartNo;
 use nm_book::{Book, BookFault};
-use nm_files::{Outputs, TraceFiles};
+use nm_files::Outputs;
 use nm_peers::peers_of;
 use nm_progress::Progress;
 use nm_replica::seats::Dealt;
@@ -58,7 +60,9 @@ fn share_one(
     topology: &Arc<Topology>,
     partition: PartNo,
     replica: u8,
-) -> Result<SharedBook<Plain>, Stop> {
+) -> Result<SharedBook<Plain>, Stop>
+    ensures { IfOk result (λ b. (b.partition ≡ partition) × (b.replica ≡ replica)) }
+{
     let (counts, whole) = Plain::open();
     let topology = Arc::try_clone(topology)?;
     match SharedBook::new(alloc, topology, partition, replica, counts, whole) {
@@ -68,8 +72,11 @@ fn share_one(
     }
 }
 
-/// Shares the replicas of all partitions.
-fn share_all(alloc: Global, plan: &RunPlan<'_>) -> Result<Vec<SharedBook<Plain>>, Stop> {
+/// Shares the replicas of all partitions, by partition and replica.
+fn share_all(alloc: Global, plan: &RunPlan<'_>) -> Result<Vec<SharedBook<Plain>>, Stop>
+    ensures { IfOk result (λ books. AreAllReplicas (arc_value plan.now.topology.now).partitions
+        plan.now.replicas (map (λ b. (b.partition, b.replica)) books.items)) }
+{
     let mut books = Vec::new(alloc);
     for partition in 0..plan.topology.partitions() {
         for replica in 0..plan.replicas {
@@ -103,23 +110,19 @@ fn holdings_of<'a, F: Outputs, G, R: Wait>(
     ensures seats { IfOk result (λ h. h.seats ≡ seats.entry) }
     ensures counted { IfOk result
         (λ h. AreCounted F.File.seen (F.made outputs.old) h.files.files.items) }
+    ensures own { IfOk result (λ h. AreOwnFiles (arc_value threaded.now.plan.now.topology.now)
+        own.entry.book.now.partition own.entry.book.now.replica h.files.files.items) }
     ensures same { F.made outputs.new ≡ F.made outputs.old }
 {
     let folder = TraceFolder {
         topology: threaded.plan.topology,
         folder: threaded.plan.folder,
     };
-    let name = own.station.role.name;
-    let files = if name.replica == 0 {
-        open_files(threaded.alloc, folder, name.partition, outputs)?
-    } else {
-        TraceFiles::new(threaded.alloc)
-    };
     Ok(Holdings {
+        files: files_of(threaded.alloc, folder, own.name(), outputs)?,
         pass: own.book.pass(rt)?,
         passes: passes_of(rt, threaded.alloc, threaded.books)?,
         seats,
-        files,
     })
 }
 
@@ -132,7 +135,13 @@ fn side_of<'a, F: Outputs, G, R: Wait>(
     seats: OwnSeats<'a>,
     outputs: &mut F,
 ) -> Result<Side<'a, F::File>, Stop>
+    ensures own { IfOk result (λ s. s.own ≡ own.entry) }
+    ensures peers { IfOk result (λ s. ArePeers (arc_value threaded.now.plan.now.topology.now)
+        own.entry.book.now.partition threaded.now.listeners.now s.peers) }
     ensures seats { IfOk result (λ s. s.holdings.seats ≡ seats.entry) }
+    ensures files { IfOk result (λ s. AreOwnFiles (arc_value threaded.now.plan.now.topology.now)
+        own.entry.book.now.partition own.entry.book.now.replica
+        s.holdings.files.files.items) }
     ensures counted { IfOk result
         (λ s. AreCounted F.File.seen (F.made outputs.old) s.holdings.files.files.items) }
     ensures same { F.made outputs.new ≡ F.made outputs.old }
@@ -140,7 +149,7 @@ fn side_of<'a, F: Outputs, G, R: Wait>(
     let peers = peers_of(
         threaded.alloc,
         threaded.plan.topology,
-        own.station.role.name.partition,
+        own.book.partition,
         threaded.listeners,
     )?;
     Ok(Side {
@@ -170,10 +179,15 @@ fn sides_of<'a, F: Outputs, G, R: Wait>(
     let mut rest = OwnSeats::all(threaded.board, owners);
     let replicas = threaded.stations.iter().zip(threaded.books);
     for (post, (station, book)) in posts.into_iter().zip(replicas) {
-        let name = station.role.name;
-        let Dealt { own: seats, others } = rest.deal(threaded.alloc, threaded.plan.topology, name)?;
+        let own = Own {
+            index: sides.len(),
+            station,
+            book,
+        };
+        let topology = threaded.plan.topology;
+        let Dealt { own: seats, others } = rest.deal(threaded.alloc, topology, own.name())?;
         rest = others;
-        sides.push(side_of(rt, threaded, Own { station, book }, post, seats, outputs)?)?;
+        sides.push(side_of(rt, threaded, own, post, seats, outputs)?)?;
     }
     Ok(sides)
 }
@@ -186,7 +200,11 @@ fn watch_all<'a, G, R: Wait>(
     let (topology, replicas) = (threaded.plan.topology, threaded.plan.replicas);
     let mut watched = Vec::new(threaded.alloc);
     for (station, book) in threaded.stations.iter().zip(threaded.books) {
-        let own = Own { station, book };
+        let own = Own {
+            index: watched.len(),
+            station,
+            book,
+        };
         watched.push(Watched::new(threaded.alloc, topology, replicas, own, book.pass(rt)?)?)?;
     }
     Ok(watched)
@@ -237,7 +255,7 @@ where
         stations,
         posts,
         listeners,
-    } = open_posts(rt, alloc, plan.topology.partitions(), plan.replicas)?;
+    } = open_posts(rt, alloc, plan.topology.partitions(), books)?;
     let (poll, waker) = woken_poll(rt)?;
     let (ended, has_failed) = (AtomicUsize::new(0), AtomicBool::new(false));
     let threaded = Threaded {
@@ -325,6 +343,10 @@ where
         (HasReason (arc_value plan.now.topology.now) plan.now.replicas) }
     ensures kept { IfErr result (λ fault. IsOfFiles fault
         ⊎ (F.made outputs.new ≡ F.made outputs.old)) }
+
+    // However it ends, no file gets its name before the run is certified.
+    ensures named { AreNamed (F.made outputs.old) (F.made outputs.new) plan.now.folder.now
+        (arc_value plan.now.topology.now) }
 {
     let (report, closed) = run_certified(rt, alloc, &*plan, outputs, &*gate)?;
     place_files(outputs, closed)?;

@@ -1,6 +1,6 @@
 //! The replicas of a run, each in a thread of its own.
 
-ghost use Rattle.std.specs.Prelude.{◌≡◌, ◌⊎◌, ◌≤◌, All, IfOk, Option};
+ghost use Rattle.std.specs.Prelude.{◌≡◌, ◌⊎◌, ◌≤◌, All, IfOk, Option, false, true};
 ghost use Rattle.nm_replica.specs.declared.served.Served.TheVariants.{Ended, Memory, Net};
 ghost use Rattle.nm_files.specs.Files.{AreCounted};
 ghost use Rattle.nm_files.specs.Outputs.{Files};
@@ -14,7 +14,7 @@ use crate::posts::Post;
 use crate::runtime::Runtime;
 use crate::stations::Own;
 use crate::stop::Stop;
-use crate::threads::Threaded;
+use crate::threads::{Threaded, Told};
 use nm_base::{PartNo, Sink};
 use nm_files::TraceFiles;
 use nm_frames::ReplicaName;
@@ -51,6 +51,8 @@ pub(crate) struct SideEnd<S> {
     /// Where its book stands among those of the run.
     pub index: usize,
     pub served: Served,
+    /// The others were told, where it was not done.
+    pub told: Told,
     /// The pass of its book.
     pub pass: Pass<Plain>,
     /// A pass of each book of the run, in the order of the books.
@@ -71,6 +73,39 @@ impl<S: Sink> Promise<SideEnd<S>> for TookRecords<S> {
         p.0.value.files.items end.files.files.items };
 }
 
+/// Serves a replica of the run over its connections until it ends. It calls these partitions, and
+/// these replicas call it.
+fn serve_as<S: Sink, G: Gate, R: Net + Wait + Clock + Drop + Copy>(
+    rt: &R,
+    threaded: &Threaded<'_, G>,
+    own: Own<'_>,
+    peers: (&[PartNo], &[ReplicaName]),
+    service: &Service<'_, Plain>,
+    holdings: &mut Holdings<'_, Plain, S>,
+    transport: &mut TcpTransport<R>,
+) -> Served
+    // It is this replica of this run, with these neighbours.
+    requires own { (service.now.book ≡ own.book)
+        × (service.now.lending.now ≡ own.station.now.lending) }
+    requires run { (service.now.topology ≡ threaded.now.plan.now.topology)
+        × (service.now.books ≡ threaded.now.books) }
+    requires peers { (service.now.peers ≡ peers.0) × (service.now.callers ≡ peers.1) }
+
+    // It is stalled after a minute, and its records leave its book while it runs.
+    requires limits { (service.now.idle_limit ≡ MAX_IDLE_PERIODS)
+        × (service.now.run_limit ≡ OWN_EVENTS) × (service.now.keeps_records ≡ false) }
+    ensures took { result ≡ Ended → TookSome S.seen
+        holdings.old.files.files.items holdings.new.files.files.items }
+{
+    let gate = SideGate {
+        gate: threaded.gate,
+        has_failed: threaded.has_failed,
+        dispatcher: threaded.dispatcher,
+        lending: &own.station.lending,
+    };
+    run_replica(rt, threaded.alloc, service, holdings, transport, &gate)
+}
+
 /// Serves a replica over its connections until it ends. It calls these partitions, and these
 /// replicas call it. The dispatcher notes how far it is.
 fn serve<S: Sink, G: Gate, R: Net + Wait + Clock + Drop + Copy>(
@@ -84,31 +119,20 @@ fn serve<S: Sink, G: Gate, R: Net + Wait + Clock + Drop + Copy>(
     ensures took { result ≡ Ended → TookSome S.seen
         holdings.old.files.files.items holdings.new.files.files.items }
 {
-    let Own { station, book } = own;
-    let ReplicaName { partition, replica } = station.role.name;
     let service = Service {
         topology: threaded.plan.topology,
-        partition,
-        replica,
-        book,
+        book: own.book,
         peers: peers.0,
         callers: peers.1,
         books: threaded.books,
-        sister: station.role.sister,
         idle_limit: MAX_IDLE_PERIODS,
         run_limit: OWN_EVENTS,
-        lending: &station.lending,
+        lending: &own.station.lending,
         progress: Some(threaded.plan.progress),
         notes_progress: false,
         keeps_records: false,
     };
-    let gate = SideGate {
-        gate: threaded.gate,
-        has_failed: threaded.has_failed,
-        dispatcher: threaded.dispatcher,
-        lending: &station.lending,
-    };
-    run_replica(rt, threaded.alloc, &service, holdings, transport, &gate)
+    serve_as(rt, threaded, own, peers, &service, holdings, transport)
 }
 
 /// How serving ends where there is no transport.
@@ -122,12 +146,23 @@ fn served_of(error: &io::Error) -> Served
     }
 }
 
+/// Tells all other replicas to end too, where one ended so that was not done.
+fn tell_others<G>(threaded: &Threaded<'_, G>, served: &Served) -> Told
+    ensures { (served.now ≡ Ended) ⊎ (result.are_all ≡ true) }
+{
+    if *served != Served::Ended {
+        return threaded.fail();
+    }
+    Told::NOBODY
+}
+
 /// Runs a replica until it ends. Where it was not done, all others are told to end too.
 pub(crate) fn run_side<S: Sink, G: Gate, R: Net + Wait + Clock + Drop + Copy>(
     rt: &R,
     threaded: &Threaded<'_, G>,
     side: Side<'_, S>,
 ) -> SideEnd<S>
+    ensures told { (result.served ≡ Ended) ⊎ (result.told.are_all ≡ true) }
     ensures took { result.served ≡ Ended → TookSome S.seen
         side.entry.holdings.files.files.items result.files.files.items }
 {
@@ -137,7 +172,7 @@ pub(crate) fn run_side<S: Sink, G: Gate, R: Net + Wait + Clock + Drop + Copy>(
         post,
         peers,
     } = side;
-    let index = own.station.role.index;
+    let index = own.index;
     let Post { socket, poll } = post;
     let Peers {
         partitions,
@@ -151,9 +186,7 @@ pub(crate) fn run_side<S: Sink, G: Gate, R: Net + Wait + Clock + Drop + Copy>(
             serve(rt, threaded, own, peers, &mut holdings, &mut transport)
         }
     };
-    if served != Served::Ended {
-        threaded.fail();
-    }
+    let told = tell_others(threaded, &served);
     threaded.count_end();
     let Holdings {
         pass,
@@ -164,6 +197,7 @@ pub(crate) fn run_side<S: Sink, G: Gate, R: Net + Wait + Clock + Drop + Copy>(
     SideEnd {
         index,
         served,
+        told,
         pass,
         passes,
         files,
@@ -213,20 +247,20 @@ pub(crate) fn run_threads<S: Sink + Drop + Send, G: Gate + Sync, R: Runtime>(
                     { run_side(rt, threaded, side) },
                 );
                 let Ok(thread) = begun else {
-                    threaded.fail();
+                    let _ = threaded.fail();
                     return Err(Stop::Net);
                 };
                 if threads.push(thread).is_err() {
-                    threaded.fail();
+                    let _ = threaded.fail();
                     return Err(Stop::Memory);
                 }
             }
-            dispatch(rt, threaded, &mut dispatcher)?;
+            let dispatched = dispatch(rt, threaded, &mut dispatcher)?;
             let mut ends = Vec::new(threaded.alloc);
             for thread in threads {
                 ends.push(thread.join(rt))?;
             }
-            Ok((ends, dispatcher.into_passes()?))
+            Ok((ends, dispatcher.into_passes(dispatched)?))
         },
     )
 }

@@ -1,5 +1,7 @@
 //! What the threads of a run share.
 
+ghost use Rattle.std.specs.Prelude.{◌≡◌, nat_le, true};
+
 use crate::run::RunPlan;
 use crate::stations::Station;
 use mio::Waker;
@@ -16,7 +18,7 @@ pub(crate) struct Threaded<'a, G> {
     pub plan: &'a RunPlan<'a>,
     /// The books of all replicas, by partition and replica.
     pub books: &'a [SharedBook<Plain>],
-    /// The replicas, in the same order.
+    /// What is kept of each, in the same order.
     pub stations: &'a [Station],
     /// Where they listen.
     pub listeners: &'a [Listener],
@@ -30,6 +32,24 @@ pub(crate) struct Threaded<'a, G> {
     pub gate: &'a G,
 }
 
+/// Whether so many replicas of so many are all.
+fn is_over(ended: usize, replicas: usize) -> bool
+    ensures { result ≡ nat_le replicas ended }
+{
+    ended >= replicas
+}
+
+/// Whether all replicas were told that the run has failed: only `Threaded::fail` says so.
+#[derive(Clone, Copy)]
+pub(crate) struct Told {
+    are_all: bool,
+}
+
+impl Told {
+    /// Nobody was told.
+    pub(crate) const NOBODY: Told = Told { are_all: false };
+}
+
 impl<'a, G> Threaded<'a, G> {
     /// Wakes all replicas.
     pub(crate) fn wake_all(&self) {
@@ -39,9 +59,12 @@ impl<'a, G> Threaded<'a, G> {
     }
 
     /// Tells all replicas that the run has failed.
-    pub(crate) fn fail(&self) {
+    pub(crate) fn fail(&self) -> Told
+        ensures { result.are_all ≡ true }
+    {
         self.has_failed.store(true, Ordering::SeqCst);
         self.wake_all();
+        Told { are_all: true }
     }
 
     /// One more replica has ended.
@@ -52,6 +75,6 @@ impl<'a, G> Threaded<'a, G> {
 
     /// Whether all replicas have ended.
     pub(crate) fn are_over(&self) -> bool {
-        self.ended.load(Ordering::SeqCst) >= self.stations.len()
+        is_over(self.ended.load(Ordering::SeqCst), self.stations.len())
     }
 }

@@ -51,7 +51,12 @@ pub struct Locked<C: Counts> {
 /// with it is one act, in one go.
 #[derive(Drop)]
 pub struct SharedBook<C: Counts> {
+    /// Which replica it is, which no act changes: its partition, and 0 or 1.
+    pub partition: PartNo,
+    pub replica: u8,
     lock: Mutex<Locked<C>>,
+    ghost named: { C.exact ≡ true
+        → (C.home.partition ≡ partition) × (C.home.replica ≡ replica) },
 }
 
 /// A book that no thread shares any more, with its totals.
@@ -206,9 +211,13 @@ impl<C: Counts> SharedBook<C> {
             → is_replica (arc_value topology) partition replica ≡ false }
         ensures refused { is_replica (arc_value topology) partition replica ≡ false
             → result ≡ Err (Refused NoSuch) }
+        ensures named { IfOk result
+            (λ b. (b.partition ≡ partition) × (b.replica ≡ replica)) }
     {
         let book = Book::new(alloc, topology, partition, replica)?;
         Ok(SharedBook {
+            partition,
+            replica,
             lock: Mutex::new(Locked {
                 book,
                 counts,
@@ -222,6 +231,8 @@ impl<C: Counts> SharedBook<C> {
     /// Shares again what came back.
     pub fn again(held: Locked<C>) -> SharedBook<C> {
         SharedBook {
+            partition: held.book.partition(),
+            replica: held.book.replica(),
             lock: Mutex::new(held),
         }
     }

@@ -4,20 +4,20 @@ ghost use Rattle.std.specs.Prelude.{◌<◌, ◌≤◌};
 
 /// A linear congruential generator of 64 bits, whose upper bits are used.
 #[derive(Drop)]
-pub struct Chance {
+pub(crate) struct Chance {
     state: u64,
 }
 
 impl Chance {
     /// The numbers of a seed.
-    pub fn new(seed: u64) -> Self {
+    pub(crate) fn new(seed: u64) -> Self {
         let mut chance = Chance { state: seed };
         let _ = chance.below(2);
         chance
     }
 
     /// The next number, which is below this bound.
-    pub fn below(&mut self, bound: u64) -> u64
+    pub(crate) fn below(&mut self, bound: u64) -> u64
         requires { 1 ≤ bound }
         ensures { result < bound }
     {
@@ -29,7 +29,7 @@ impl Chance {
     }
 
     /// Whether something comes about that does so once in so many times.
-    pub fn once_in(&mut self, times: u64) -> bool
+    pub(crate) fn once_in(&mut self, times: u64) -> bool
         requires { 1 ≤ times }
     {
         self.below(times) == 0

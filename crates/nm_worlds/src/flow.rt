@@ -9,7 +9,7 @@ use std::rc::Rc;
 const MAX_WRITTEN: usize = 4_096;
 
 /// The time of a world, in milliseconds.
-pub type Clock = Rc<Cell<u64>>;
+pub(crate) type Clock = Rc<Cell<u64>>;
 
 /// Octets that can be read from this time on.
 #[derive(Drop)]
@@ -20,7 +20,7 @@ struct Chunk {
 
 /// What is on its way in one direction.
 #[derive(Drop)]
-pub struct Flow {
+pub(crate) struct Flow {
     alloc: Global,
     chunks: VecDeque<Chunk>,
     /// How long an octet is on its way, in milliseconds.
@@ -37,10 +37,10 @@ pub struct Flow {
 }
 
 /// A direction that both ends have.
-pub type Way = Rc<RefCell<Flow>>;
+pub(crate) type Way = Rc<RefCell<Flow>>;
 
 /// A direction whose octets take so long, and which breaks after so many.
-pub fn way(alloc: Global, delay: u64, left: usize) -> Result<Way, AllocError> {
+pub(crate) fn way(alloc: Global, delay: u64, left: usize) -> Result<Way, AllocError> {
     let flow = Flow {
         alloc,
         chunks: VecDeque::new(alloc),
@@ -58,7 +58,7 @@ pub fn way(alloc: Global, delay: u64, left: usize) -> Result<Way, AllocError> {
 
 /// What a read of a direction found.
 #[derive(Clone, Copy)]
-pub enum Found {
+pub(crate) enum Found {
     /// So many octets stand at the front of the buffer.
     Octets(usize),
     Nothing,
@@ -68,7 +68,7 @@ pub enum Found {
 
 impl Flow {
     /// From now to then there is an outage: what is written meanwhile arrives after it.
-    pub fn hold(&mut self, until: u64) {
+    pub(crate) fn hold(&mut self, until: u64) {
         self.held_until = until;
     }
 
@@ -88,7 +88,7 @@ impl Flow {
 
     /// Puts the first of these octets on their way: how many, or `None` where the connection
     /// breaks.
-    pub fn put(&mut self, now: u64, octets: &[u8]) -> Option<usize> {
+    pub(crate) fn put(&mut self, now: u64, octets: &[u8]) -> Option<usize> {
         let count = octets.len().min(self.left).min(MAX_WRITTEN);
         if self.is_cut || count == 0 {
             self.is_cut = true;
@@ -106,7 +106,7 @@ impl Flow {
     }
 
     /// Whether octets have arrived.
-    pub fn has_arrived(&self, now: u64) -> bool {
+    pub(crate) fn has_arrived(&self, now: u64) -> bool {
         match self.chunks.front() {
             Some(chunk) => chunk.at <= now,
             None => self.is_over || self.is_cut,
@@ -114,7 +114,7 @@ impl Flow {
     }
 
     /// Takes what has arrived first to the front of a buffer.
-    pub fn take(&mut self, now: u64, buffer: &mut [u8]) -> Found {
+    pub(crate) fn take(&mut self, now: u64, buffer: &mut [u8]) -> Found {
         let Some(chunk) = self.chunks.front_mut() else {
             return if self.is_cut {
                 Found::Cut

@@ -42,7 +42,7 @@ fn end(way: &Way) {
 
 /// The network of a world.
 #[derive(Drop)]
-pub struct Hub {
+pub(crate) struct Hub {
     alloc: Global,
     clock: Clock,
     pub weather: Weather,
@@ -54,11 +54,11 @@ pub struct Hub {
 }
 
 /// A network that all machines have.
-pub type Shared = Rc<RefCell<Hub>>;
+pub(crate) type Shared = Rc<RefCell<Hub>>;
 
 impl Hub {
     /// So many machines, which are there and are not connected.
-    pub fn new(
+    pub(crate) fn new(
         alloc: Global,
         clock: Clock,
         weather: Weather,
@@ -108,7 +108,7 @@ impl Hub {
     }
 
     /// A machine calls another, which is its peer of this number.
-    pub fn call(&mut self, from: usize, to: usize, peer: usize) -> Option<WorldWire>
+    pub(crate) fn call(&mut self, from: usize, to: usize, peer: usize) -> Option<WorldWire>
         ensures { IfSome result (λ w. IsNew w × (w.peer ≡ Some peer)) }
     {
         let now = self.clock.get();
@@ -149,17 +149,17 @@ impl Hub {
     }
 
     /// Whether a machine stands still.
-    pub fn is_paused(&self, machine: usize) -> bool {
+    pub(crate) fn is_paused(&self, machine: usize) -> bool {
         self.weather.pause.is_of(machine, self.clock.get())
     }
 
     /// Whether a machine has too little for one more connection.
-    pub fn is_short(&self, machine: usize) -> bool {
+    pub(crate) fn is_short(&self, machine: usize) -> bool {
         self.weather.shortage.is_of(machine, self.clock.get())
     }
 
     /// The next connection that somebody began to this machine, if it has arrived.
-    pub fn accept(&mut self, machine: usize) -> Option<WorldWire>
+    pub(crate) fn accept(&mut self, machine: usize) -> Option<WorldWire>
         ensures { IfSome result IsNew }
     {
         if self.is_short(machine) {
@@ -175,7 +175,7 @@ impl Hub {
     }
 
     /// A machine vanishes. Its connections break, or nobody learns it; calls to it are lost.
-    pub fn lose(&mut self, machine: usize, is_silent: bool) {
+    pub(crate) fn lose(&mut self, machine: usize, is_silent: bool) {
         if let Some(slot) = self.are_there.get_mut(machine) {
             *slot = false;
         }
@@ -194,7 +194,7 @@ impl Hub {
     }
 
     /// A replica has ended, and the system closes its connections.
-    pub fn leave(&mut self, machine: usize) {
+    pub(crate) fn leave(&mut self, machine: usize) {
         for pair in self.pairs.iter() {
             let [there, back] = &pair.ways;
             if pair.machines[0] == machine {
@@ -209,14 +209,14 @@ impl Hub {
     }
 
     /// It is there again.
-    pub fn find(&mut self, machine: usize) {
+    pub(crate) fn find(&mut self, machine: usize) {
         if let Some(slot) = self.are_there.get_mut(machine) {
             *slot = true;
         }
     }
 
     /// What is written now arrives after the outage, if there is one.
-    pub fn hold(&mut self) {
+    pub(crate) fn hold(&mut self) {
         if !self.weather.is_out(self.clock.get()) {
             return;
         }

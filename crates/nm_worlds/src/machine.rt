@@ -21,7 +21,7 @@ const RUN_LIMIT: u64 = 64;
 
 /// What does not change of a replica.
 #[derive(Clone, Copy)]
-pub struct Role<'x> {
+pub(crate) struct Role<'x> {
     pub topology: &'x Arc<Topology>,
     pub book: &'x SharedBook<Plain>,
     pub name: ReplicaName,
@@ -32,7 +32,7 @@ pub struct Role<'x> {
 
 /// A replica that is served.
 #[derive(Drop)]
-pub struct Machine<'x> {
+pub(crate) struct Machine<'x> {
     holdings: Holdings<'x, Plain, MemSink>,
     running: Running<WorldWire>,
     transport: WorldTransport,
@@ -45,13 +45,10 @@ pub struct Machine<'x> {
 fn running_of(alloc: Global, role: &Role<'_>) -> Result<Running<WorldWire>, AllocError> {
     let service = Service {
         topology: role.topology,
-        partition: role.name.partition,
-        replica: role.name.replica,
         book: role.book,
         peers: role.partitions,
         callers: role.callers,
         books: &[],
-        sister: None,
         idle_limit: IDLE_LIMIT,
         run_limit: RUN_LIMIT,
         lending: role.lending,
@@ -64,7 +61,7 @@ fn running_of(alloc: Global, role: &Role<'_>) -> Result<Running<WorldWire>, Allo
 
 impl<'x> Machine<'x> {
     /// One that has no connection so far.
-    pub fn new<R: Wait>(
+    pub(crate) fn new<R: Wait>(
         rt: &R,
         alloc: Global,
         role: &Role<'_>,
@@ -86,19 +83,22 @@ impl<'x> Machine<'x> {
     }
 
     /// It makes a poll at this time, unless it has ended: whether it ends by it.
-    pub fn poll<R: Wait>(&mut self, rt: &R, alloc: Global, role: &Role<'_>, now: u64) -> bool {
+    pub(crate) fn poll<R: Wait>(
+        &mut self,
+        rt: &R,
+        alloc: Global,
+        role: &Role<'_>,
+        now: u64,
+    ) -> bool {
         if self.served.is_some() {
             return false;
         }
         let service = Service {
             topology: role.topology,
-            partition: role.name.partition,
-            replica: role.name.replica,
             book: role.book,
             peers: role.partitions,
             callers: role.callers,
             books: &[],
-            sister: None,
             idle_limit: IDLE_LIMIT,
             run_limit: RUN_LIMIT,
             lending: role.lending,
@@ -123,17 +123,17 @@ impl<'x> Machine<'x> {
     }
 
     /// Whether it has ended as done before this time.
-    pub fn has_left(&self, time: u64) -> bool {
+    pub(crate) fn has_left(&self, time: u64) -> bool {
         self.served == Some(Served::Ended) && self.ended_at < time
     }
 
     /// Whether its book is done.
-    pub fn is_done<R: Wait>(&mut self, rt: &R, role: &Role<'_>) -> bool {
+    pub(crate) fn is_done<R: Wait>(&mut self, rt: &R, role: &Role<'_>) -> bool {
         role.book.act(rt, &mut self.holdings.pass, Stand).is_done
     }
 
     /// The pass of its book.
-    pub fn into_pass(self) -> Pass<Plain> {
+    pub(crate) fn into_pass(self) -> Pass<Plain> {
         self.holdings.pass
     }
 }

@@ -11,7 +11,7 @@ use nm_transport::{Transport, Waited};
 
 /// The transport of a machine: the others that it calls, by the numbers of its peers.
 #[derive(Drop)]
-pub struct WorldTransport {
+pub(crate) struct WorldTransport {
     hub: Shared,
     machine: usize,
     peers: Vec<usize>,
@@ -23,7 +23,7 @@ pub struct WorldTransport {
 
 impl WorldTransport {
     /// That of this machine.
-    pub fn new(hub: Shared, machine: usize, peers: Vec<usize>, now: u64) -> Self {
+    pub(crate) fn new(hub: Shared, machine: usize, peers: Vec<usize>, now: u64) -> Self {
         WorldTransport {
             hub,
             machine,
@@ -35,7 +35,7 @@ impl WorldTransport {
     }
 
     /// Time went on.
-    pub fn pass(&mut self, now: u64) {
+    pub(crate) fn pass(&mut self, now: u64) {
         self.now = now;
     }
 

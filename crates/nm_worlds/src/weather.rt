@@ -31,21 +31,21 @@ const MAX_AWAY: u64 = 5_000;
 
 /// A time in which something is so of one machine: from the first of these to the second.
 #[derive(Clone, Copy)]
-pub struct Spell {
+pub(crate) struct Spell {
     machine: usize,
     times: [u64; 2],
 }
 
 impl Spell {
     /// Whether it is so of a machine at this time.
-    pub fn is_of(&self, machine: usize, now: u64) -> bool {
+    pub(crate) fn is_of(&self, machine: usize, now: u64) -> bool {
         self.machine == machine && self.times[0] <= now && now < self.times[1]
     }
 }
 
 /// What becomes of a call.
 #[derive(Clone, Copy)]
-pub enum Fate {
+pub(crate) enum Fate {
     /// It fails at once.
     Refused,
     /// Nobody answers, ever.
@@ -58,7 +58,7 @@ pub enum Fate {
 
 /// The weather of a world.
 #[derive(Drop)]
-pub struct Weather {
+pub(crate) struct Weather {
     pub chance: Chance,
     /// From this time on each call is made, and no connection breaks.
     pub calm_at: u64,
@@ -73,7 +73,7 @@ pub struct Weather {
 
 /// A machine that vanishes, and is begun anew.
 #[derive(Clone, Copy)]
-pub struct Loss {
+pub(crate) struct Loss {
     pub machine: usize,
     pub at: u64,
     pub back_at: u64,
@@ -83,7 +83,7 @@ pub struct Loss {
 
 /// What is drawn, or told by name.
 #[derive(Clone, Copy, PartialEq, Eq)]
-pub enum Schedule {
+pub(crate) enum Schedule {
     /// All is drawn from this seed.
     Drawn(u64),
     /// Calls are held for 36 seconds, as by a firewall or a forwarder.
@@ -151,7 +151,7 @@ fn drawn_spell(chance: &mut Chance, machines: usize, longest: u64, calm_at: u64)
 
 impl Weather {
     /// That of a schedule, for so many machines.
-    pub fn new(schedule: Schedule, machines: usize) -> Self {
+    pub(crate) fn new(schedule: Schedule, machines: usize) -> Self {
         let (calm_at, outage, loss) = match schedule {
             Schedule::Drawn(seed) => return Weather::drawn(seed, machines),
             Schedule::Held => (HELD_UNTIL, [0, 0], None),
@@ -210,12 +210,12 @@ impl Weather {
     }
 
     /// Whether no octet arrives now.
-    pub fn is_out(&self, now: u64) -> bool {
+    pub(crate) fn is_out(&self, now: u64) -> bool {
         self.outage[0] <= now && now < self.outage[1]
     }
 
     /// When what is written during the outage arrives: the system sends it again later and later.
-    pub fn after_outage(&mut self) -> u64 {
+    pub(crate) fn after_outage(&mut self) -> u64 {
         self.outage[1].saturating_add(self.chance.below(MAX_BACKOFF))
     }
 
@@ -229,7 +229,7 @@ impl Weather {
     }
 
     /// What becomes of a call to a machine that is there or not.
-    pub fn fate(&mut self, now: u64, is_there: bool) -> Fate {
+    pub(crate) fn fate(&mut self, now: u64, is_there: bool) -> Fate {
         if !is_there {
             return if self.chance.once_in(2) {
                 Fate::Refused

@@ -10,7 +10,7 @@ use nm_base::{Octets, Wire};
 
 /// One end of a connection.
 #[derive(Drop)]
-pub struct WorldWire {
+pub(crate) struct WorldWire {
     clock: Clock,
     from: Way,
     to: Way,
@@ -25,7 +25,7 @@ pub struct WorldWire {
 impl WorldWire {
     /// An end that reads from one direction and writes into the other, begun to a peer or by
     /// somebody else.
-    pub fn new(clock: Clock, from: Way, to: Way, peer: Option<usize>) -> Self
+    pub(crate) fn new(clock: Clock, from: Way, to: Way, peer: Option<usize>) -> Self
         ensures peer { result.peer ≡ peer }
         ensures new { IsNew result }
     {
@@ -42,7 +42,7 @@ impl WorldWire {
     }
 
     /// This end is let go: the other end learns it.
-    pub fn close(&self) {
+    pub(crate) fn close(&self) {
         if let Ok(mut flow) = self.to.try_borrow_mut() {
             flow.is_over = true;
         }
@@ -52,7 +52,7 @@ impl WorldWire {
     }
 
     /// Whether a read would find something.
-    pub fn is_ready(&self) -> bool {
+    pub(crate) fn is_ready(&self) -> bool {
         match self.from.try_borrow_mut() {
             Ok(flow) => flow.has_arrived(self.clock.get()),
             Err(_) => false,

@@ -29,7 +29,7 @@ const LAST: u64 = 20_000;
 
 /// What a world came to.
 #[derive(Clone, Copy)]
-pub enum Verdict {
+pub(crate) enum Verdict {
     /// All replicas are done, and their books are certified. So many had not ended: a peer that was
     /// done left while the weather was bad, and their Bye was lost.
     Fine(u64),
@@ -468,7 +468,7 @@ impl<'x> World<'x> {
 }
 
 /// A world of this schedule over a network, of which each partition has so many replicas.
-pub fn try_world<R: Wait>(
+pub(crate) fn try_world<R: Wait>(
     rt: &R,
     alloc: Global,
     text: &str,

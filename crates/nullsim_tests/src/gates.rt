@@ -7,15 +7,12 @@ use std::sync::atomic::{AtomicBool, AtomicU64, Ordering};
 const TURNS: u64 = 100_000_000;
 
 /// Answers each poll alike, and keeps the greatest number of octets that it was told of. Jobs 0 and
-/// 1 wait for each other where they are to, and all jobs until so many polls were made.
+/// 1 wait for each other where they are to.
 #[derive(Drop)]
 pub struct Watching {
     pub goes_on: bool,
     pub waits: bool,
     pub most: AtomicU64,
-    /// How many polls were made, and how many a job waits for.
-    pub polls: AtomicU64,
-    pub holds: u64,
     /// How many jobs were begun.
     pub jobs: AtomicU64,
     pub first: AtomicBool,
@@ -30,21 +27,10 @@ impl Watching {
             goes_on,
             waits,
             most: AtomicU64::new(0),
-            polls: AtomicU64::new(0),
-            holds: 0,
             jobs: AtomicU64::new(0),
             first: AtomicBool::new(false),
             second: AtomicBool::new(false),
             was_alone: AtomicBool::new(false),
-        }
-    }
-
-    /// Waits until so many polls were made. Replicas poll on, whatever jobs do.
-    fn hold(&self) {
-        for _ in 0..u64::MAX {
-            if self.polls.load(Ordering::SeqCst) >= self.holds {
-                return;
-            }
         }
     }
 
@@ -63,7 +49,6 @@ impl Watching {
 impl Gate for Watching {
     fn enter(&self, job: usize) {
         let _ = self.jobs.fetch_add(1, Ordering::SeqCst);
-        self.hold();
         match job {
             0 if self.waits => self.meet(&self.first, &self.second),
             1 if self.waits => self.meet(&self.second, &self.first),
@@ -75,7 +60,6 @@ impl Gate for Watching {
 
     fn poll(&self, moved: u64) -> bool {
         let _ = self.most.fetch_max(moved, Ordering::SeqCst);
-        let _ = self.polls.fetch_add(1, Ordering::SeqCst);
         self.goes_on
     }
 }

@@ -85,16 +85,11 @@ fn is_whole(rt: &impl Abort, outcome: &Result<Report, RunFault>, outputs: &MemOu
     assert!(rt; octets_of(outputs) == 4 * 256 + 2 * 24);
 }
 
-/// Jobs are held until each replica has made so many polls on average: a second and more.
-const HELD_POLLS: u64 = 60;
-
 /// A run with one replica of each partition, and with two.
 #[test]
 fn a_ring_is_certified(rt: HostRuntime) -> Result<(), Fail> {
     for replicas in 1..3 {
-        let mut gate = Watching::new(true, false);
-        // octets count from a second after a Hello, which is some 20 idle polls of each replica
-        gate.holds = 3 * HELD_POLLS * u64::from(replicas);
+        let gate = Watching::new(true, false);
         let mut outputs = files_of(rt.alloc(), 6, 1_000);
         let outcome = run_text(&rt, RING, replicas, &mut outputs, &gate, &Progress::new())?;
         is_whole(&rt, &outcome, &outputs);

@@ -259,7 +259,7 @@ fn calls_have_an_end(rt: HostRuntime) {
     for (voices, time) in [(SILENT, HELLO_PERIODS), (GREETED, SILENCE_PERIODS)] {
         let script = calling(voices, Manner::Whole, 2 * time + time / 2);
         let came = came_of(&rt, rt.alloc(), &script);
-        assert!(rt; matches!(came.served, Served::Stalled { .. }) && came.moved == 0);
+        assert!(rt; matches!(came.served, Served::Stalled { .. }));
         assert!(rt; came.given == 3 && came.most == 1);
     }
 }
@@ -277,13 +277,14 @@ fn a_call_that_was_held_is_made_again(rt: HostRuntime) {
     }
 }
 
-/// A peer that greets and cuts is called once a period, and is no progress.
+/// A peer that greets and cuts is called once a period, and is no progress: the gate is told of the
+/// octets of its Hellos, and the replica is stalled.
 #[test]
 fn who_greets_and_cuts_stalls(rt: HostRuntime) {
     let limit = 2 * GREETING_PERIODS;
     let script = calling(&[(500, Voice::Greeted(0))], Manner::Cut, limit);
     let came = came_of(&rt, rt.alloc(), &script);
-    assert!(rt; matches!(came.served, Served::Stalled { .. }) && came.moved == 0);
+    assert!(rt; matches!(came.served, Served::Stalled { .. }) && came.moved >= 48);
     assert!(rt; came.given > 2 && came.given <= limit + 1);
 }
 
@@ -307,9 +308,9 @@ fn rubbish(rt: HostRuntime) {
     assert!(rt; came_of(&rt, rt.alloc(), &after).served == Served::Net);
 }
 
-/// The octets of strangers never count as moved, and the replica is stalled as if nobody had
+/// The gate is never told of the octets of strangers, and the replica is stalled as if nobody had
 /// called.
-fn never_count<R: Wait + Abort>(rt: &R, alloc: Global, strangers: &'static [(usize, Voice)]) {
+fn are_never_told<R: Wait + Abort>(rt: &R, alloc: Global, strangers: &'static [(usize, Voice)]) {
     let came = came_of(rt, alloc, &called_by(strangers, 4));
     assert!(rt; came.served == Served::Stalled { polls: 5 });
     assert!(rt; came.moved == 0 && came.most == 3);
@@ -317,16 +318,16 @@ fn never_count<R: Wait + Abort>(rt: &R, alloc: Global, strangers: &'static [(usi
 
 /// Of strangers that stop in the middle of a Hello, and of those that say nothing.
 #[test]
-fn octets_of_strangers_never_count(rt: HostRuntime) {
-    never_count(&rt, rt.alloc(), &[(3, Voice::Begun)]);
-    never_count(&rt, rt.alloc(), &[(3, Voice::Silent)]);
+fn octets_of_strangers_are_never_told(rt: HostRuntime) {
+    are_never_told(&rt, rt.alloc(), &[(3, Voice::Begun)]);
+    are_never_told(&rt, rt.alloc(), &[(3, Voice::Silent)]);
 }
 
-/// What the peer says at its greeting does not count.
+/// The gate is told of all that moves with a peer, its Hello with it.
 #[test]
-fn octets_of_a_greeting_do_not_count(rt: HostRuntime) {
+fn octets_of_a_peer_are_told(rt: HostRuntime) {
     let came = came_of(&rt, rt.alloc(), &called_by(&[(1, Voice::Peer(0))], STAYS));
-    assert!(rt; came.served == Served::Ended && came.moved == 0);
+    assert!(rt; came.served == Served::Ended && came.moved >= 48);
 }
 
 /// How many connections are open of a replica that one silent stranger called, after so many idle

@@ -138,13 +138,10 @@ fn serve_held<'x, N: Transport, R: Wait>(
 ) -> Served {
     let replica = Service {
         topology,
-        partition: PartNo::new(if company.is_called { 1 } else { 0 }),
-        replica: 0,
         book,
         peers,
         callers,
         books: &[],
-        sister: None,
         idle_limit: company.idle_limit,
         run_limit: 4_096,
         lending,

@@ -41,13 +41,10 @@ fn serve_sister<'x, R: Wait>(
     let mut transport = Scripted::new(alloc, Vec::new(alloc), true, NEVER);
     let replica = Service {
         topology,
-        partition: PartNo::new(1),
-        replica: 1,
         book: own,
         peers: &[],
         callers,
         books,
-        sister: Some(0),
         idle_limit: 2_000,
         run_limit: 4_096,
         lending,

@@ -1,5 +1,5 @@
 use Rattle.std.proofs.Common.{rules}
-use Rattle.nm_replica.proofs.Recordings.{counted_more, counted_none, streams_more, streams_none}
+use Rattle.nm_replica.proofs.Recordings.{counted_more, counted_none, on_error, streamed_more, streams_more, streams_none}
 use Rattle.nm_replica.proofs.recording.write_records.Goals as goal
 
 pub returns-then-service-clause-streams : goal.returns-then-service-clause-streams
@@ -34,3 +34,9 @@ pub returns-then-not-some-clause-wrote : goal.returns-then-not-some-clause-wrote
 returns-then-not-some-clause-wrote g c =
     counted_more g.C.Counts.exact g.C.Counts.home g.S.Sink.seen c.args.files.now.files.items c.loop.files.files.items c.write_some.new.files.files.items c.loop.all.written
     c.in_ok-some.some.written _ c.loop.invariant.wrote c.in_ok-some.ensures.wrote (search rules)
+
+pub returns-in_err-some-clause-so_far : goal.returns-in_err-some-clause-so_far
+returns-in_err-some-clause-so_far g c =
+    on_error c.from_residual.result
+    (streamed_more g.C.Counts.exact g.C.Counts.home g.S.Sink.seen c.args.files.now.files.items c.loop.files.files.items c.write_some.new.files.files.items
+    c.loop.invariant.streams c.in_err-some.ensures.so_far)

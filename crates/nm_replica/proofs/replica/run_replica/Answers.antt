@@ -1,10 +1,11 @@
-use Rattle.std.proofs.Common.{◌≡◌, ◌≤◌, ◌+◌, refl, ◌∙◌, arith, rules}
-use Rattle.nm_replica.proofs.Recordings.{streams_more, streams_none}
+use Rattle.std.proofs.Common.{◌≡◌, ◌≤◌, ◌+◌, refl, subst, sym, ◌∙◌, arith}
+use Rattle.nm_replica.proofs.Polls.{ends_after, idles_wait}
+use Rattle.nm_replica.proofs.Recordings.{streamed_all, streamed_more, streamed_none, streams_more, streams_none}
 use Rattle.nm_replica.proofs.replica.run_replica.Goals as goal
 
 pub loop-init : goal.loop-init
 loop-init g c =
-    let none : c.in-Ok.running.idle ≡ 0 = search rules in
+    let none : c.in-Ok.running.idle ≡ 0 = c.in-Ok.ensures.0 in
     record {
       seats = (refl, refl);
       passes = refl;
@@ -20,15 +21,39 @@ returns-in-Ok-Some-clause-streams g c = λ _.
 pub returns-in-Ok-Some-clause-ends : goal.returns-in-Ok-Some-clause-ends
 returns-in-Ok-Some-clause-ends g c =
     let start = g.T.Transport.elapsed_periods c.args.transport.now in
-    (rw c.in-Ok-Some.field-0-is at c.in-Ok-Some.ensures.ends) start (c.in-Ok-Some.ensures.idles start c.loop.invariant.idle)
+    let before = g.T.Transport.elapsed_periods c.loop.transport in
+    let after = g.T.Transport.elapsed_periods c.poll_replica.new.transport in
+    let one = c.in-Ok-Some.ensures.exact in
+    ends_after g.C.Counts.exact g.C.Counts.home c.args.service.now.keeps_records c.args.service.now.idle_limit start after
+    c.poll_replica.new.running.idle c.poll_replica.new.running.polls one.2 c.in-Ok-Some.served one.6
+    (subst (λ i. start + i ≤ after) (sym one.3) (idles_wait c.loop.running.idle one.0 one.1 start before after c.loop.invariant.idle one.4))
+    (sym one.5 ∙ c.in-Ok-Some.field-0-is)
 
 pub loop-preserved : goal.loop-preserved
 loop-preserved g c =
     let start = g.T.Transport.elapsed_periods c.args.transport.now in
+    let before = g.T.Transport.elapsed_periods c.loop.transport in
+    let after = g.T.Transport.elapsed_periods c.poll_replica.new.transport in
+    let one = c.in-Ok-None.ensures.exact in
     record {
       seats = (c.in-Ok-None.ensures.seats.0 ∙ c.loop.invariant.seats.0, c.in-Ok-None.ensures.seats.1 ∙ c.loop.invariant.seats.1);
       passes = c.in-Ok-None.ensures.passes ∙ c.loop.invariant.passes;
-      idle = c.in-Ok-None.ensures.idles start c.loop.invariant.idle;
+      idle = subst (λ i. start + i ≤ after) (sym one.3) (idles_wait c.loop.running.idle one.0 one.1 start before after c.loop.invariant.idle one.4);
       streams = streams_more g.C.Counts.exact g.C.Counts.home g.S.Sink.seen c.args.holdings.now.files.files.items c.loop.holdings.files.files.items
           c.poll_replica.new.holdings.files.files.items c.loop.invariant.streams c.in-Ok-None.ensures.streams;
     }
+
+pub returns-in_default-clause-so_far : goal.returns-in_default-clause-so_far
+returns-in_default-clause-so_far g c = streamed_none g.C.Counts.exact g.C.Counts.home g.S.Sink.seen c.args.holdings.now.files.files.items
+
+pub returns-in-Ok-Some-clause-so_far : goal.returns-in-Ok-Some-clause-so_far
+returns-in-Ok-Some-clause-so_far g c =
+    let before = c.args.holdings.now.files.files.items in
+    let after = c.poll_replica.new.holdings.files.files.items in
+    streamed_all g.C.Counts.exact g.C.Counts.home g.S.Sink.seen before after
+    (streams_more g.C.Counts.exact g.C.Counts.home g.S.Sink.seen before c.loop.holdings.files.files.items after c.loop.invariant.streams c.in-Ok-Some.ensures.streams)
+
+pub returns-in-Err-clause-so_far : goal.returns-in-Err-clause-so_far
+returns-in-Err-clause-so_far g c =
+    streamed_more g.C.Counts.exact g.C.Counts.home g.S.Sink.seen c.args.holdings.now.files.files.items c.loop.holdings.files.files.items
+    c.poll_replica.new.holdings.files.files.items c.loop.invariant.streams c.in-Err.ensures.so_far

@@ -5,5 +5,6 @@ abbrev pub invariant-loop-key : goal.invariant-loop-key
 invariant-loop-key g l = record {
   idle : g.T.Transport.elapsed_periods l.transport ≡ g.T.Transport.elapsed_periods l.fn.transport;
   moved : l.serving.moved ≡ l.fn.serving.moved;
+  counted : l.serving.counted ≡ l.fn.serving.counted;
   events : l.serving.events ≡ l.fn.serving.events;
 }

@@ -1,5 +1,5 @@
-use Rattle.std.proofs.Common.{◌<◌, length, rules, ◌∙◌, sym}
-use Rattle.std.proofs.lemmas.Bool.{not-false}
+use Rattle.std.proofs.Common.{◌<◌, inl, length, rules, ◌∙◌, sym}
+use Rattle.std.proofs.lemmas.Bool.{not-false, not-true}
 use Rattle.nm_replica.proofs.Finishing.{looked_at, one_finished}
 use Rattle.nm_replica.proofs.sisters.all_are_done.Goals as goal
 
@@ -16,3 +16,8 @@ loop-number-preserved g c =
 
 pub returns-clause-all : goal.returns-clause-all
 returns-clause-all g c = λ _ n under. c.loop-number.invariant.all n (search rules)
+
+pub returns-then-not-act-clause-left : goal.returns-then-not-act-clause-left
+returns-then-not-act-clause-left g c = λ _.
+    let did = c.act.ensures in
+    inl (did.0, sym did.2.5 ∙ not-true c.act.result.is_done c.if-not-act.true)

@@ -16,7 +16,7 @@ loop-number-init g c = record {
 pub close_one-requires-clause-counted : goal.close_one-requires-clause-counted
 close_one-requires-clause-counted g c =
     let made = g.F.Outputs.made in
-    let both = c.take_file.ensures (made c.args.outputs.now) c.loop-number.invariant.counted in
+    let both = c.take_file.ensures.counted (made c.args.outputs.now) c.loop-number.invariant.counted in
     subst (λ m. IsCounted g.F.File.Sink.seen m (Some c.in-Some.file)) (sym c.loop-number.invariant.same)
     (subst (IsCounted g.F.File.Sink.seen (made c.args.outputs.now)) c.in-Some.is both.0)
 
@@ -33,7 +33,7 @@ loop-number-preserved g c =
     let here : c.iface_number-iface.result ≡ n = search rules in
     record {
       within = omega (arith, low);
-      counted = (c.take_file.ensures (made c.args.outputs.now) c.loop-number.invariant.counted).1;
+      counted = (c.take_file.ensures.counted (made c.args.outputs.now) c.loop-number.invariant.counted).1;
       closed = one_closed c.args.folder.folder.now t c.args.totals.now g.F.Outputs.closed (made c.args.outputs.now) n c.loop-number.closed.items c.push.new.self.items c.in_ok-one.one
           own (slice_get-get_or c.args.totals.now n none there) c.in_ok-push.ensures.items c.loop-number.invariant.closed
           (λ first told. let one = c.in_ok-one.ensures.closed first (same ∙ told) in (one.0, one.1, λ x at. one.2 x (ap (slice_get t.ifaces) here ∙ at)));

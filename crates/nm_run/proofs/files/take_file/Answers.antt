@@ -4,8 +4,8 @@ use Rattle.nm_files.specs.Files.{AreCounted, IsCounted}
 use Rattle.nm_run.proofs.ClosedFiles.{one_counted}
 use Rattle.nm_run.proofs.files.take_file.Goals as goal
 
-pub returns : goal.returns
-returns g c = λ made all.
+pub returns-clause-counted : goal.returns-clause-counted
+returns-clause-counted g c = λ made all.
     let seen = g.S.Sink.seen in
     let files = c.args.files.now.items in
     let n = c.index.result * c.args.replicas in
