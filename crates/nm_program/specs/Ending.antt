@@ -49,7 +49,8 @@ module _ {S : Type 0} (before after : Surroundings S) where
   ProgramEnds (Some (Path topology node address)) status =
       MakesNone (λ old new. EndsPath old new topology node address status)
   ProgramEnds (Some (Run topology folder workers replicas)) status =
-      EndsRun before after topology replicas status
+      EndsRun before after
+      (record { topology = topology; folder = folder; replicas = replicas }) status
   ProgramEnds (Some (Node topology folder partition replica addresses)) status =
       EndsNode before after
       (record {

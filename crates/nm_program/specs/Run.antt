@@ -10,9 +10,11 @@ use Rattle.nm_rounds.specs.Certify.{AreCertified, cert_fault_number}
 use Rattle.nm_rounds.specs.declared.certify.CertFault.{CertFault}
 use Rattle.nm_base.specs.declared.fault.Fault.{Fault}
 use Rattle.nm_base.specs.declared.fault.Fault.TheVariants as fault
+use Rattle.nm_run.specs.Files.{AreNamed}
 use Rattle.nm_run.specs.Report.{IsNotCertified}
 use Rattle.nm_run.specs.declared.fault.RunCause.{RunCause}
 use Rattle.nm_run.specs.declared.fault.RunCause.TheVariants as cause
+use Rattle.nm_command.specs.declared.arguments.RunArguments.{RunArguments}
 use Rattle.nm_command.specs.declared.status.Status.{Status}
 use Rattle.nm_command.specs.declared.status.Status.TheVariants.{Done, File, Memory, NotCertified, Stalled}
 use Rattle.nm_files.specs.Outputs.{Files}
@@ -46,13 +48,29 @@ run_status (fault.Refused (cause.NotCertified found)) = NotCertified (cert_fault
 run_status (fault.Refused (cause.Stalled polls)) = Stalled
 run_status (fault.Refused cause.Broken) = File
 
--- how a run that was begun ends with no report; one that is not certified leaves what the names of
--- its files had
-abbrev pub StopsRun : TopologyValue → ℕ → (before after : Option Files) → Status → Type 0
-StopsRun network replicas before after status =
-    (status ≡ File) ⊎ (status ≡ Memory)
-    ⊎ ((n : ℕ) × (status ≡ NotCertified n) × HasFault network replicas n × (after ≡ before))
-    ⊎ ((status ≡ Stalled) × (after ≡ before))
+-- what `run` is asked for: the input with the topology, the folder, and how many replicas each
+-- partition has
+pub record RunAsked : Type 0 where
+  pub topology : List ℕ
+  pub folder : List ℕ
+  pub replicas : ℕ
+
+abbrev pub run_asked : RunArguments → RunAsked
+run_asked w = record {
+  topology = w.topology.now;
+  folder = w.folder.now;
+  replicas = w.replicas;
+}
+
+-- How a run that was begun ends with no report. A file got its name only if the run is certified,
+-- and one of them could not get it; one that is not certified, or stalled, leaves what the names
+-- of its files had.
+abbrev pub StopsRun : TopologyValue → RunAsked → (before after : Option Files) → Status → Type 0
+StopsRun network asked before after status =
+    AreNamed before after asked.folder network
+    × ((status ≡ File) ⊎ (status ≡ Memory)
+    ⊎ ((n : ℕ) × (status ≡ NotCertified n) × HasFault network asked.replicas n × (after ≡ before))
+    ⊎ ((status ≡ Stalled) × (after ≡ before)))
 
 -- it is said once it is certified
 abbrev pub SaysRun : List ℕ → Status → List ℕ → Type 0
@@ -61,17 +79,17 @@ SaysRun text status octets = (status ≡ Done) × SaysCertified text octets
 -- Why nothing is said of an input: there is no network, and no file was made; or it is that of a
 -- network, whose run stopped.
 module _ (before after : FilesSeen) where
-  abbrev pub FailsRun : (topology : List ℕ) → (replicas : ℕ) → Status → Type 0
-  FailsRun topology replicas status =
-      (FailsOfInput before.inputs after.inputs topology IsRefused status
+  abbrev pub FailsRun : RunAsked → Status → Type 0
+  FailsRun asked status =
+      (FailsOfInput before.inputs after.inputs asked.topology IsRefused status
       × (after.made ≡ before.made))
-      ⊎ ((network : TopologyValue) × HasTopology before.inputs topology network
-      × StopsRun network replicas before.made after.made status)
+      ⊎ ((network : TopologyValue) × HasTopology before.inputs asked.topology network
+      × StopsRun network asked before.made after.made status)
 
 -- What each status says. Files are made once the books are certified; what is in them is not said.
 module _ {S : Type 0} (before after : Surroundings S) where
-  abbrev pub EndsRun : (topology : List ℕ) → (replicas : ℕ) → Status → Type 0
-  EndsRun topology replicas status =
+  abbrev pub EndsRun : RunAsked → Status → Type 0
+  EndsRun asked status =
       EndsWord before.exchange after.exchange
-      (SaysOfInput before.exchange.inputs topology SaysRun)
-      (FailsRun (files_of before) (files_of after) topology replicas) status
+      (SaysOfInput before.exchange.inputs asked.topology SaysRun)
+      (FailsRun (files_of before) (files_of after) asked) status

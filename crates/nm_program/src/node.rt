@@ -133,6 +133,25 @@ fn status_of(fault: ProcessFault) -> Status
     }
 }
 
+/// Serves the replica that the words ask for, over these listeners. It is stalled after a minute.
+fn serve_asked<R: Net + Wait + Clock + Drop + Copy>(
+    means: &Means<'_, R>,
+    topology: &Arc<Topology>,
+    listeners: &[Listener],
+    words: &NodeArguments<'_>,
+    process: &Process<'_>,
+) -> Result<ProcessEnd, ProcessFault>
+    requires asked { (process.now.topology ≡ topology) × (process.now.listeners ≡ listeners)
+        × (process.now.partition ≡ words.now.partition)
+        × (process.now.replica ≡ words.now.replica) }
+    requires limit { process.now.idle_limit ≡ MAX_IDLE_PERIODS }
+    ensures { IfOk result (λ end. IsDoneReplica (arc_value topology.now)
+        words.now.partition words.now.replica end.book) }
+{
+    means.progress.begin(topology.stop());
+    run_process(means.rt, means.alloc, process)
+}
+
 /// What a replica came to that was served.
 fn end_of<R: Net + Wait + Clock + Drop + Copy>(
     means: &Means<'_, R>,
@@ -152,8 +171,7 @@ fn end_of<R: Net + Wait + Clock + Drop + Copy>(
         idle_limit: MAX_IDLE_PERIODS,
         progress: means.progress,
     };
-    means.progress.begin(topology.stop());
-    match run_process(means.rt, means.alloc, &process) {
+    match serve_asked(means, topology, listeners, words, &process) {
         Ok(end) => Ok(end),
         Err(fault) => {
             means.note(matches!(&fault, ProcessFault::Refused(ProcessCause::Broken)));

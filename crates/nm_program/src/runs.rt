@@ -7,6 +7,7 @@ ghost use Rattle.nm_base.specs.declared.record.Record.{Record as TraceRecord};
 ghost use Rattle.nm_base.specs.declared.limits.TheConstants.{MAX_WORKERS};
 ghost use Rattle.nm_files.specs.Outputs.{Files};
 ghost use Rattle.nm_run.specs.Faults.{HasReason, IsOfFiles};
+ghost use Rattle.nm_run.specs.Files.{AreNamed};
 ghost use Rattle.nm_run.specs.Report.{AreTotals, IsCertifiedRun};
 ghost use Rattle.nm_sim.specs.Totals.{totals_of};
 ghost use Rattle.nm_sim.specs.Trace.{IsTraceBefore};
@@ -16,8 +17,8 @@ ghost use Rattle.nm_topology.specs.TopologyValue.{TopologyValue};
 ghost use Rattle.nm_offline.specs.Input.{inputs_seen};
 ghost use Rattle.nm_offline.specs.Lines.{iface_line, iface_lines};
 ghost use Rattle.nm_offline.specs.Output.{SaysOfInput, files_seen};
-ghost use Rattle.nm_program.specs.Run.{EndsRun, FailsRun, SaysCertified, SaysRun, StopsRun};
-ghost use Rattle.nm_program.specs.Run.{run_status};
+ghost use Rattle.nm_program.specs.Run.{EndsRun, FailsRun, RunAsked, SaysCertified, SaysRun};
+ghost use Rattle.nm_program.specs.Run.{StopsRun, run_asked, run_status};
 ghost use Rattle.nm_program.specs.Surroundings.{surroundings};
 
 use crate::means::Means;
@@ -84,9 +85,10 @@ fn is_own(fault: &RunFault) -> bool {
 /// What the fault of a run is to the program.
 fn status_of(fault: RunFault) -> Status
     ensures value { result ≡ run_status fault }
-    ensures stops { (network : TopologyValue) (replicas : ℕ) (before after : Option Files)
-        → HasReason network replicas fault → (IsOfFiles fault ⊎ (after ≡ before))
-        → StopsRun network replicas before after result }
+    ensures stops { (network : TopologyValue) (asked : RunAsked) (before after : Option Files)
+        → HasReason network asked.replicas fault → (IsOfFiles fault ⊎ (after ≡ before))
+        → AreNamed before after asked.folder network
+        → StopsRun network asked before after result }
 {
     match fault {
         RunFault::Memory => Status::Memory,
@@ -110,6 +112,33 @@ fn report_text(
     run_text(alloc, network, report.totals.as_slice())
 }
 
+/// Runs all partitions of a network at once, as the words say.
+fn report_of<'x, F: Outputs, R: Runtime>(
+    means: &Means<'_, R>,
+    network: &Arc<Topology>,
+    words: &RunArguments<'_>,
+    plan: &'x RunPlan<'x>,
+    outputs: &mut F,
+) -> Result<Report, RunFault>
+where
+    F::File: Send,
+    requires asked { (plan.now.topology ≡ network) × (plan.now.folder ≡ words.now.folder)
+        × (plan.now.workers ≡ words.now.workers) × (plan.now.replicas ≡ words.now.replicas) }
+    requires workers { (1 ≤ words.now.workers) × (words.now.workers ≤ MAX_WORKERS) }
+    requires folder { 0 < length words.now.folder.now } // else its files would stand at the root
+    ensures certified { IfOk result (λ report. IsCertifiedRun (arc_value network.now)
+        report.totals.items) }
+    ensures refused { IfErr result
+        (HasReason (arc_value network.now) words.now.replicas) }
+    ensures kept { IfErr result (λ fault. IsOfFiles fault
+        ⊎ (F.made outputs.new ≡ F.made outputs.old)) }
+    ensures named { AreNamed (F.made outputs.old) (F.made outputs.new) words.now.folder.now
+        (arc_value network.now) }
+{
+    means.progress.begin(network.stop());
+    run_all(means.rt, means.alloc, plan, outputs, &OpenGate)
+}
+
 /// Runs all partitions at once: what is said of them.
 fn run_network<F: Outputs, R: Runtime>(
     means: &Means<'_, R>,
@@ -123,7 +152,7 @@ where
     ensures said { IfOk result (λ output. (text : List ℕ)
         → topology_of text ≡ Ok (arc_value network.now)
         → SaysRun text output.status output.text.items) }
-    ensures fault { IfErr result (StopsRun (arc_value network.now) words.now.replicas
+    ensures fault { IfErr result (StopsRun (arc_value network.now) (run_asked words.now)
         (F.made outputs.old) (F.made outputs.new)) }
 {
     if words.folder.is_empty() {
@@ -136,8 +165,7 @@ where
         replicas: words.replicas,
         progress: means.progress,
     };
-    means.progress.begin(network.stop());
-    match run_all(means.rt, means.alloc, &plan, outputs, &OpenGate) {
+    match report_of(means, network, words, &plan, outputs) {
         Ok(report) => Output::of(report_text(means.alloc, network, &report), Status::Done),
         Err(fault) => {
             means.note(is_own(&fault));
@@ -160,8 +188,7 @@ where
         words.now.topology.now
         SaysRun output.status output.text.items) }
     ensures fault { IfErr result (FailsRun (files_seen I.seen F.made inputs.old outputs.old)
-        (files_seen I.seen F.made inputs.new outputs.new)
-        words.now.topology.now words.now.replicas) }
+        (files_seen I.seen F.made inputs.new outputs.new) (run_asked words.now)) }
 {
     let network = read_shared(means.alloc, inputs, words.topology)?;
     run_network(means, &network, words, outputs)
@@ -181,7 +208,7 @@ where
     requires { (1 ≤ words.now.workers) × (words.now.workers ≤ MAX_WORKERS) }
     ensures { EndsRun (surroundings I.seen O.seen F.made inputs.old out outputs.old)
         (surroundings I.seen O.seen F.made inputs.new result.1 outputs.new)
-        words.now.topology.now words.now.replicas result.0 }
+        (run_asked words.now) result.0 }
 {
     end(run_said(means, words, inputs, outputs), out)
 }
