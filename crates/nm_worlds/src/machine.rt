@@ -41,9 +41,9 @@ pub(crate) struct Machine<'x> {
     pub ended_at: u64,
 }
 
-/// One that has no connection so far.
-fn running_of(alloc: Global, role: &Role<'_>) -> Result<Running<WorldWire>, AllocError> {
-    let service = Service {
+/// What it is served with: it merges with nobody, and its book keeps its records.
+fn service_of<'a>(role: &Role<'a>) -> Service<'a, Plain> {
+    Service {
         topology: role.topology,
         book: role.book,
         peers: role.partitions,
@@ -55,8 +55,7 @@ fn running_of(alloc: Global, role: &Role<'_>) -> Result<Running<WorldWire>, Allo
         progress: None,
         notes_progress: false,
         keeps_records: true,
-    };
-    Running::new(alloc, &service)
+    }
 }
 
 impl<'x> Machine<'x> {
@@ -75,7 +74,7 @@ impl<'x> Machine<'x> {
                 seats,
                 files: TraceFiles::new(alloc),
             },
-            running: running_of(alloc, role)?,
+            running: Running::new(alloc, &service_of(role))?,
             transport,
             served: None,
             ended_at: 0,
@@ -93,19 +92,7 @@ impl<'x> Machine<'x> {
         if self.served.is_some() {
             return false;
         }
-        let service = Service {
-            topology: role.topology,
-            book: role.book,
-            peers: role.partitions,
-            callers: role.callers,
-            books: &[],
-            idle_limit: IDLE_LIMIT,
-            run_limit: RUN_LIMIT,
-            lending: role.lending,
-            progress: None,
-            notes_progress: false,
-            keeps_records: true,
-        };
+        let service = service_of(role);
         self.transport.pass(now);
         self.served = match poll_replica(
             rt,
