@@ -5,3 +5,4 @@ pub mod Greeting
 pub mod Hands
 pub mod Recordings
 pub mod Finishing
+pub mod Turns

@@ -8,3 +8,4 @@ pub mod Recording
 pub mod Seats
 pub mod Served
 pub mod Sessions
+pub mod Turns

@@ -55,6 +55,7 @@ impl<W> Connection<W> {
         ensures noted { (self.new.counted ≡ moved_on self.old.link.wire)
             × (self.new.told ≡ (if has_greeted self.old.link.session
             then moved_on self.old.link.wire else self.old.told)) }
+        ensures kept { (self.new.link ≡ self.old.link) × (self.new.heard ≡ self.old.heard) }
     {
         let moved = self.link.wire().moved();
         let since = moved.saturating_sub(self.counted);
@@ -72,6 +73,8 @@ impl<W> Connection<W> {
     pub(crate) fn has_heard(&mut self) -> bool
         ensures value { result ≡ nat_lt self.old.heard self.old.link.wire.came }
         ensures noted { self.new.heard ≡ self.old.link.wire.came }
+        ensures kept { (self.new.link ≡ self.old.link) × (self.new.told ≡ self.old.told)
+            × (self.new.counted ≡ self.old.counted) }
     {
         let all = self.link.wire().came();
         let is_more = all > self.heard;
@@ -80,7 +83,10 @@ impl<W> Connection<W> {
     }
 
     /// What its link has given since that was counted last, where it is counted.
-    pub(crate) fn count_given(&mut self) -> GivenCounts {
+    pub(crate) fn count_given(&mut self) -> GivenCounts
+        ensures { (self.new.link ≡ self.old.link) × (self.new.told ≡ self.old.told)
+            × (self.new.counted ≡ self.old.counted) × (self.new.heard ≡ self.old.heard) }
+    {
         let Some(given) = self.link.given() else {
             return GivenCounts::NONE;
         };

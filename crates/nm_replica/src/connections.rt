@@ -2,19 +2,20 @@
 
 ghost use Rattle.std.specs.Arc.{arc_value};
 ghost use Rattle.std.specs.Prelude.{◌≡◌, ◌≤◌, IfErr, IfOk, IfSome, OnOk, Some, ℕ, false, length};
-ghost use Rattle.std.specs.Prelude.{true};
-ghost use Rattle.slab.specs.Slab.{get};
+ghost use Rattle.std.specs.Prelude.{None, true};
+ghost use Rattle.slab.specs.Slab.{Updates, get};
 ghost use Rattle.nm_policy.specs.Contacts.{after, contact_at, is_slot};
 ghost use Rattle.nm_policy.specs.Decisions.{is_due_at};
 ghost use Rattle.nm_policy.specs.Laws.{at_first};
 ghost use Rattle.nm_policy.specs.declared.contact_event.ContactEvent.TheVariants as event;
 ghost use Rattle.nm_replica.specs.Breaks.{fault_in, is_peer};
 ghost use Rattle.nm_replica.specs.Connections.{Admits, Awaits, Dials, DropsStranger, Keeps, LetsGo};
-ghost use Rattle.nm_replica.specs.Connections.{LetsStaleGo, MakesRoom, Settles, heard_at};
+ghost use Rattle.nm_replica.specs.Connections.{LetsStaleGo, MakesRoom, heard_at};
 ghost use Rattle.nm_replica.specs.Connections.{learned, with_session_back};
 ghost use Rattle.nm_replica.specs.Moved.{has_written, is_end, was_there};
 ghost use Rattle.nm_replica.specs.Served.{IsInterrupted, break_served};
 ghost use Rattle.nm_replica.specs.Sessions.{first_sessions};
+ghost use Rattle.nm_replica.specs.Turns.{SettlesKey};
 
 use crate::connection::Connection;
 use crate::given_before::GivenBefore;
@@ -288,6 +289,7 @@ impl<W> Connections<W> {
     fn drop_at<T: Transport<Connection = W>>(&mut self, transport: &mut T, key: usize)
         ensures idle { T.elapsed_periods transport.new ≡ T.elapsed_periods transport.old }
         ensures drops { LetsGo key self.old.contacts self.new.contacts }
+        ensures open { Updates self.old.open self.new.open key None }
     {
         let _ = self.remove(transport, key);
         self.contacts.take(ContactEvent::Broke {
@@ -339,9 +341,7 @@ impl<W> Connections<W> {
     ) -> Result<(), Served>
         ensures idle { T.elapsed_periods transport.new ≡ T.elapsed_periods transport.old }
         ensures early { IfErr result IsInterrupted }
-        ensures settles { OnOk result
-            (Settles key turn has_heard (get self.old.open key) self.old.contacts
-            self.new.contacts) }
+        ensures settled { OnOk result (SettlesKey key self.old self.new turn has_heard) }
     {
         self.hear(key, has_heard);
         self.learn(key);
@@ -413,6 +413,7 @@ impl<W> Connections<W> {
         ensures sessions { self.new.sessions
             ≡ with_session_back (contact_at self.old.contacts.connections key)
             (get self.old.open key) self.old.sessions }
+        ensures open { Updates self.old.open self.new.open key None }
     {
         let peer = self.contacts.peer_at(key);
         let Some(mut connection) = self.open.try_remove(key) else {
@@ -439,6 +440,7 @@ impl<W> Connections<W> {
     fn end<T: Transport<Connection = W>>(&mut self, transport: &mut T, key: usize)
         ensures idle { T.elapsed_periods transport.new ≡ T.elapsed_periods transport.old }
         ensures ends { self.new.contacts ≡ after self.old.contacts (event.Ended key) }
+        ensures open { Updates self.old.open self.new.open key None }
     {
         let _ = self.remove(transport, key);
         self.contacts.take(ContactEvent::Ended { key });
@@ -462,6 +464,7 @@ impl<W> Connections<W> {
         ensures goes { OnOk result (LetsGo key self.old.contacts self.new.contacts) }
         ensures told { OnOk result (self.new.contacts ≡ after self.old.contacts
             (event.Broke key (was_there cause (get self.old.open key)))) }
+        ensures open { Updates self.old.open self.new.open key None }
     {
         let Left {
             is_peer,
@@ -482,6 +485,7 @@ impl<W> Connections<W> {
         ensures goes { LetsGo key self.old.contacts self.new.contacts }
         ensures told { self.new.contacts ≡ after self.old.contacts
             (event.Broke key (has_written (get self.old.open key))) }
+        ensures open { Updates self.old.open self.new.open key None }
     {
         let Left { has_written, .. } = self.remove(transport, key);
         self.note_broken(key, has_written);
@@ -489,7 +493,9 @@ impl<W> Connections<W> {
 
     /// Notes that the connection with this key broke, at whose other side somebody was or nobody.
     fn note_broken(&mut self, key: usize, was_there: bool)
-        ensures { self.new.contacts ≡ after self.old.contacts (event.Broke key was_there) }
+        ensures contacts { self.new.contacts
+            ≡ after self.old.contacts (event.Broke key was_there) }
+        ensures open { self.new.open ≡ self.old.open }
     {
         if self.contacts.has_greeted(key) {
             self.broken = self.broken.saturating_add(1);

@@ -18,6 +18,7 @@ mod serving;
 mod sessions;
 mod sisters;
 mod telling;
+mod turning;
 
 pub use lending::Lending;
 pub use replica::{Holdings, Running, Service, poll_replica, run_replica};

@@ -13,20 +13,22 @@ ghost use Rattle.nm_replica.specs.Recording.{Streamed, Streams, WroteAsCounted};
 ghost use Rattle.nm_replica.specs.Seats.{AreKept, StandOnBoard};
 ghost use Rattle.nm_replica.specs.Served.{EndsEarly, IsInterrupted, WasFinished, WasSeen};
 ghost use Rattle.nm_replica.specs.Sessions.{first_sessions};
+ghost use Rattle.nm_replica.specs.Turns.{ServesAll, ServesTwice, WaitsAndServes};
 ghost use Rattle.nm_transport.specs.Transport.{elapsed_after};
 
 use crate::acts::{Stand, Standing};
 use crate::connections::Connections;
 use crate::figuring::{note_figures, note_hold, note_loan, note_progress, note_wait};
-use crate::limits::{MAX_TURNS, MERGE_POLLS, SCARCE_PERIODS, SHORT_PERIODS};
+use crate::limits::{MERGE_POLLS, SCARCE_PERIODS, SHORT_PERIODS};
 use crate::recording::write_records;
 use crate::replica::{Holdings, Service};
 use crate::served::{Served, file_served};
 use crate::sisters::{Merged, all_are_done, merge_sister};
 use crate::telling::tell_all;
-use nm_base::{Sink, Wire};
+use crate::turning::{Does, Moves, turns};
+use nm_base::Sink;
 use nm_book::Ran;
-use nm_engine::{GivenCounts, ReadBuffer, Turn};
+use nm_engine::ReadBuffer;
 use nm_policy::{Contacts, Lasted, Stay};
 use nm_shared::{Counts, Pass, SharedBook};
 use nm_transport::Transport;
@@ -56,45 +58,6 @@ pub(crate) struct Serving<W> {
     pub is_busy: bool,
     buffer: ReadBuffer,
     alloc: Global,
-}
-
-/// What turns of connections came to.
-#[derive(Clone, Copy)]
-struct Moves {
-    /// How many octets moved with peers, and how many of them count as activity.
-    moved: u64,
-    octets: u64,
-    /// Octets came.
-    has_heard: bool,
-    /// A connection had all its turns, and may want more.
-    has_more: bool,
-    /// What links gave, where that is counted.
-    given: GivenCounts,
-}
-
-impl Moves {
-    /// Nothing moved.
-    const NONE: Moves = Moves {
-        moved: 0,
-        octets: 0,
-        has_heard: false,
-        has_more: false,
-        given: GivenCounts::NONE,
-    };
-
-    /// These and others.
-    fn with(self, other: Moves) -> Moves
-        ensures moved { result.moved ≡ saturated (self.moved + other.moved) }
-        ensures octets { result.octets ≡ saturated (self.octets + other.octets) }
-    {
-        Moves {
-            moved: self.moved.saturating_add(other.moved),
-            octets: self.octets.saturating_add(other.octets),
-            has_heard: self.has_heard || other.has_heard,
-            has_more: self.has_more || other.has_more,
-            given: self.given.with(other.given),
-        }
-    }
 }
 
 /// What a poll came to.
@@ -165,57 +128,9 @@ fn may_leave(stay: &mut Stay, contacts: &Contacts, ran_out: bool) -> bool
     stay.leaves(contacts)
 }
 
-/// What connections do in their turns.
-#[derive(Clone, Copy)]
-enum Does {
-    /// They take what came, and say nothing.
-    Hear,
-    /// They say what is owed, too.
-    Speak,
-}
-
-/// Gives the connection with this key its turns, if it is there: what moved, and what the last turn
-/// came to.
-fn turns<W: Wire, C: Counts, R: Wait>(
-    rt: &R,
-    book: &SharedBook<C>,
-    pass: &mut Pass<C>,
-    serving: &mut Serving<W>,
-    key: usize,
-    does: Does,
-) -> (Moves, Turn)
-    ensures { (serving.new.moved ≡ serving.old.moved) × (serving.new.counted ≡ serving.old.counted)
-        × (serving.new.events ≡ serving.old.events) }
-{
-    let alloc = serving.alloc;
-    let counts = serving.connections.contacts.does_count(key);
-    let Some(connection) = serving.connections.open.get_mut(key) else {
-        return (Moves::NONE, Turn::Idle);
-    };
-    let (link, buffer) = (&mut connection.link, &mut serving.buffer);
-    let mut last = Turn::Progress;
-    for _ in 0..MAX_TURNS {
-        last = match does {
-            Does::Hear => link.hear(rt, alloc, book, pass, buffer),
-            Does::Speak => link.turn(rt, alloc, book, pass, buffer),
-        };
-        if last != Turn::Progress {
-            break;
-        }
-    }
-    let counted = connection.count_moved(counts);
-    let moves = Moves {
-        moved: counted.all,
-        octets: counted.counted,
-        has_heard: connection.has_heard(),
-        has_more: last == Turn::Progress,
-        given: connection.count_given(),
-    };
-    (moves, last)
-}
-
 /// Gives each connection its turns, and lets go of those that ended or broke: what moved, or how
 /// serving ends.
+#[tactic(auto, using(crate::proofs::Turns::serves_one_more, crate::proofs::Turns::serves_all))]
 fn serve_all<T: Transport, C: Counts, R: Wait>(
     rt: &R,
     service: &Service<'_, C>,
@@ -231,10 +146,21 @@ fn serve_all<T: Transport, C: Counts, R: Wait>(
     ensures counted { IfOk result
         (λ m. serving.new.counted ≡ saturated (serving.old.counted + m.octets)) }
     ensures events { serving.new.events ≡ serving.old.events }
+    ensures served { IfOk result (λ m. ServesAll serving.old.connections
+        serving.new.connections m.moved m.octets) }
 {
     let mut all = Moves::NONE;
     for key in 0..serving.connections.key_end() {
-        let (moves, turn) = turns(rt, service.book, pass, serving, key, does);
+        let (moves, turn) = turns(
+            rt,
+            serving.alloc,
+            service.book,
+            pass,
+            &mut serving.connections,
+            &mut serving.buffer,
+            key,
+            does,
+        );
         serving
             .connections
             .settle(transport, key, turn, moves.has_heard)?;
@@ -444,7 +370,7 @@ struct Acted {
 /// # Errors
 ///
 /// How serving ends, where it does by itself.
-#[tactic(auto, using(crate::proofs::Polls::saturated_twice))]
+#[tactic(auto, using(crate::proofs::Polls::saturated_twice, crate::proofs::Turns::serves_twice))]
 fn serve_and_act<C: Counts, S, T: Transport, R: Wait>(
     rt: &R,
     alloc: Global,
@@ -469,6 +395,8 @@ fn serve_and_act<C: Counts, S, T: Transport, R: Wait>(
         (λ a. serving.new.moved ≡ saturated (serving.old.moved + a.moves.moved)) }
     ensures counted { IfOk result
         (λ a. serving.new.counted ≡ saturated (serving.old.counted + a.moves.octets)) }
+    ensures served { IfOk result (λ a. ServesTwice serving.old.connections
+        serving.new.connections a.moves.moved a.moves.octets) }
     ensures run { IfOk result (λ a. (serving.new.events ≡ a.standing.events)
         × (a.was_run ≡ not (a.standing.events == serving.old.events))) }
 {
@@ -549,6 +477,8 @@ pub(crate) fn poll<C: Counts, S: Sink, T: Transport, R: Wait>(
         (λ p. serving.new.moved ≡ saturated (serving.old.moved + p.moved)) }
     ensures counted { IfOk result
         (λ p. serving.new.counted ≡ saturated (serving.old.counted + p.octets)) }
+    ensures served { IfOk result (λ p. WaitsAndServes p.ran_out serving.new.connections
+        p.moved p.octets) }
     ensures run { IfOk result
         (λ p. p.was_run ≡ not (serving.new.events == serving.old.events)) }
     ensures written { IfOk result (λ p. WroteAsCounted S.seen C.exact C.home p.written

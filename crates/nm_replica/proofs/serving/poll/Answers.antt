@@ -1,9 +1,12 @@
-use Rattle.std.proofs.Common.{subst, sym, ◌∙◌}
+use Rattle.std.proofs.Common.{◌≡◌, ap, subst, sym, ◌∙◌}
 use Rattle.nm_replica.specs.Recording.{Streamed}
 use Rattle.nm_replica.proofs.Finishing.{is_finished}
 use Rattle.nm_replica.proofs.Recordings.{on_error, streamed_none}
+use Rattle.nm_replica.proofs.Turns.{waits_and_serves}
+use Rattle.nm_replica.specs.declared.connections.Connections.{Connections}
+use Rattle.nm_replica.specs.declared.serving.Serving.{Serving}
 use Rattle.nm_replica.proofs.serving.poll.Goals as goal
-use Rattle.nm_replica.proofs.serving.poll.Goals.{then-may_end, else-may_end}
+use Rattle.nm_replica.proofs.serving.poll.Goals.{then-may_end, else-may_end, then-standing+then-may_leave, then-standing+else-may_leave, else-standing}
 
 pub returns-clause-done : goal.returns-clause-done
 returns-clause-done g c = λ done. elim c.if-may_end.branch [
@@ -23,3 +26,24 @@ returns-in_err-standing-clause-so_far g c =
     on_error c.from_residual-in_err-standing.result
     (subst (λ f. Streamed g.S.Sink.seen g.C.Counts.exact g.C.Counts.home before.files.items f.files.items) (sym c.in_err-standing.ensures.files)
     (streamed_none g.C.Counts.exact g.C.Counts.home g.S.Sink.seen before.files.items))
+
+pub returns-in-Err-clause-so_far : goal.returns-in-Err-clause-so_far
+returns-in-Err-clause-so_far g c =
+    let kept : c.if-standing.holdings.files ≡ c.args.holdings.now.files =
+    elim c.if-standing.branch [
+      | then-standing+then-may_leave w ↦ ap (λ h. h.files) w.holdings-is ∙ c.in_ok-standing.ensures.files
+      | then-standing+else-may_leave w ↦ ap (λ h. h.files) w.holdings-is ∙ c.in_ok-standing.ensures.files
+      | else-standing w ↦ ap (λ h. h.files) w.holdings-is ∙ c.in_ok-standing.ensures.files
+    ] in
+    subst (λ f. Streamed g.S.Sink.seen g.C.Counts.exact g.C.Counts.home f.files.items c.write_records.new.files.files.items) kept c.in-Err.ensures.so_far
+
+pub returns-clause-served : goal.returns-clause-served
+returns-clause-served g c =
+    let connections : Serving _ → Connections _ = λ s. s.connections in
+    let kept : c.if-standing.serving.connections ≡ c.serve_and_act.new.serving.connections =
+    elim c.if-standing.branch [
+      | then-standing+then-may_leave w ↦ ap connections w.serving-is
+      | then-standing+else-may_leave w ↦ ap connections w.serving-is
+      | else-standing w ↦ ap connections w.serving-is
+    ] in
+    waits_and_serves _ _ _ _ _ _ c.in_ok-ran_out.ensures.waits c.in_ok-standing.ensures.served kept

@@ -1,4 +1,5 @@
 use Rattle.std.proofs.Common.{◌≡◌}
+use Rattle.nm_replica.specs.Turns.{ServesKeys}
 use Rattle.nm_replica.proofs.serving.serve_all.Given as goal
 
 abbrev pub invariant-loop-key : goal.invariant-loop-key
@@ -7,4 +8,5 @@ invariant-loop-key g l = record {
   moved : l.serving.moved ≡ l.fn.serving.moved;
   counted : l.serving.counted ≡ l.fn.serving.counted;
   events : l.serving.events ≡ l.fn.serving.events;
+  served : ServesKeys l.key l.fn.serving.connections l.serving.connections l.all.moved l.all.octets;
 }

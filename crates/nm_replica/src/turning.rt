@@ -1,0 +1,128 @@
+//! The turns of one connection, and what is counted of them.
+
+ghost use Rattle.std.specs.Prelude.{◌+◌, ◌≡◌, None};
+ghost use Rattle.slab.specs.Slab.{get};
+ghost use Rattle.nm_base.specs.Count.{saturated};
+ghost use Rattle.nm_replica.specs.Moved.{CountsMoves};
+ghost use Rattle.nm_replica.specs.Turns.{GivesTurns};
+
+use crate::connection::Connection;
+use crate::connections::Connections;
+use crate::limits::MAX_TURNS;
+use crate::moved::CountingWire;
+use nm_base::Wire;
+use nm_engine::{GivenCounts, Link, ReadBuffer, Turn};
+use nm_shared::{Counts, Pass, SharedBook};
+use std::alloc::Global;
+use std::sync::Wait;
+
+/// What turns of connections came to.
+#[derive(Clone, Copy)]
+pub(crate) struct Moves {
+    /// How many octets moved with peers, and how many of them count as activity.
+    pub moved: u64,
+    pub octets: u64,
+    /// Octets came.
+    pub has_heard: bool,
+    /// A connection had all its turns, and may want more.
+    pub has_more: bool,
+    /// What links gave, where that is counted.
+    pub given: GivenCounts,
+}
+
+impl Moves {
+    /// Nothing moved.
+    pub(crate) const NONE: Moves = Moves {
+        moved: 0,
+        octets: 0,
+        has_heard: false,
+        has_more: false,
+        given: GivenCounts::NONE,
+    };
+
+    /// These and others.
+    pub(crate) fn with(self, other: Moves) -> Moves
+        ensures moved { result.moved ≡ saturated (self.moved + other.moved) }
+        ensures octets { result.octets ≡ saturated (self.octets + other.octets) }
+    {
+        Moves {
+            moved: self.moved.saturating_add(other.moved),
+            octets: self.octets.saturating_add(other.octets),
+            has_heard: self.has_heard || other.has_heard,
+            has_more: self.has_more || other.has_more,
+            given: self.given.with(other.given),
+        }
+    }
+}
+
+/// What connections do in their turns.
+#[derive(Clone, Copy)]
+pub(crate) enum Does {
+    /// They take what came, and say nothing.
+    Hear,
+    /// They say what is owed, too.
+    Speak,
+}
+
+/// Gives a link its turns: what the last of them came to.
+fn turns_of<W: Wire, C: Counts, R: Wait>(
+    rt: &R,
+    alloc: Global,
+    book: &SharedBook<C>,
+    pass: &mut Pass<C>,
+    link: &mut Link<CountingWire<W>>,
+    buffer: &mut ReadBuffer,
+    does: Does,
+) -> Turn {
+    let mut last = Turn::Progress;
+    for _ in 0..MAX_TURNS {
+        last = match does {
+            Does::Hear => link.hear(rt, alloc, book, pass, buffer),
+            Does::Speak => link.turn(rt, alloc, book, pass, buffer),
+        };
+        if last != Turn::Progress {
+            break;
+        }
+    }
+    last
+}
+
+/// Counts what moved on a connection in its turns, after which it may want more or not.
+fn count_turns<W>(connection: &mut Connection<W>, counts: bool, has_more: bool) -> Moves
+    ensures counted { CountsMoves counts connection.old connection.new result }
+    ensures link { connection.new.link ≡ connection.old.link }
+{
+    let counted = connection.count_moved(counts);
+    Moves {
+        moved: counted.all,
+        octets: counted.counted,
+        has_heard: connection.has_heard(),
+        has_more,
+        given: connection.count_given(),
+    }
+}
+
+/// Gives the connection with this key its turns, if it is there: what moved, and what the last turn
+/// came to.
+pub(crate) fn turns<W: Wire, C: Counts, R: Wait>(
+    rt: &R,
+    alloc: Global,
+    book: &SharedBook<C>,
+    pass: &mut Pass<C>,
+    connections: &mut Connections<W>,
+    buffer: &mut ReadBuffer,
+    key: usize,
+    does: Does,
+) -> (Moves, Turn)
+    ensures turned { GivesTurns key connections.old connections.new result.0 }
+    ensures absent { get connections.old.open key ≡ None → connections.new ≡ connections.old }
+{
+    let counts = connections.contacts.does_count(key);
+    let Some(connection) = connections.open.get_mut(key) else {
+        return (Moves::NONE, Turn::Idle);
+    };
+    let link = &mut connection.link;
+    let last = turns_of(rt, alloc, book, pass, link, buffer, does);
+    let has_more = last == Turn::Progress;
+    (count_turns(connection, counts, has_more), last)
+}
