@@ -1,9 +1,9 @@
 -- How many words a command has.
 use Rattle.std.proofs.Common.{◌≡◌, ℕ, ◌<◌, List, [], ◌∷◌, length, Option, refl, arith}
-use Rattle.nm_command.specs.Command.{CommandValue, all_or}
+use Rattle.nm_command.specs.Command.{CommandValue, files_or}
 
--- `all` has three words at least
-pub few_are_others : (words : List (List ℕ)) (other : Option CommandValue) → length words < 3 → all_or words other ≡ other
+-- `all` and `verify` have three words at least
+pub few_are_others : (words : List (List ℕ)) (other : Option CommandValue) → length words < 3 → files_or words other ≡ other
 few_are_others [] other few = refl
 few_are_others (a ∷ []) other few = refl
 few_are_others (a ∷ b ∷ []) other few = refl

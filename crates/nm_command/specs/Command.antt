@@ -22,6 +22,9 @@ pub data CommandValue : Type 0 where
   -- to write the trace files of interfaces: the topology, the folder, and the names of the
   -- interfaces, or of none for all
   All : List ℕ → List ℕ → List (List ℕ) → CommandValue
+  -- to see whether the trace files of interfaces that are there have their traces: the topology, the
+  -- folder, and the names of the interfaces, or of none for all
+  Verify : List ℕ → List ℕ → List (List ℕ) → CommandValue
   -- to run rounds: the topology, and the greatest number of rounds
   Rounds : List ℕ → ℕ → CommandValue
   -- to do steps: the topology, and the script
@@ -50,6 +53,8 @@ command_value (command.Trace words) =
     Trace words.form words.ways words.topology.now (option_map (λ name. name.now) words.iface)
 command_value (command.All words) =
     All words.topology.now words.folder.now (map (λ name. string_bytes name) words.ifaces.now)
+command_value (command.Verify words) =
+    Verify words.topology.now words.folder.now (map (λ name. string_bytes name) words.ifaces.now)
 command_value (command.Rounds topology max) = Rounds topology.now max
 command_value (command.Script topology steps) = Script topology.now steps.now
 command_value (command.Check topology) = Check topology.now
@@ -67,6 +72,7 @@ command_value (command.Node words) =
 abbrev pub AsksWithinLimits : Command → Type 0
 AsksWithinLimits (command.Trace words) = Unit {0}
 AsksWithinLimits (command.All words) = Unit {0}
+AsksWithinLimits (command.Verify words) = Unit {0}
 AsksWithinLimits (command.Rounds topology max) = (1 ≤ max) × (max ≤ MAX_ROUNDS)
 AsksWithinLimits (command.Script topology steps) = Unit {0}
 AsksWithinLimits (command.Check topology) = Unit {0}
@@ -193,11 +199,13 @@ of_number (word ∷ topology ∷ folder ∷ partition ∷ replica ∷ addresses 
     of_six word topology folder partition replica addresses
 of_number (word ∷ topology ∷ folder ∷ partition ∷ replica ∷ addresses ∷ more ∷ rest) = None
 
--- `all TOPO DIR`, with or without names behind it, and else words of a number
-abbrev pub all_or : List (List ℕ) → Option CommandValue → Option CommandValue
-all_or (word ∷ topology ∷ folder ∷ ifaces) other =
-    if bytes_eq word (codes "all") then Some (All topology folder ifaces) else other
-all_or words other = other
+-- `all TOPO DIR` and `verify TOPO DIR`, with or without names behind them, and else words of a
+-- number
+abbrev pub files_or : List (List ℕ) → Option CommandValue → Option CommandValue
+files_or (word ∷ topology ∷ folder ∷ ifaces) other =
+    if bytes_eq word (codes "all") then Some (All topology folder ifaces)
+    else (if bytes_eq word (codes "verify") then Some (Verify topology folder ifaces) else other)
+files_or words other = other
 
 abbrev pub command_of : List (List ℕ) → Option CommandValue
-command_of words = all_or words (of_number words)
+command_of words = files_or words (of_number words)

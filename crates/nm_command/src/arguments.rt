@@ -17,7 +17,7 @@ pub struct TraceArguments<'a> {
     pub iface: Option<&'a str>,
 }
 
-/// What the words of `all` name.
+/// What the words of `all` and of `verify` name.
 #[derive(Clone, Copy)]
 pub struct AllArguments<'a> {
     /// The input with the topology text.

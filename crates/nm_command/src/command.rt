@@ -30,6 +30,8 @@ pub enum Command<'a> {
     Trace(TraceArguments<'a>),
     /// To write the trace files of interfaces, all by one event list.
     All(AllArguments<'a>),
+    /// To see whether the trace files of interfaces that are there have their traces.
+    Verify(AllArguments<'a>),
     /// To let all partitions run in rounds, and to say what came of it.
     Rounds {
         /// The input with the topology text.
@@ -298,7 +300,7 @@ fn of_six<'a>(
     }))
 }
 
-/// The command of words that are not `all` with a topology and a folder.
+/// The command of words that are neither `all` nor `verify` with a topology and a folder.
 fn of_number<'a>(words: &'a [String]) -> Option<Command<'a>>
     ensures value { option_map command_value result
         ≡ of_number (map (λ w. string_bytes w) words.now) }
@@ -340,9 +342,9 @@ fn of_number<'a>(words: &'a [String]) -> Option<Command<'a>>
 
 impl<'a> Command<'a> {
     /// The command of the words after the program's name: `one TOPO IFACE`, `onehex TOPO IFACE`,
-    /// `sent TOPO IFACE` or `received TOPO IFACE`, where IFACE may be left out, `all TOPO DIR` with
-    /// or without names of interfaces behind it, `rounds TOPO MAX`, `script TOPO STEPS`, `check
-    /// TOPO`, `report TOPO`, `report TOPO csv` or `report TOPO delays`, `dot TOPO` or `dot TOPO
+    /// `sent TOPO IFACE` or `received TOPO IFACE`, where IFACE may be left out, `all TOPO DIR` or
+    /// `verify TOPO DIR` with or without names of interfaces behind it, `rounds TOPO MAX`, `script
+    /// TOPO STEPS`, `check TOPO`, `report TOPO`, `report TOPO csv` or `report TOPO delays`, `dot TOPO` or `dot TOPO
     /// load`, `text TOPO IFACE`, `series TOPO STEP` or `series TOPO STEP flows`, `packets TOPO
     /// SOURCE`, `path TOPO NODE ADDRESS`, `run TOPO DIR WORKERS REPLICAS`, or `node TOPO DIR
     /// PARTITION REPLICA ADDRESSES`. No words are `onehex -`. `None` where the words are no
@@ -355,6 +357,11 @@ impl<'a> Command<'a> {
         match words {
             [word, topology, folder, ifaces @ ..] => match word.as_str() {
                 "all" => Some(Command::All(AllArguments {
+                    topology: topology.as_str(),
+                    folder: folder.as_str(),
+                    ifaces,
+                })),
+                "verify" => Some(Command::Verify(AllArguments {
                     topology: topology.as_str(),
                     folder: folder.as_str(),
                     ifaces,

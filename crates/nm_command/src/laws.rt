@@ -3,10 +3,12 @@
 
 ghost use Rattle.std.specs.Prelude.{◌≡◌, ℕ, ◌^◌, List, [], ◌∷◌, ◌++◌, codes, decimal, Some};
 ghost use Rattle.std.specs.Prelude.{None, option_map};
+ghost use Rattle.arrayvec.specs.ArrayString.{ArrayString};
 ghost use Rattle.nm_topology.specs.declared.fault.Refusal.TheVariants.{Hex};
 ghost use Rattle.nm_pcap.specs.declared.form.Form.TheVariants.{Octets, Hexadecimal};
 ghost use Rattle.nm_command.specs.Command.{All, Check, Node, Packets, Path, Rounds, Run, Script};
-ghost use Rattle.nm_command.specs.Command.{Series, Show, Text, Trace, asked_number, command_of};
+ghost use Rattle.nm_command.specs.Command.{Series, Show, Text, Trace, Verify, asked_number};
+ghost use Rattle.nm_command.specs.Command.{command_of};
 ghost use Rattle.nm_command.specs.Command.{node_of, run_of};
 ghost use Rattle.nm_command.specs.Status.{code_of, line_of};
 ghost use Rattle.nm_command.specs.declared.status.Status.TheVariants as status;
@@ -26,7 +28,8 @@ pub fn words_of_the_program()
         × (command_of (codes "received" ∷ t ∷ i ∷ [])
         ≡ Some (Trace Octets Received t (Some i))) }
     ensures files { (t d : List ℕ) (names : List (List ℕ))
-        → command_of (codes "all" ∷ t ∷ d ∷ names) ≡ Some (All t d names) }
+        → (command_of (codes "all" ∷ t ∷ d ∷ names) ≡ Some (All t d names))
+        × (command_of (codes "verify" ∷ t ∷ d ∷ names) ≡ Some (Verify t d names)) }
     ensures script { (t s : List ℕ)
         → command_of (codes "script" ∷ t ∷ s ∷ []) ≡ Some (Script t s) }
     ensures looks { (t i a : List ℕ) → (command_of (codes "check" ∷ t ∷ []) ≡ Some (Check t))
@@ -86,6 +89,9 @@ pub fn statuses_and_lines()
         ≡ codes "nullsim: not certified " ++ decimal n ++ codes "\n")
         × (code_of status.Stalled ≡ 7)
         × (line_of status.Stalled ≡ codes "nullsim: stalled\n") }
+    ensures differs { (name : ArrayString) (n : ℕ) → (code_of (status.Differs name n) ≡ 8)
+        × (line_of (status.Differs name n)
+        ≡ codes "nullsim: differs " ++ name.bytes ++ codes " " ++ decimal n ++ codes "\n") }
 {}
 
 /// A number stands in decimal, without leading zeros, and is one of those that may be.

@@ -5,12 +5,17 @@ ghost use Rattle.nm_base.specs.Sink.{HasFailedOnce, HasNotFailed, HasTaken};
 ghost use Rattle.nm_command.specs.Status.{code_of, ended, line_of};
 ghost use Rattle.nm_command.specs.declared.status.Status.TheVariants.{File, Memory};
 
+use arrayvec::ArrayString;
 use itoa::Buffer;
 use nm_base::sink::write_all;
 use nm_base::{Sink, SinkFault};
 use nm_files::{FileFault, FilesFault, OutputFault};
 use nm_topology::Refusal;
+use nm_topology::parse::forms::MAX_NAME;
 use std::alloc::{AllocError, AllocFailed};
+
+/// The name of an interface, which lies in the value itself.
+pub type IfaceName = ArrayString<MAX_NAME>;
 
 /// How the program ends: what it says on standard error, and its exit status.
 #[derive(Clone, Copy, Debug, PartialEq, Eq)]
@@ -37,6 +42,10 @@ pub enum Status {
     NotCertified(u8),
     /// Something was left to do when the program gave up.
     Stalled,
+    /// The trace file of this interface that is there differs from its trace at this octet, counted
+    /// from 0, which stops at 2^64 - 1: all before it are the same, and there the file has another
+    /// one, or it ends, or it goes on.
+    Differs { iface: IfaceName, octet: u64 },
 }
 
 impl From<AllocError> for Status {
@@ -112,6 +121,7 @@ impl Status {
             Status::Memory => 5,
             Status::NotCertified(_) => 6,
             Status::Stalled => 7,
+            Status::Differs { .. } => 8,
         }
     }
 
@@ -141,6 +151,7 @@ impl Status {
                 put_number(sink, b"nullsim: not certified ", fault as u64)
             }
             Status::Stalled => write_all(sink, b"nullsim: stalled\n"),
+            Status::Differs { iface, octet } => put_place(sink, iface.as_str(), octet),
         }
     }
 }
@@ -155,4 +166,15 @@ fn put_number<S: Sink>(sink: &mut S, text: &[u8], number: u64) -> Result<(), Sin
     write_all(sink, text)?;
     write_all(sink, buffer.format(number).as_bytes())?;
     write_all(sink, b"\n")
+}
+
+/// Gives a sink the line of the octet at which the file of an interface differs.
+fn put_place<S: Sink>(sink: &mut S, iface: &str, octet: u64) -> Result<(), SinkFault>
+    ensures said { OnOk result (HasTaken (S.seen sink.old) (S.seen sink.new)
+        (codes "nullsim: differs " ++ iface.now ++ codes " " ++ decimal octet ++ codes "\n")) }
+    ensures failed { IfErr result (λ _. HasFailedOnce (S.seen sink.old) (S.seen sink.new)) }
+{
+    write_all(sink, b"nullsim: differs ")?;
+    write_all(sink, iface.as_bytes())?;
+    put_number(sink, b" ", octet)
 }

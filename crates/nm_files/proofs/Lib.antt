@@ -2,3 +2,4 @@ pub mod Pieces
 pub mod Records
 pub mod Made
 pub mod Files
+pub mod Checked

@@ -3,3 +3,4 @@ pub mod Names
 pub mod TraceFile
 pub mod Writing
 pub mod Files
+pub mod Checked

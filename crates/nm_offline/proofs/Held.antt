@@ -21,7 +21,7 @@ use Rattle.nm_topology.specs.TopologyValue.{TopologyValue}
 use Rattle.nm_files.specs.Files.{FileTook, FilesTook}
 use Rattle.nm_files.specs.Names.{file_name}
 use Rattle.nm_files.specs.Outputs.{AreWhole, Files, HasMade, HasMadeSome}
-use Rattle.nm_files.specs.TraceFile.{trace_file, written_at}
+use Rattle.nm_files.specs.TraceFile.{octets_after, trace_file, written_at}
 use Rattle.nm_files.proofs.Made.{appended}
 use Rattle.nm_files.proofs.Records.{file_parts}
 use Rattle.nm_offline.specs.All.{AreAsked, MakesAll, is_asked_for, wanted_file}
@@ -29,7 +29,7 @@ use Rattle.nm_offline.specs.Input.{InputsSeen, IsInput}
 use Rattle.nm_command.specs.Status.{ended}
 use Rattle.nm_command.specs.declared.status.Status.{Status}
 use Rattle.nm_command.specs.declared.status.Status.TheVariants.{File, Memory}
-use Rattle.nm_offline.specs.Held.{AreHeld, HasOpened, HoldsFile, IsClosedAs, octets_after}
+use Rattle.nm_offline.specs.Held.{AreHeld, HasOpened, HoldsFile, IsClosedAs}
 
 -- a name is among some, or there are none
 pub wanted_by : {Y : Type 0} (h : Y → List ℕ) (ys : List Y) (iface : IfaceValue)
@@ -121,7 +121,7 @@ module _ {S : Type 0} (seen : S → SinkSeen) (made : Option Files) (t : Topolog
       )
 
 -- the trace file of an interface is what its file holds after all records
-whole_file : (n : ℕ) (records : List (Record (List ℕ))) → octets_after n records ≡ trace_file Octets n records
+pub whole_file : (n : ℕ) (records : List (Record (List ℕ))) → octets_after n records ≡ trace_file Octets n records
 whole_file n records = sym (file_parts Octets n records ∙ append-nil (octets_after n records))
 
 closed_as : (made : Option Files) (b : Bool) (file wanted : List ℕ × List ℕ) (o : Option (Option (List ℕ × List ℕ))) → IsClosedAs made b file o → file ≡ wanted

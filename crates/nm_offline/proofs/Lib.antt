@@ -6,3 +6,4 @@ pub mod Ways
 mod Held
 mod Showings
 mod Stepping
+pub mod Verifying

@@ -1,5 +1,5 @@
 -- The word `all`: the trace files of interfaces, by one event list.
-use Rattle.std.specs.Prelude.{◌≡◌, ◌⊎◌, Bool, ◌||◌, ℕ, nat_eq, if◌then◌else◌, List, [], ◌∷◌, All, is_some, length, map, position, string_bytes, Option, Some, None, Ok}
+use Rattle.std.specs.Prelude.{◌≡◌, ◌⊎◌, Bool, ◌||◌, ℕ, nat_eq, if◌then◌else◌, List, [], ◌∷◌, All, is_some, length, map, position, string_bytes, Some, None, Ok}
 use Rattle.std.specs.List.{enumerate_from, flat_map}
 use Rattle.std.specs.Str.{bytes_eq}
 use Rattle.nm_base.specs.declared.record.Record.{Record}

@@ -8,12 +8,8 @@ use Rattle.nm_pcap.specs.Writer.{Writer}
 use Rattle.nm_topology.specs.PartValues.{IfaceValue}
 use Rattle.nm_topology.specs.TopologyValue.{TopologyValue}
 use Rattle.nm_files.specs.Outputs.{Files, IsWhole}
-use Rattle.nm_files.specs.TraceFile.{written_at}
+use Rattle.nm_files.specs.TraceFile.{octets_after}
 use Rattle.nm_offline.specs.All.{is_asked_for}
-
--- the octets of interface n's file after these records
-abbrev pub octets_after : ℕ → List (Record (List ℕ)) → List ℕ
-octets_after n records = file_header ++ written_at Octets n records
 
 module _ {S : Type 0} (seen : S → SinkSeen) (made : Option Files) where
   -- where a file is wanted, it is there and holds these octets, if it is told which files were

@@ -11,3 +11,4 @@ pub mod Held
 pub mod Path
 pub mod Series
 pub mod Packets
+pub mod Verify

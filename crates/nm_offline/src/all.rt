@@ -1,12 +1,11 @@
 //! The word `all`: the trace files of interfaces, all by one event list.
 
-ghost use Rattle.std.specs.Prelude.{◌≡◌, ◌⊎◌, ◌<◌, ℕ, Bool, List, [], None, Some, All, IfErr};
-ghost use Rattle.std.specs.Prelude.{IfOk, OnOk, get_or, length, map, option_map, position};
+ghost use Rattle.std.specs.Prelude.{◌≡◌, ◌⊎◌, ◌<◌, ℕ, Bool, List, [], None, Some, IfErr};
+ghost use Rattle.std.specs.Prelude.{IfOk, OnOk, get_or, length, map, option_map};
 ghost use Rattle.std.specs.Prelude.{slice_get, string_bytes};
-ghost use Rattle.std.specs.Str.{bytes_eq};
 ghost use Rattle.nm_base.specs.declared.record.Record.{Record as TraceRecord};
 ghost use Rattle.nm_command.specs.Status.{ended};
-ghost use Rattle.nm_command.specs.declared.status.Status.TheVariants.{File, Memory, NoInterface};
+ghost use Rattle.nm_command.specs.declared.status.Status.TheVariants.{File, Memory};
 ghost use Rattle.nm_base.specs.declared.wanted.Wanted.TheVariants.{All as AllWanted};
 ghost use Rattle.nm_events.specs.Held.{pending_of};
 ghost use Rattle.nm_files.specs.Files.{FilesTook};
@@ -18,14 +17,13 @@ ghost use Rattle.nm_topology.specs.PartValues.{IfaceValue};
 ghost use Rattle.nm_offline.specs.All.{MakesAll, all_asked, is_asked_for, wanted_files};
 ghost use Rattle.nm_offline.specs.Held.{AreHeld, HasOpened, HoldsFile, IsClosedAs};
 ghost use Rattle.nm_offline.specs.Output.{files_seen};
-ghost use Rattle.nm_offline.specs.Traces.{iface_named};
 
 use crate::closed::push_some;
 use crate::input::NamedInputs;
 use crate::inputs::Inputs;
 use crate::reading::read_topology;
 use crate::trace_file::go_on;
-use crate::traces::named_iface;
+use crate::wanted::{Wanted, find_ifaces, is_asked_for};
 use nm_base::Sink;
 use nm_command::{AllArguments, Status};
 use nm_files::names::name_of;
@@ -35,47 +33,7 @@ use nm_progress::Progress;
 use nm_sim::Tracer;
 use nm_sim::trace::every_topology_has_a_trace;
 use nm_topology::Topology;
-use nm_topology::parts::Iface;
 use std::alloc::Global;
-
-/// Trace files that are asked for: of which network, where, and of interfaces of which names.
-#[derive(Clone, Copy)]
-struct Wanted<'a> {
-    network: &'a Topology,
-    folder: &'a str,
-    names: &'a [String],
-}
-
-/// Where the name of an interface stands among these.
-fn place_of(names: &[String], iface: &Iface) -> Option<usize>
-    ensures { result ≡ position (λ n. bytes_eq (string_bytes n) iface.now.name) names.now }
-{
-    names.iter().position(|name| name.as_str() == iface.name())
-}
-
-/// Whether the trace file of an interface is asked for.
-fn is_asked_for(names: &[String], iface: &Iface) -> bool
-    ensures { result ≡ is_asked_for (map (λ n. string_bytes n) names.now) iface.now }
-{
-    names.is_empty() || place_of(names, iface).is_some()
-}
-
-/// Whether each name is that of an interface.
-fn find_ifaces(network: &Topology, names: &[String]) -> Result<(), Status>
-    ensures found { OnOk result (All
-        (λ name. iface_named network.now.ifaces (Some name) ≡ None → ⊥)
-        (map (λ n. string_bytes n) names.now)) }
-    ensures none { IfErr result (λ status. (status ≡ NoInterface) × (All
-        (λ name. iface_named network.now.ifaces (Some name) ≡ None → ⊥)
-        (map (λ n. string_bytes n) names.now) → ⊥)) }
-{
-    for name in names {
-        if named_iface(network, name.as_str()).is_none() {
-            return Err(Status::NoInterface);
-        }
-    }
-    Ok(())
-}
 
 /// Begins the trace file of an interface, if it is asked for.
 fn open_wanted<F: Outputs>(

@@ -1,6 +1,9 @@
 //! Inputs, which are opened by their names and read to their end.
 
-ghost use Rattle.std.specs.Prelude.{◌≡◌, ◌+◌, ◌<◌, ◌≤◌, Err, IfOk, IfSome, length};
+ghost use Rattle.std.specs.Prelude.{◌≡◌, ◌+◌, ◌<◌, ◌≤◌, Err, IfOk, IfSome, Some, codes, false};
+ghost use Rattle.std.specs.Prelude.{length};
+ghost use Rattle.std.specs.Io.Buffered.{reader_remaining};
+ghost use Rattle.std.specs.Str.{bytes_eq};
 ghost use Rattle.std.specs.IoError.{error_kind};
 ghost use Rattle.nm_offline.specs.Input.{IsFaultOf, inputs_seen, text_of};
 ghost use Rattle.nm_offline.specs.declared.input.InputFault.TheVariants.{Failed, TooLong};
@@ -10,10 +13,13 @@ use crate::inputs::Inputs;
 use nm_base::failures::FailureCount;
 use nm_base::limits::MAX_INPUT_OCTETS;
 use std::alloc::Global;
-use std::io::{ErrorKind, Read};
+use std::io::{BufReader, ErrorKind, Read};
 use std::marker::Model;
 use std::{fmt, io};
 use thiserror::Error;
+
+/// How many octets of a file are read ahead, so that the system is called seldom.
+const HELD_OCTETS: usize = 16_384;
 
 /// Why an input was not read.
 #[derive(Clone, Copy, Debug, PartialEq, Eq, Error)]
@@ -101,6 +107,28 @@ impl<I: Inputs> NamedInputs<I> {
             self.failed.rise();
         }
         octets
+    }
+
+    /// Opens the file of a name, which is read in pieces, however long it is. A name that is
+    /// standard input's is no file's.
+    ///
+    /// # Errors
+    ///
+    /// The file could not be opened, or memory was refused. It is not counted.
+    pub fn open(&self, alloc: Global, name: &str) -> io::Result<BufReader<I::File>>
+        requires { bytes_eq name.now (codes "-") ≡ false }
+        ensures { IfOk result (λ reader. IfSome ((inputs_seen I.seen self.now).text name.now)
+            (λ text. reader_remaining I.File.remaining reader ≡ Some text)) }
+    {
+        let file = self.inputs.open(name)?;
+        BufReader::with_capacity(alloc, HELD_OCTETS, file)
+    }
+
+    /// Counts that a file which was opened could not be, or that a read of it failed.
+    pub fn fail(&mut self)
+        ensures { self.new ≡ record self.old { failures = self.old.failures + 1 } }
+    {
+        self.failed.rise();
     }
 }
 

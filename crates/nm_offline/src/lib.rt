@@ -18,6 +18,8 @@ pub mod series;
 pub mod shown;
 pub mod trace_file;
 pub mod traces;
+pub mod verify;
+pub mod wanted;
 
 pub use input::NamedInputs;
 pub use inputs::Inputs;

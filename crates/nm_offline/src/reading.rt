@@ -56,6 +56,7 @@ pub fn read_topology<I: Inputs>(
         name.now network) }
     ensures fault { IfErr result (λ status. FailsOfInput
         (inputs_seen I.seen inputs.old) (inputs_seen I.seen inputs.new) name.now IsRefused status) }
+    ensures kept { IfOk result (λ _. inputs.new ≡ inputs.old) }
 {
     let text = read_text(alloc, inputs, name)?;
     read_network(alloc, text.as_slice())

@@ -22,10 +22,10 @@ fn bad_line(alloc: Global, topology: &[u8], script: &[u8], line: u64) -> Status
     requires { IsFirstFault script.now line }
     ensures { FailsScript topology.now script.now result }
 {
-    match read_network(alloc, topology) {
-        Ok(_) => Status::ScriptLine(line),
-        Err(status) => status,
+    if let Err(status) = read_network(alloc, topology) {
+        return status;
     }
+    Status::ScriptLine(line)
 }
 
 /// The steps of a script.

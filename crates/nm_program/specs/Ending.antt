@@ -2,7 +2,7 @@
 use Rattle.std.specs.Prelude.{◌≡◌, Bool, false, Option, Some, None}
 use Rattle.nm_command.specs.declared.status.Status.{Status}
 use Rattle.nm_command.specs.declared.status.Status.TheVariants.{Done, Usage, File}
-use Rattle.nm_command.specs.Command.{CommandValue, Trace, All, Rounds, Script, Check, Show, Text, Series, Packets, Path, Run, Node}
+use Rattle.nm_command.specs.Command.{CommandValue, Trace, All, Verify, Rounds, Script, Check, Show, Text, Series, Packets, Path, Run, Node}
 use Rattle.nm_program.specs.Node.{EndsNode}
 use Rattle.nm_offline.specs.Output.{Exchange}
 use Rattle.nm_offline.specs.Rounds.{EndsRounds}
@@ -16,6 +16,7 @@ use Rattle.nm_offline.specs.Script.{EndsScript}
 use Rattle.nm_offline.specs.Series.{EndsSeries}
 use Rattle.nm_offline.specs.Shown.{EndsShown, EndsText}
 use Rattle.nm_offline.specs.Traces.{EndsTrace}
+use Rattle.nm_offline.specs.Verify.{EndsVerify}
 
 -- What each status says of a command. Words that are no command are `Usage`. Only `all`, `run` and
 -- `node` make files.
@@ -32,6 +33,9 @@ module _ {S : Type 0} (before after : Surroundings S) where
       MakesAll (files_of before) (files_of after)
       (record { topology = topology; folder = folder; names = ifaces }) status
       × (after.exchange.output ≡ before.exchange.output)
+  ProgramEnds (Some (Verify topology folder ifaces)) status =
+      MakesNone (λ old new. EndsVerify old new
+      (record { topology = topology; folder = folder; names = ifaces }) status)
   ProgramEnds (Some (Rounds topology max)) status =
       MakesNone (λ old new. EndsRounds old new topology max status)
   ProgramEnds (Some (Script topology steps)) status =

@@ -25,6 +25,7 @@ use nm_offline::script::say_script;
 use nm_offline::series::write_series;
 use nm_offline::shown::{say_text, say_view};
 use nm_offline::traces::write_trace;
+use nm_offline::verify::say_verify;
 use nm_run::Runtime;
 
 /// Does what the words say, and gives the sink back. Inputs are those that the words name. What is
@@ -86,6 +87,7 @@ where
             let status = write_all_traces(alloc, &words, inputs, outputs, progress);
             (status, out)
         }
+        Some(Command::Verify(words)) => say_verify(alloc, &words, inputs, out, progress),
         Some(Command::Rounds { topology, max }) => {
             say_rounds(alloc, topology, max, inputs, out, progress)
         }
@@ -112,8 +114,9 @@ pub fn report<E: Sink>(status: Status, errors: &mut E) -> Status
     ensures line { HasNotFailed (E.seen errors.old) (E.seen errors.new)
         → HasTaken (E.seen errors.old) (E.seen errors.new) (line_of status) }
 {
+    let same = status;
     let _ = status.say(errors);
-    status
+    same
 }
 
 /// The status of a run whose output may have been held back, once it was handed on or could not be.

@@ -7,6 +7,8 @@ nullsim simulates an IPv4 network; its traces are proved to be those of one even
   nullsim one TOPO [IFACE]        the trace of an interface as a pcap file; onehex: hexadecimal
   nullsim sent TOPO [IFACE]       the same, of what leaves alone; received: of what arrives
   nullsim all TOPO DIR [IFACE..]  the traces of all interfaces, or of these, as files in DIR
+  nullsim verify TOPO DIR [IFACE..]
+                                  whether files in DIR, whoever wrote them, are those traces
   nullsim check TOPO              what is in a topology, or where its mistakes are
   nullsim report TOPO [csv]       drops, queues, use and delays as tables; delays: their spread
   nullsim series TOPO STEP        what interfaces do over time; STEP flows: what sources do
@@ -62,6 +64,15 @@ Writes the trace file of an interface with the packets that arrive there alone.
         "\
 nullsim all TOPO DIR [IFACE..]
 Simulates the network once and writes DIR/NAME.pcap for each interface, or for these.
+",
+    ),
+    (
+        "verify",
+        "\
+nullsim verify TOPO DIR [IFACE..]
+Simulates the network once and compares DIR/NAME.pcap of each interface, or of these, with
+its trace, octet for octet. Prints verified, and a line for each. Where one differs: status
+8, its name, and the first octet, counted from 0.
 ",
     ),
     (

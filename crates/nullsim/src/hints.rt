@@ -15,6 +15,7 @@ fn hint(status: Status) -> &'static str {
         Status::Rows(_) => "a series has at most 10,000,000 rows: take a longer STEP\n",
         Status::NoInterface => "nullsim dot TOPO shows the names of all interfaces\n",
         Status::Topology(_) => "nullsim check TOPO says where the mistake is\n",
+        Status::Differs { .. } => "octets count from 0; nullsim text TOPO IFACE shows its trace\n",
         Status::NotCertified(_) => "see Runs in docs/FORMATS.md\n",
         _ => "",
     }

@@ -1,7 +1,8 @@
 use Rattle.std.proofs.Common.{◌<◌, ◌≤◌, None, get_or, length, map, string_bytes, option_map, sym, ◌∙◌, subst, arith, rules}
 use Rattle.nm_files.specs.Names.{file_name}
 use Rattle.nm_offline.specs.All.{is_asked_for, wanted_file}
-use Rattle.nm_offline.specs.Held.{HoldsFile, IsClosedAs, octets_after}
+use Rattle.nm_files.specs.TraceFile.{octets_after}
+use Rattle.nm_offline.specs.Held.{HoldsFile, IsClosedAs}
 use Rattle.nm_offline.proofs.InterfaceLines.{element}
 use Rattle.nm_files.proofs.Made.{all_whole, whole_more}
 use Rattle.nm_offline.proofs.Held.{one_closed}

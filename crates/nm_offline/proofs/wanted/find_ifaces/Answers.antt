@@ -4,7 +4,7 @@ use Rattle.std.proofs.lemmas.List.Elements.{All-map}
 use Rattle.std.proofs.lemmas.Option.{slice_get-get_or}
 use Rattle.nm_offline.specs.Traces.{iface_named}
 use Rattle.nm_offline.proofs.Held.{All-more, at_map, is_there, not_there}
-use Rattle.nm_offline.proofs.all.find_ifaces.Goals as goal
+use Rattle.nm_offline.proofs.wanted.find_ifaces.Goals as goal
 
 pub loop-name-preserved : goal.loop-name-preserved
 loop-name-preserved c =
