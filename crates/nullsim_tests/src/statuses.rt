@@ -9,8 +9,9 @@ use std::test::Fail;
 
 /// A status has this exit status and this line.
 fn says(rt: &(impl Abort + AllocGlobal), status: Status, code: u8, line: &str) -> Result<(), Fail> {
+    let same = status;
     let mut sink = MemSink::new(rt.alloc(), 64)?;
-    assert!(rt; status.say(&mut sink).is_ok(), "{line}");
+    assert!(rt; same.say(&mut sink).is_ok(), "{line}");
     assert!(rt; sink.octets() == line.as_bytes(), "{line}");
     assert!(rt; status.code() == code, "{line}");
     Ok(())
