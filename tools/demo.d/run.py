@@ -2,10 +2,11 @@
 
 import asyncio
 import os
+import subprocess
 import time
 
 from counts import Counts
-from processes import Process, bound
+from processes import Process
 from proxy import Proxy
 
 KILLED = (1, 0)
@@ -101,35 +102,16 @@ class Run:
         if self.processes[KILLED].times_begun != 2:
             raise Failed("all processes ended before one was killed")
 
-    async def write_wanted(self):
-        """Writes what the one event list says of each interface, while the processes run."""
-        os.mkdir(os.path.join(self.folder, "one"))
-        for name in self.network.partition_of:
-            with open(os.path.join(self.folder, "one", name), "wb") as file:
-                child = await asyncio.create_subprocess_exec(self.program, "one", self.network.path, name, stdout=file, preexec_fn=bound())
-                try:
-                    status = await child.wait()
-                except asyncio.CancelledError:
-                    child.kill()
-                    raise
-            if status:
-                raise Failed(f"nullsim one {name} ended with status {status}")
-
-    def compare(self):
-        """Compares the file of each interface of both replicas: how many are right."""
+    def verify(self):
+        """Has the program verify the files of both replicas of each partition: how many it did."""
         count = 0
-        for name, partition in self.network.partition_of.items():
-            with open(os.path.join(self.folder, "one", name), "rb") as file:
-                wanted = file.read()
-            for replica in (0, 1):
-                try:
-                    with open(os.path.join(self.folder, f"{partition}-{replica}", f"{name}.pcap"), "rb") as file:
-                        is_right = file.read() == wanted
-                except FileNotFoundError:
-                    raise Failed(f"{self.name((partition, replica))} wrote no file of {name}") from None
-                if not is_right:
-                    raise Failed(f"the file of {name} of {self.name((partition, replica))} is not what the one event list writes")
-                count += 1
+        for partition, replica in sorted(self.processes):
+            names = [name for name, own in self.network.partition_of.items() if own == partition]
+            folder = os.path.join(self.folder, f"{partition}-{replica}")
+            ended = subprocess.run([self.program, "verify", self.network.path, folder, *names], capture_output=True, text=True, check=False)
+            if ended.returncode or not ended.stdout.startswith("verified\n"):
+                raise Failed(f"the files of {self.name((partition, replica))} are not verified: {ended.stderr.strip()}")
+            count += ended.stdout.count("\niface ")
         return count
 
     def check_counts(self):
@@ -158,17 +140,13 @@ class Run:
 
     async def demonstrate(self, view):
         """All of it: the lines that say what came of it."""
-        wanted = asyncio.ensure_future(self.write_wanted())
         try:
             await self.begin()
             await self.until_all_ended(view)
             self.is_over = True
             view.show(self, self.seconds(), at_once=True)
-            await wanted
-            lines = self.last_lines(self.compare(), self.check_counts())
+            lines = self.last_lines(self.verify(), self.check_counts())
         finally:
-            wanted.cancel()
-            await asyncio.gather(wanted, return_exceptions=True)
             await self.proxy.close()
             for process in self.processes.values():
                 process.kill()
