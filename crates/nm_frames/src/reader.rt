@@ -1,6 +1,6 @@
 //! A stream that comes in pieces.
 
-ghost use Rattle.std.specs.Prelude.{◌≡◌, ◌≤◌, drop, length, [], None, true, false, IfOk};
+ghost use Rattle.std.specs.Prelude.{◌≡◌, ◌≤◌, ◌==◌, drop, length, [], None, true, false, IfOk};
 ghost use Rattle.std.specs.Prelude.{IfErr, IfSome};
 ghost use Rattle.nm_frames.specs.Reader.{ReaderValue, Cuts, CutsTo, CutsOne, Feeds, LeavesOf};
 ghost use Rattle.nm_frames.specs.Reader.{shows_fault};
@@ -117,6 +117,13 @@ impl Reader {
             rest: Rest::new(alloc),
             failed: false,
         }
+    }
+
+    /// Whether no octets are held of a frame that has not come whole.
+    pub fn is_empty(&self) -> bool
+        ensures { result ≡ (length self.now.rest == 0) }
+    {
+        self.rest.len() == 0
     }
 
     /// Takes the next piece of the stream, and puts each frame that is whole now at the end of a

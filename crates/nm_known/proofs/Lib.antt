@@ -1,0 +1,6 @@
+mod Written
+mod Going
+mod Telling
+mod Heard
+mod Refused
+mod Read

@@ -1,0 +1,14 @@
+//! A file of what a replica knows: written when the replica is done, and read into a fresh book, so
+//! that a certificate can be made of what replicas on several machines knew. Its octets are frames,
+//! as of a connection.
+#![tactic(auto)]
+
+pub mod known_fault;
+pub mod laws;
+pub mod reading;
+mod taking;
+pub mod writing;
+
+pub use known_fault::{KnownCause, KnownFault, KnownWriteFault};
+pub use reading::read_known;
+pub use writing::write_known;
