@@ -1,0 +1,5 @@
+mod Runs
+mod Over
+mod Ends
+mod Pieces
+mod Certified

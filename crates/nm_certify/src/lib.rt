@@ -1,0 +1,16 @@
+//! The certificate of a run on several machines: of each partition the file of what one of its
+//! replicas knew is read into a fresh book, the book is run beside the partition's trace files, and
+//! all books are certified. Then each file is the one event list's, whoever wrote it.
+#![tactic(auto)]
+
+mod books;
+pub mod certify;
+pub mod fault;
+mod part;
+pub mod part_files;
+mod parts;
+mod running;
+
+pub use certify::certify_parts;
+pub use fault::{CertifyCause, CertifyFault};
+pub use part_files::PartFiles;
