@@ -25,7 +25,7 @@ use crate::replica::{Holdings, Service};
 use crate::served::{Served, file_served};
 use crate::sisters::{Merged, all_are_done, merge_sister};
 use crate::telling::tell_all;
-use crate::turning::{Does, Moves, turns};
+use crate::turning::{Does, Moves, Talk, turns};
 use nm_base::Sink;
 use nm_book::Ran;
 use nm_engine::ReadBuffer;
@@ -149,17 +149,20 @@ fn serve_all<T: Transport, C: Counts, R: Wait>(
     ensures served { IfOk result (λ m. ServesAll serving.old.connections
         serving.new.connections m.moved m.octets) }
 {
+    let talk = Talk {
+        alloc: serving.alloc,
+        book: service.book,
+        does,
+    };
     let mut all = Moves::NONE;
     for key in 0..serving.connections.key_end() {
         let (moves, turn) = turns(
             rt,
-            serving.alloc,
-            service.book,
+            &talk,
             pass,
             &mut serving.connections,
             &mut serving.buffer,
             key,
-            does,
         );
         serving
             .connections

@@ -64,21 +64,27 @@ pub(crate) enum Does {
     Speak,
 }
 
+/// Turns of connections: what they do in them, and whose book it is.
+#[derive(Drop)]
+pub(crate) struct Talk<'a, C: Counts> {
+    pub alloc: Global,
+    pub book: &'a SharedBook<C>,
+    pub does: Does,
+}
+
 /// Gives a link its turns: what the last of them came to.
 fn turns_of<W: Wire, C: Counts, R: Wait>(
     rt: &R,
-    alloc: Global,
-    book: &SharedBook<C>,
+    talk: &Talk<'_, C>,
     pass: &mut Pass<C>,
     link: &mut Link<CountingWire<W>>,
     buffer: &mut ReadBuffer,
-    does: Does,
 ) -> Turn {
     let mut last = Turn::Progress;
     for _ in 0..MAX_TURNS {
-        last = match does {
-            Does::Hear => link.hear(rt, alloc, book, pass, buffer),
-            Does::Speak => link.turn(rt, alloc, book, pass, buffer),
+        last = match talk.does {
+            Does::Hear => link.hear(rt, talk.alloc, talk.book, pass, buffer),
+            Does::Speak => link.turn(rt, talk.alloc, talk.book, pass, buffer),
         };
         if last != Turn::Progress {
             break;
@@ -106,13 +112,11 @@ fn count_turns<W>(connection: &mut Connection<W>, counts: bool, has_more: bool) 
 /// came to.
 pub(crate) fn turns<W: Wire, C: Counts, R: Wait>(
     rt: &R,
-    alloc: Global,
-    book: &SharedBook<C>,
+    talk: &Talk<'_, C>,
     pass: &mut Pass<C>,
     connections: &mut Connections<W>,
     buffer: &mut ReadBuffer,
     key: usize,
-    does: Does,
 ) -> (Moves, Turn)
     ensures turned { GivesTurns key connections.old connections.new result.0 }
     ensures absent { get connections.old.open key ≡ None → connections.new ≡ connections.old }
@@ -121,8 +125,7 @@ pub(crate) fn turns<W: Wire, C: Counts, R: Wait>(
     let Some(connection) = connections.open.get_mut(key) else {
         return (Moves::NONE, Turn::Idle);
     };
-    let link = &mut connection.link;
-    let last = turns_of(rt, alloc, book, pass, link, buffer, does);
+    let last = turns_of(rt, talk, pass, &mut connection.link, buffer);
     let has_more = last == Turn::Progress;
     (count_turns(connection, counts, has_more), last)
 }

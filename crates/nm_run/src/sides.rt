@@ -73,23 +73,31 @@ impl<S: Sink> Promise<SideEnd<S>> for TookRecords<S> {
         p.0.value.files.items end.files.files.items };
 }
 
-/// Serves a replica of the run over its connections until it ends. It calls these partitions, and
-/// these replicas call it.
+/// Which replica of the run is served, and with whom it speaks.
+#[derive(Clone, Copy)]
+struct Role<'a> {
+    own: Own<'a>,
+    /// The partitions that it calls.
+    peers: &'a [PartNo],
+    /// The replicas that call it.
+    callers: &'a [ReplicaName],
+}
+
+/// Serves a replica of the run over its connections until it ends.
 fn serve_as<S: Sink, G: Gate, R: Net + Wait + Clock + Drop + Copy>(
     rt: &R,
     threaded: &Threaded<'_, G>,
-    own: Own<'_>,
-    peers: (&[PartNo], &[ReplicaName]),
+    role: Role<'_>,
     service: &Service<'_, Plain>,
     holdings: &mut Holdings<'_, Plain, S>,
     transport: &mut TcpTransport<R>,
 ) -> Served
     // It is this replica of this run, with these neighbours.
-    requires own { (service.now.book ≡ own.book)
-        × (service.now.lending.now ≡ own.station.now.lending) }
+    requires own { (service.now.book ≡ role.own.book)
+        × (service.now.lending.now ≡ role.own.station.now.lending) }
     requires run { (service.now.topology ≡ threaded.now.plan.now.topology)
         × (service.now.books ≡ threaded.now.books) }
-    requires peers { (service.now.peers ≡ peers.0) × (service.now.callers ≡ peers.1) }
+    requires peers { (service.now.peers ≡ role.peers) × (service.now.callers ≡ role.callers) }
 
     // It is stalled after a minute, and its records leave its book while it runs.
     requires limits { (service.now.idle_limit ≡ MAX_IDLE_PERIODS)
@@ -101,18 +109,16 @@ fn serve_as<S: Sink, G: Gate, R: Net + Wait + Clock + Drop + Copy>(
         gate: threaded.gate,
         has_failed: threaded.has_failed,
         dispatcher: threaded.dispatcher,
-        lending: &own.station.lending,
+        lending: &role.own.station.lending,
     };
     run_replica(rt, threaded.alloc, service, holdings, transport, &gate)
 }
 
-/// Serves a replica over its connections until it ends. It calls these partitions, and these
-/// replicas call it. The dispatcher notes how far it is.
+/// Serves a replica over its connections until it ends. The dispatcher notes how far it is.
 fn serve<S: Sink, G: Gate, R: Net + Wait + Clock + Drop + Copy>(
     rt: &R,
     threaded: &Threaded<'_, G>,
-    own: Own<'_>,
-    peers: (&[PartNo], &[ReplicaName]),
+    role: Role<'_>,
     holdings: &mut Holdings<'_, Plain, S>,
     transport: &mut TcpTransport<R>,
 ) -> Served
@@ -121,18 +127,18 @@ fn serve<S: Sink, G: Gate, R: Net + Wait + Clock + Drop + Copy>(
 {
     let service = Service {
         topology: threaded.plan.topology,
-        book: own.book,
-        peers: peers.0,
-        callers: peers.1,
+        book: role.own.book,
+        peers: role.peers,
+        callers: role.callers,
         books: threaded.books,
         idle_limit: MAX_IDLE_PERIODS,
         run_limit: OWN_EVENTS,
-        lending: &own.station.lending,
+        lending: &role.own.station.lending,
         progress: Some(threaded.plan.progress),
         notes_progress: false,
         keeps_records: false,
     };
-    serve_as(rt, threaded, own, peers, &service, holdings, transport)
+    serve_as(rt, threaded, role, &service, holdings, transport)
 }
 
 /// How serving ends where there is no transport.
@@ -182,8 +188,12 @@ pub(crate) fn run_side<S: Sink, G: Gate, R: Net + Wait + Clock + Drop + Copy>(
     let served = match TcpTransport::new(*rt, threaded.alloc, poll, socket, addresses) {
         Err(error) => served_of(&error),
         Ok(mut transport) => {
-            let peers = (partitions.as_slice(), callers.as_slice());
-            serve(rt, threaded, own, peers, &mut holdings, &mut transport)
+            let role = Role {
+                own,
+                peers: partitions.as_slice(),
+                callers: callers.as_slice(),
+            };
+            serve(rt, threaded, role, &mut holdings, &mut transport)
         }
     };
     let told = tell_others(threaded, &served);

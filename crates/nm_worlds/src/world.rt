@@ -197,6 +197,14 @@ fn leave(hub: &Shared, machine: usize) {
     }
 }
 
+/// A life of a machine: its first, which has number 0, or its second, and when it begins.
+#[derive(Clone, Copy)]
+struct Life {
+    machine: usize,
+    number: usize,
+    begins: u64,
+}
+
 /// The machines of a world, and what it is about to lose.
 #[derive(Drop)]
 struct Fleet<'x> {
@@ -231,15 +239,13 @@ impl<'x> Fleet<'x> {
         alloc: Global,
         given: &Given,
         hub: &Shared,
-        machine: usize,
-        life: usize,
-        now: u64,
+        life: Life,
     ) -> Result<Machine<'x>, Error> {
-        let Some(role) = given.role(machine, life) else {
+        let Some(role) = given.role(life.machine, life.number) else {
             return Err(ErrorKind::InvalidData.into());
         };
         let seats = self.deal(alloc, role.topology, role.name)?;
-        let transport = given.transport(alloc, hub, machine, now)?;
+        let transport = given.transport(alloc, hub, life.machine, life.begins)?;
         Ok(Machine::new(rt, alloc, &role, seats, transport)?)
     }
 
@@ -277,7 +283,12 @@ impl<'x> Fleet<'x> {
             if let Ok(mut hub) = hub.try_borrow_mut() {
                 hub.find(loss.machine);
             }
-            let anew = self.begin(rt, alloc, given, hub, loss.machine, 1, now)?;
+            let life = Life {
+                machine: loss.machine,
+                number: 1,
+                begins: now,
+            };
+            let anew = self.begin(rt, alloc, given, hub, life)?;
             if let Some(slot) = self.machines.get_mut(loss.machine) {
                 *slot = Some(anew);
             }
@@ -419,7 +430,12 @@ fn begun<'x, R: Wait>(
         rest: Some(seats),
     };
     for machine in 0..count {
-        let first = fleet.begin(rt, alloc, given, &hub, machine, 0, 0)?;
+        let life = Life {
+            machine,
+            number: 0,
+            begins: 0,
+        };
+        let first = fleet.begin(rt, alloc, given, &hub, life)?;
         fleet.machines.push(Some(first))?;
         fleet.lives.push(0)?;
     }

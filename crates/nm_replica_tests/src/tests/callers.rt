@@ -38,6 +38,13 @@ pub(crate) fn shared_of<M: Naming + Send + Sync, E: Ledger + Send + Sync, R: Abo
     SharedBook::new(alloc, topology, PartNo::new(1), replica, counts, whole).expect(rt, "a replica")
 }
 
+/// So many threads that hand a book the same messages.
+#[derive(Clone, Copy)]
+struct Crowd<'a> {
+    threads: usize,
+    all: &'a [ChannelMessage],
+}
+
 /// What a thread was answered, and what it then saw.
 #[derive(Clone, Copy)]
 struct Told {
@@ -104,19 +111,18 @@ fn gather<C: Counts, R: Abort>(
     handed
 }
 
-/// So many threads hand a book the same messages, each with a pass of its own.
+/// Threads hand a book the same messages, each with a pass of its own.
 fn hand_at_once<M: Naming + Send + Sync, E: Ledger + Send + Sync, R: Threads + Wait + Sync + Abort>(
     rt: &R,
     alloc: Global,
     book: &SharedBook<Ledgers<M, E>>,
-    threads: usize,
-    all: &[ChannelMessage],
+    crowd: Crowd<'_>,
 ) -> Vec<(Pass<Ledgers<M, E>>, Told)> {
     map_indices(
         rt,
         alloc,
-        threads,
-        &|_thread: usize| -> (Pass<Ledgers<M, E>>, Told) { hand_all(rt, book, all) },
+        crowd.threads,
+        &|_thread: usize| -> (Pass<Ledgers<M, E>>, Told) { hand_all(rt, book, crowd.all) },
     )
     .expect(rt, "memory")
 }
@@ -155,15 +161,14 @@ fn handed_by_many<
     topology: Arc<Topology>,
     messages: Blank,
     events: Blank,
-    threads: usize,
-    all: &[ChannelMessage],
+    crowd: Crowd<'_>,
 ) -> Handed
     requires messages { IsBlankOf M.name M.parts messages.name messages.parts }
     requires events { IsBlankOf E.name E.parts events.name events.parts }
     requires home { M.home ≡ home_at (arc_value topology) 1 0 }
 {
     let shared = shared_of::<M, E, R>(rt, alloc, topology, 0, messages, events);
-    let told = hand_at_once(rt, alloc, &shared, threads, all);
+    let told = hand_at_once(rt, alloc, &shared, crowd);
     let mut passes = Vec::new(alloc);
     let handed = gather(rt, told, &mut passes);
     let closed = close_at_last(rt, shared, passes);
@@ -174,23 +179,22 @@ fn handed_by_many<
     }
 }
 
-/// So many threads hand the book of SPLIT's partition 1 the same messages.
-fn hands<R: Threads + Wait + Sync + Abort>(
-    rt: &R,
-    alloc: Global,
-    threads: usize,
-    all: &[ChannelMessage],
-) -> Handed {
+/// Threads hand the book of SPLIT's partition 1 the same messages.
+fn hands<R: Threads + Wait + Sync + Abort>(rt: &R, alloc: Global, crowd: Crowd<'_>) -> Handed {
     let topology = topology_of(rt, alloc, SPLIT);
     let (messages, events) = (Blank::new(PARTS), Blank::new(PARTS));
-    handed_by_many::<Brand, Brand, R>(rt, alloc, topology, messages, events, threads, all)
+    handed_by_many::<Brand, Brand, R>(rt, alloc, topology, messages, events, crowd)
 }
 
 /// Of two threads one tells it first: one answer is `New` and the other `Known`.
 #[test]
 fn one_is_new_and_one_is_known(rt: HostRuntime) {
     let all = [message(&rt, rt.alloc(), 1, 0, 1_100_000)];
-    let handed = hands(&rt, rt.alloc(), 2, &all);
+    let crowd = Crowd {
+        threads: 2,
+        all: &all,
+    };
+    let handed = hands(&rt, rt.alloc(), crowd);
     assert!(rt; handed.new == 1 && handed.known == 1);
     assert!(rt; handed.least == 1 && handed.most == 1);
     assert!(rt; handed.messages == 1 && handed.events == 0);
@@ -200,7 +204,11 @@ fn one_is_new_and_one_is_known(rt: HostRuntime) {
 #[test]
 fn each_message_is_new_once(rt: HostRuntime) {
     let all = messages(&rt, rt.alloc(), 1, 1_000);
-    let handed = hands(&rt, rt.alloc(), 8, &all);
+    let crowd = Crowd {
+        threads: 8,
+        all: all.as_slice(),
+    };
+    let handed = hands(&rt, rt.alloc(), crowd);
     assert!(rt; handed.new == 1_000 && handed.known == 7_000);
     assert!(rt; handed.messages == 1_000 && handed.events == 0);
 }

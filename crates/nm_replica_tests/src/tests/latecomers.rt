@@ -21,6 +21,13 @@ use std::process::Abort;
 use std::sync::ledger::{Blank, Ledger};
 use std::sync::{Arc, Wait};
 
+/// A replica that is made: which one, and what its sister knows, where it is to merge that.
+#[derive(Clone, Copy)]
+struct Made<'a> {
+    replica: u8,
+    sister: Option<&'a Knowledge>,
+}
+
 /// What a replica came to: its book, the totals of all its passes, and the null message of channel
 /// 0, which goes out.
 #[derive(Drop)]
@@ -80,18 +87,17 @@ fn made_of<M: Naming + Send + Sync, E: Ledger + Send + Sync, R: Wait + Abort>(
     rt: &R,
     alloc: Global,
     topology: Arc<Topology>,
-    replica: u8,
-    sister: Option<&Knowledge>,
+    made: Made<'_>,
     messages: Blank,
     events: Blank,
 ) -> (Finished, Knowledge)
     requires messages { IsBlankOf M.name M.parts messages.name messages.parts }
     requires events { IsBlankOf E.name E.parts events.name events.parts }
-    requires home { M.home ≡ home_at (arc_value topology) 1 replica }
+    requires home { M.home ≡ home_at (arc_value topology) 1 made.replica }
 {
-    let shared = shared_of::<M, E, R>(rt, alloc, topology, replica, messages, events);
+    let shared = shared_of::<M, E, R>(rt, alloc, topology, made.replica, messages, events);
     let mut pass = shared.pass(rt).expect(rt, "memory");
-    match sister {
+    match made.sister {
         None => tell_all(rt, alloc, &shared, &mut pass),
         Some(knowledge) => {
             let merge = Merge { alloc, knowledge };
@@ -105,16 +111,15 @@ fn made_of<M: Naming + Send + Sync, E: Ledger + Send + Sync, R: Wait + Abort>(
 }
 
 /// The same of a replica of SPLIT's partition 1, with a name of its own.
-fn made<R: Wait + Abort>(
+fn make<R: Wait + Abort>(
     rt: &R,
     alloc: Global,
     topology: &Arc<Topology>,
-    replica: u8,
-    sister: Option<&Knowledge>,
+    made: Made<'_>,
 ) -> (Finished, Knowledge) {
     let topology = topology.clone().expect(rt, "memory");
     let (messages, events) = (Blank::new(PARTS), Blank::new(PARTS));
-    made_of::<Brand, Brand, R>(rt, alloc, topology, replica, sister, messages, events)
+    made_of::<Brand, Brand, R>(rt, alloc, topology, made, messages, events)
 }
 
 /// Replica 1, made anew of what its sister knows: what it came to.
@@ -124,7 +129,11 @@ fn made_anew<R: Wait + Abort>(
     topology: &Arc<Topology>,
     sister: &Knowledge,
 ) -> Finished {
-    let (finished, _) = made(rt, alloc, topology, 1, Some(sister));
+    let made = Made {
+        replica: 1,
+        sister: Some(sister),
+    };
+    let (finished, _) = make(rt, alloc, topology, made);
     finished
 }
 
@@ -162,7 +171,11 @@ fn are_alike<R: Abort>(rt: &R, one: &Finished, other: &Finished) {
 fn a_replica_made_anew_does_what_its_sister_did(rt: HostRuntime) {
     let alloc = rt.alloc();
     let topology = topology_of(&rt, alloc, SPLIT);
-    let (one, knowledge) = made(&rt, alloc, &topology, 0, None);
+    let made = Made {
+        replica: 0,
+        sister: None,
+    };
+    let (one, knowledge) = make(&rt, alloc, &topology, made);
     let early = made_anew(&rt, alloc, &topology, &knowledge);
     are_alike(&rt, &one, &early);
     drop(early);
