@@ -344,11 +344,11 @@ impl<'a> Command<'a> {
     /// The command of the words after the program's name: `one TOPO IFACE`, `onehex TOPO IFACE`,
     /// `sent TOPO IFACE` or `received TOPO IFACE`, where IFACE may be left out, `all TOPO DIR` or
     /// `verify TOPO DIR` with or without names of interfaces behind it, `rounds TOPO MAX`, `script
-    /// TOPO STEPS`, `check TOPO`, `report TOPO`, `report TOPO csv` or `report TOPO delays`, `dot TOPO` or `dot TOPO
-    /// load`, `text TOPO IFACE`, `series TOPO STEP` or `series TOPO STEP flows`, `packets TOPO
-    /// SOURCE`, `path TOPO NODE ADDRESS`, `run TOPO DIR WORKERS REPLICAS`, or `node TOPO DIR
-    /// PARTITION REPLICA ADDRESSES`. No words are `onehex -`. `None` where the words are no
-    /// command.
+    /// TOPO STEPS`, `check TOPO`, `report TOPO`, `report TOPO csv` or `report TOPO delays`, `dot
+    /// TOPO` or `dot TOPO load`, `text TOPO IFACE`, `series TOPO STEP` or `series TOPO STEP flows`,
+    /// `packets TOPO SOURCE`, `path TOPO NODE ADDRESS`, `run TOPO DIR WORKERS REPLICAS`, or `node
+    /// TOPO DIR PARTITION REPLICA ADDRESSES`. No words are `onehex -`. `None` where the words are
+    /// no command.
     pub fn of(words: &'a [String]) -> Option<Command<'a>>
         ensures value { option_map command_value result
             ≡ command_of (map (λ w. string_bytes w) words.now) }

@@ -150,23 +150,24 @@ module _ {S : Type 0} (seen : S → SinkSeen) where
   next_record records n r old mid new is v w =
       subst (λ l. FilesTook seen l old new) (sym (one_more records n (n + 1) r is refl)) (more_records (take n records) (r ∷ []) old mid new v w)
 
--- Files are counted: one whose header alone was written, and all, whatever records they take.
+-- Files are counted, whatever records they take.
 module _ {S : Type 0} (seen : S → SinkSeen) (made : Option Files) where
-  pub begun_counted : (sink : S) (file : Writer S) → IsEmpty made (seen sink).taken → IsBegun seen sink file → IsCounted seen made (Some file)
-  begun_counted sink file empty begun first told =
-      (file_header, appended (seen sink).taken (seen file.sink).taken file_header [] begun.header (empty first told), begun.counted)
-
   file_counted : (records : List (Record (List ℕ))) (n : ℕ) (o p : Option (Writer S)) → FileTook seen records n o p
       → IsCounted seen made o → IsCounted seen made p
   file_counted records n None None took was = tt
   file_counted records n None (Some p) took was = absurd took
   file_counted records n (Some o) None took was = absurd took
-  file_counted records n (Some o) (Some p) took was = λ first told.
-      let then = was first told in
+  file_counted records n (Some o) (Some p) took (octets, holds) =
       let more = written_at o.form n records in
-      let count = took.counted (length then.0) then.2 in
-      let all = length-append then.0 more in
-      (then.0 ++ more, appended (seen o.sink).taken (seen p.sink).taken more then.0 took.whole then.1, omega (arith, count, all))
+      let count = took.counted (length octets) holds.counted in
+      let all = length-append octets more in (
+        octets ++ more,
+        record {
+          form = took.same_form ∙ holds.form;
+          taken = λ first told. appended (seen o.sink).taken (seen p.sink).taken more octets took.whole (holds.taken first told);
+          counted = omega (arith, count, all);
+        },
+      )
 
   pub files_counted : (records : List (Record (List ℕ))) (old new : List (Option (Writer S))) → FilesTook seen records old new
       → AreCounted seen made old → AreCounted seen made new

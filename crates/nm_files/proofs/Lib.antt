@@ -2,4 +2,5 @@ pub mod Pieces
 pub mod Records
 pub mod Made
 pub mod Files
+pub mod Folders
 pub mod Checked

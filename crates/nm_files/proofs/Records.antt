@@ -8,11 +8,12 @@ use Rattle.std.proofs.lemmas.Option.{slice_get_within, get_or_from_slice_get}
 use Rattle.nm_base.specs.Sink.{SinkSeen}
 use Rattle.nm_base.specs.declared.record.Record.{Record}
 use Rattle.nm_pcap.specs.declared.form.Form.{Form}
+use Rattle.nm_pcap.specs.declared.form.Form.TheVariants.{Octets}
 use Rattle.nm_pcap.specs.Format.{file_header, record_octets}
 use Rattle.nm_pcap.specs.Writer.{Writer}
 use Rattle.nm_pcap.specs.Writing.{ending, written}
 use Rattle.nm_pcap.proofs.Forms.{written-append, written-nil}
-use Rattle.nm_files.specs.TraceFile.{records_at, trace_file, written_at}
+use Rattle.nm_files.specs.TraceFile.{octets_after, records_at, trace_file, written_at}
 use Rattle.nm_files.specs.Writing.{TraceFault, WrotePart, WroteOn, WritesOn}
 use Rattle.nm_files.proofs.Pieces.{WroteAll-part, WroteOn-nil, WritesOn-after, WritesOn-more}
 
@@ -32,6 +33,10 @@ written_elsewhere form iface r h = ap (λ b. written form (flat_map record_octet
 -- a trace file is its header, its records and what stands at its end
 pub file_parts : (form : Form) (iface : ℕ) (records : List (Record (List ℕ))) → trace_file form iface records ≡ (written form file_header ++ written_at form iface records) ++ ending form
 file_parts form iface records = ap (λ l. l ++ ending form) (written-append form file_header (flat_map record_octets (records_at iface records)))
+
+-- the trace file of an interface is what stands in it once all records are written as they are
+pub whole_file : (n : ℕ) (records : List (Record (List ℕ))) → octets_after n records ≡ trace_file Octets n records
+whole_file n records = sym (file_parts Octets n records ∙ append-nil (octets_after n records))
 
 -- one more record of a list
 pub one_more : (records : List (Record (List ℕ))) (n m : ℕ) (r : Record (List ℕ)) → slice_get records n ≡ Some r → m ≡ n + 1 → take m records ≡ take n records ++ r ∷ []

@@ -1,5 +1,5 @@
 -- Trace files that are written side by side. File n is that of interface n.
-use Rattle.std.specs.Prelude.{◌≡◌, ◌≢◌, ◌⊎◌, ℕ, ◌+◌, false, All, List, [], ◌∷◌, ◌++◌, length, slice_get, slice_index_or, take, Option, Some, None}
+use Rattle.std.specs.Prelude.{◌≡◌, ◌≢◌, ◌⊎◌, ℕ, ◌+◌, ◌<◌, Bool, true, false, All, List, [], ◌∷◌, ◌++◌, get_or, length, slice_get, slice_index_or, take, Option, Some, None}
 use Rattle.nm_base.specs.Sink.{HasNotFailed, HasTaken, SinkSeen}
 use Rattle.nm_base.specs.Count.{saturated}
 use Rattle.nm_base.specs.declared.record.Record.{Record}
@@ -8,21 +8,37 @@ use Rattle.nm_pcap.specs.Format.{file_header, record_octets}
 use Rattle.nm_pcap.specs.Outcome.{AddedNothing, AddedPart}
 use Rattle.nm_pcap.specs.Writer.{Writer}
 use Rattle.nm_pcap.specs.Writing.{written}
+use Rattle.nm_topology.specs.PartValues.{IfaceValue}
 use Rattle.nm_files.specs.Outputs.{Files}
 use Rattle.nm_files.specs.TraceFile.{written_at}
 use Rattle.nm_files.specs.declared.trace_files.FileFault.{FileFault}
 
--- of a file, if there is one: where it is told which files were placed, its sink tells what it
--- took, and as many octets are counted
-abbrev pub IsCounted : {S : Type 0} → (S → SinkSeen) → Option Files → Option (Writer S) → Type 0
-IsCounted seen made None = Unit {0}
-IsCounted seen made (Some file) =
-    (first : Files) → made ≡ Some first → (octets : List ℕ)
-    × ((seen file.sink).taken ≡ Some octets) × (file.written ≡ saturated (length octets))
+module _ {S : Type 0} (seen : S → SinkSeen) (made : Option Files) where
+  -- a file holds these octets, where it is told which files were placed, and as many are counted
+  pub record HoldsOctets (octets : List ℕ) (file : Writer S) : Type 0 where
+    pub form : file.form ≡ Octets
+    pub taken : (first : Files) → made ≡ Some first → (seen file.sink).taken ≡ Some octets
+    pub counted : file.written ≡ saturated (length octets)
 
-abbrev pub AreCounted : {S : Type 0} → (S → SinkSeen) → Option Files → List (Option (Writer S))
-    → Type 0
-AreCounted seen made files = All (IsCounted seen made) files
+  -- where an interface is chosen, its file is there and holds these; else there is none
+  abbrev pub HoldsFile : (chosen : Bool) → List ℕ → Option (Writer S) → Type 0
+  HoldsFile false octets file = file ≡ None
+  HoldsFile true octets None = ⊥
+  HoldsFile true octets (Some file) = HoldsOctets octets file
+
+  -- so it is with the first interfaces, which are chosen by their numbers and what they are
+  pub record HoldsFiles (chooses : ℕ → IfaceValue → Bool) (ifaces : List IfaceValue)
+      (octets : ℕ → List ℕ) (files : List (Option (Writer S))) : Type 0 where
+    pub each : (n : ℕ) (iface : IfaceValue) → n < length files → slice_get ifaces n ≡ Some iface
+        → HoldsFile (chooses n iface) (octets n) (get_or files n None)
+
+  -- a file, if there is one, holds some octets
+  abbrev pub IsCounted : Option (Writer S) → Type 0
+  IsCounted None = Unit {0}
+  IsCounted (Some file) = (octets : List ℕ) × HoldsOctets octets file
+
+  abbrev pub AreCounted : List (Option (Writer S)) → Type 0
+  AreCounted files = All IsCounted files
 
 module _ {S : Type 0} (seen : S → SinkSeen) (sink : S) where
   -- the file of this sink, which took the header, as it is, and may be written on

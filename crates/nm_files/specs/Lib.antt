@@ -4,3 +4,4 @@ pub mod TraceFile
 pub mod Writing
 pub mod Files
 pub mod Checked
+pub mod Folder

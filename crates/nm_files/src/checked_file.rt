@@ -1,7 +1,7 @@
 //! A trace file that is there, read beside what it is to have.
 
-ghost use Rattle.std.specs.Prelude.{◌≡◌, ◌≢◌, ℕ, ◌+◌, ◌<◌, ◌≤◌, ◌++◌, IfErr, IfOk, IfSome, List, []};
-ghost use Rattle.std.specs.Prelude.{OnOk, Option, length, slice_get, take};
+ghost use Rattle.std.specs.Prelude.{◌≡◌, ◌≢◌, ℕ, ◌+◌, ◌<◌, ◌≤◌, ◌++◌, IfErr, IfOk, IfSome, List};
+ghost use Rattle.std.specs.Prelude.{[], OnOk, Option, length, slice_get, take};
 ghost use Rattle.nm_base.specs.Count.{saturated};
 ghost use Rattle.nm_base.specs.declared.fault.Fault.TheVariants.{Refused};
 ghost use Rattle.nm_base.specs.declared.limits.TheConstants.{MAX_TIME};
@@ -126,7 +126,8 @@ impl<B: BufRead> CheckedFile<B> {
         ensures most { IfOk result (λ k. k ≤ length octets.now) }
         ensures read { (texts : ℕ → Option (List ℕ)) (n : ℕ) (before : List ℕ)
             → HasRead texts B.remaining n before self.old
-            → IfOk result (λ k. HasRead texts B.remaining n (before ++ take k octets.now) self.new) }
+            → IfOk result (λ k.
+            HasRead texts B.remaining n (before ++ take k octets.now) self.new) }
         ensures unlike { (texts : ℕ → Option (List ℕ)) (n : ℕ) (before : List ℕ)
             → HasRead texts B.remaining n before self.old
             → IfOk result (λ k. k ≡ 0 → IfSome (texts n)

@@ -1,19 +1,21 @@
-//! Trace files: where they go, what they are called, what stands in them, and whether those that are
-//! there have that.
+//! Trace files: where they go, what they are called, what stands in them, and whether those that
+//! are there have that.
 #![tactic(auto)]
 
 pub mod checked_file;
 pub mod checked_files;
-pub mod making;
+pub mod closed_files;
+pub mod folder;
 pub mod mem_outputs;
 pub mod names;
 pub mod outputs;
-pub mod placing;
 pub mod trace_file;
 pub mod trace_files;
 
 pub use checked_file::{CheckCause, CheckFault, CheckedFile};
 pub use checked_files::CheckedFiles;
+pub use closed_files::{ClosedFiles, place_all};
+pub use folder::{Choice, Folder};
 pub use mem_outputs::MemOutputs;
 pub use outputs::{OutputFault, Outputs};
 pub use trace_files::{FileFault, FilesFault, TraceFiles};

@@ -1,14 +1,15 @@
 //! The trace files of a replica, written as its records are handed out.
 
-ghost use Rattle.std.specs.Prelude.{◌≡◌, ℕ, ◌<◌, ◌≤◌, ◌∷◌, [], ◌++◌, All, IfErr, IfOk};
-ghost use Rattle.std.specs.Prelude.{None, OnOk, Option, get_or};
+ghost use Rattle.std.specs.Prelude.{◌≡◌, ◌⊎◌, ℕ, ◌<◌, ◌≤◌, ◌∷◌, [], ◌++◌, All, IfErr, IfOk};
+ghost use Rattle.std.specs.Prelude.{None, OnOk, Option, Some, get_or};
 ghost use Rattle.nm_base.specs.Sink.{SinkSeen};
-ghost use Rattle.nm_base.specs.declared.fault.Fault.TheVariants.{Refused};
+ghost use Rattle.nm_base.specs.declared.fault.Fault.TheVariants.{Memory, Refused};
 ghost use Rattle.nm_base.specs.declared.limits.TheConstants.{MAX_TIME};
 ghost use Rattle.nm_files.specs.Files.{AreCounted, FileFailed, FileTook, FilesTook, HasBegun};
 ghost use Rattle.nm_files.specs.Files.{OwnFileFailed, FailedAt, IsBegun};
 ghost use Rattle.nm_files.specs.Outputs.{Files};
 
+use crate::outputs::OutputFault;
 use nm_base::{Fault, IfaceNo, Record, Sink};
 use nm_pcap::PcapOut;
 use std::alloc::{AllocError, Global};
@@ -39,6 +40,16 @@ impl From<FileFault> for FilesFault {
 #[derive(Drop)]
 pub struct TraceFiles<S> {
     files: Vec<Option<PcapOut<S>>>,
+}
+
+/// What the fault of an output is to trace files, one of which failed so.
+pub(crate) fn files_fault(fault: OutputFault, file: FileFault) -> FilesFault
+    ensures { (result ≡ Refused file) ⊎ (result ≡ Memory) }
+{
+    match fault {
+        OutputFault::Failed => FilesFault::Refused(file),
+        OutputFault::Memory => FilesFault::Memory,
+    }
 }
 
 /// What is said of the file of an interface that failed.
@@ -136,7 +147,21 @@ impl<S: Sink + Drop> TraceFiles<S> {
         Ok(())
     }
 
-    /// The next interface has this file, whose header is written.
+    /// The next interface has this file.
+    ///
+    /// # Errors
+    ///
+    /// Where memory was refused. The file is let go then, and no interface was added.
+    pub fn add(&mut self, file: PcapOut<S>) -> Result<(), AllocError>
+        ensures added { OnOk result
+            (self.new.files.items ≡ self.old.files.items ++ Some file ∷ []) }
+        ensures same { IfErr result (λ _. self.new.files.items ≡ self.old.files.items) }
+    {
+        self.files.push(Some(file))?;
+        Ok(())
+    }
+
+    /// The next interface has a file over this sink, whose header is written.
     ///
     /// # Errors
     ///
@@ -148,8 +173,7 @@ impl<S: Sink + Drop> TraceFiles<S> {
         ensures same { IfErr result (λ _. self.new.files.items ≡ self.old.files.items) }
     {
         let file = begun(iface, sink)?;
-        self.files.push(Some(file))?;
-        Ok(())
+        Ok(self.add(file)?)
     }
 }
 

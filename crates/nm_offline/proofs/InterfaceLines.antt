@@ -22,16 +22,10 @@ use Rattle.nm_book.specs.Book.{BookValue, state_of}
 use Rattle.nm_book.proofs.Incoming.{ifaces_are}
 use Rattle.nm_rounds.specs.Rounds.{AreBooks, AreDoneWithin, AreUnfinished}
 use Rattle.nm_base.proofs.Numbered.{numbered_more}
+use Rattle.nm_files.proofs.Folders.{element}
 use Rattle.nm_offline.specs.Lines.{AreOfPartitions, AreTotals, iface_line, iface_lines}
 use Rattle.nm_offline.specs.Rounds.{SaysDone, SaysUnfinished}
 use Rattle.nm_topology.specs.Topology.{topology_of}
-
-pub element : {X : Type 0} (xs : List X) (n : ℕ) → n < length xs → (x : X) × (slice_get xs n ≡ Some x)
-element {X} xs n h = pick (slice_get_cases xs n).1
-  where
-    pick : (((x : X) × (n < length xs) × (slice_get xs n ≡ Some x) × (get_or xs n x ≡ x)) ⊎ ((length xs ≤ n) × (slice_get xs n ≡ None))) → (x : X) × (slice_get xs n ≡ Some x)
-    pick (inl (x, low, is, at)) = (x, is)
-    pick (inr (over, is)) = absurd (omega (arith, h, over))
 
 -- Behind a text stands what the first n elements of a list give with their numbers.
 abbrev pub HasGiven : {X Y : Type 0} → (ℕ × X → List Y) → List X → ℕ → List Y → List Y → Type 0

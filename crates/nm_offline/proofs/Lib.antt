@@ -3,7 +3,7 @@ pub mod Texts
 pub mod Times
 pub mod Endings
 pub mod Ways
-mod Held
+mod AskedNames
 mod Showings
 mod Stepping
 pub mod Verifying

@@ -1,9 +1,10 @@
 -- Trace files that are there, read beside those of a network.
-use Rattle.std.proofs.Common.{◌≡◌, ◌⊎◌, inl, inr, ℕ, zero, suc, ◌+◌, ◌<◌, ◌≤◌, ◌==◌, Bool, true, false, ◌&&◌, cond, IfSome, List, [], ◌∷◌, ◌++◌, codes, filter, get_or, length, map, slice_get, take, Option, Some, None, Ok, refl, sym, ◌∙◌, ap, ap₂, subst, arith}
+use Rattle.std.proofs.Common.{◌≡◌, ◌⊎◌, inl, inr, ℕ, zero, suc, ◌+◌, ◌<◌, ◌≤◌, ◌==◌, Bool, true, false, ◌&&◌, cond, IfSome, List, [], ◌∷◌, ◌++◌, codes, drop, filter, get_or, length, map, slice_get, take, Option, Some, None, Ok, refl, sym, ◌∙◌, ap, ap₂, subst, arith}
 use Rattle.std.specs.Io.{StartsWith}
 use Rattle.std.specs.Str.{bytes_eq}
 use Rattle.std.proofs.lemmas.Bool.{true≢false}
-use Rattle.std.proofs.lemmas.List.{length-map, length-take-le, map-append, take_more}
+use Rattle.std.proofs.lemmas.Bool.Decides.{nat_tests}
+use Rattle.std.proofs.lemmas.List.{length-map, append_assoc, length-take-le, map-append, take-append-drop, take_more}
 use Rattle.std.proofs.lemmas.Option.{get_or_from_slice_get, slice_get_within}
 use Rattle.arrayvec.specs.ArrayString.{ArrayString}
 use Rattle.nm_base.specs.Count.{saturated}
@@ -21,19 +22,19 @@ use Rattle.nm_sim.specs.Trace.{IsTraceBefore}
 use Rattle.nm_command.specs.declared.status.Status.{Status}
 use Rattle.nm_command.specs.declared.status.Status.TheVariants.{Memory}
 use Rattle.nm_command.specs.declared.status.Status.TheVariants as status
-use Rattle.nm_files.specs.Checked.{DiffersIn, DiffersInOne, GoesOn, HaveRead, IsUnlike, difference, is_looked_at, looked_at}
+use Rattle.nm_files.specs.Checked.{DiffersAt, DiffersIn, DiffersInOne, GoesOn, HaveRead, IsUnlike, difference, is_looked_at, looked_at}
 use Rattle.nm_files.specs.Names.{file_name}
-use Rattle.nm_files.specs.TraceFile.{octets_after, records_at, trace_file}
+use Rattle.nm_files.specs.TraceFile.{octets_after, trace_file, written_at}
 use Rattle.nm_files.specs.declared.checked_file.CheckCause.{CheckCause}
 use Rattle.nm_files.specs.declared.checked_file.CheckCause.TheVariants.{Differs, Failed}
 use Rattle.nm_files.specs.declared.checked_file.CheckedFile.{CheckedFile}
-use Rattle.nm_files.proofs.Checked.{begins}
+use Rattle.nm_files.proofs.Checked.{begins, unlike_more}
+use Rattle.nm_files.proofs.Records.{one_more, whole_file, written_at-append, written_there}
 use Rattle.nm_offline.specs.All.{AllAsked, is_asked_for}
 use Rattle.nm_offline.specs.Input.{InputsSeen}
 use Rattle.nm_offline.specs.Lines.{iface_line}
-use Rattle.nm_offline.specs.Verify.{AreNames, DiffersFirst, DiffersInHeader, IsNotVerified, IsStatusOf, IsWanted, OfEach, texts_of, wanted_line}
-use Rattle.nm_offline.proofs.Held.{whole_file}
-use Rattle.nm_offline.proofs.InterfaceLines.{element}
+use Rattle.nm_offline.specs.Verify.{AreNames, DiffersFirst, DiffersInHeader, FileDiffers, IsNotVerified, IsStatusOf, IsWanted, OfEach, texts_of, wanted_line}
+use Rattle.nm_files.proofs.Folders.{element}
 
 -- the name of a trace file is not that of standard input
 never : (b : Bool) → (b && false) ≡ false
@@ -208,6 +209,42 @@ module _ (before after : InputsSeen) (ifaces : List IfaceValue) where
       pick x at (inl memory) = inl memory
       pick x at (inr (name, says_so, called)) = inr (name, says_so, λ iface found. called ∙ ap (λ i. i.name) (inner x iface (sym at ∙ found)))
 
+-- A file that differs in a piece of what it is to have, or behind it, differs there from what it is to have.
+module _ (t : TopologyValue) (names : List (List ℕ)) (texts : ℕ → Option (List ℕ)) (own octet : ℕ) where
+  differs_in_piece : (file before next more : List ℕ) → before ++ (next ++ more) ≡ file → DiffersIn texts own before next octet → FileDiffers t names texts own file octet
+  differs_in_piece file before next more is d = told (texts own) (unlike_more texts own before next more (Refused (Differs own octet)) (refl, d)).1
+    where
+      told : (text : Option (List ℕ)) → IfSome text (λ l. (k : ℕ) × (k < length (next ++ more)) × (octet ≡ saturated (length before + k)) × DiffersAt l (before ++ (next ++ more)) (length before + k))
+          → IfSome text (λ l. (k : ℕ) × (octet ≡ saturated k) × DiffersAt l file k)
+      told None none = tt
+      told (Some l) (k, low, count, at) = (length before + k, count, subst (λ o. DiffersAt l o (length before + k)) is at)
+
+  differs_behind : (file : List ℕ) → GoesOn texts own file octet → FileDiffers t names texts own file octet
+  differs_behind file on = told (texts own) on
+    where
+      told : (text : Option (List ℕ)) → IfSome text (λ l. (octet ≡ saturated (length file)) × StartsWith l file × DiffersAt l file (length file)) → IfSome text (λ l. (k : ℕ) × (octet ≡ saturated k) × DiffersAt l file k)
+      told None none = tt
+      told (Some l) (count, front, at) = (length file, count, at)
+
+  -- what stands before a record of the file, the record, and what comes behind it
+  pieces : (records : List (Record (List ℕ))) (k : ℕ) (r : Record (List ℕ)) → slice_get records k ≡ Some r → r.iface ≡ own
+      → octets_after own (take k records) ++ (record_octets r ++ written_at Octets own (drop (k + 1) records)) ≡ trace_file Octets own records
+  pieces records k r is at =
+      let here : (r.iface == own) ≡ true = grind (arith, nat_tests, at) in
+      let before = written_at Octets own (take k records) in
+      let more = written_at Octets own (drop (k + 1) records) in
+      let to_here : written_at Octets own (take (k + 1) records) ≡ before ++ record_octets r =
+      ap (written_at Octets own) (one_more records k (k + 1) r is refl) ∙ written_at-append Octets own (take k records) (r ∷ []) ∙ ap (λ l. before ++ l) (written_there Octets own r here) in
+      let all : written_at Octets own records ≡ (before ++ record_octets r) ++ more =
+      ap (written_at Octets own) (sym (take-append-drop (k + 1) records)) ∙ written_at-append Octets own (take (k + 1) records) (drop (k + 1) records) ∙ ap (λ l. l ++ more) to_here in
+      append_assoc file_header before (record_octets r ++ more) ∙ ap (λ l. file_header ++ l) (sym (append_assoc before (record_octets r) more) ∙ sym all) ∙ whole_file own records
+
+  pub file_differs : (records : List (Record (List ℕ))) → DiffersFirst t names texts records own octet → FileDiffers t names texts own (trace_file Octets own records) octet
+  file_differs records (inl header) = differs_in_piece (trace_file Octets own records) [] file_header (written_at Octets own records) (whole_file own records) header.1
+  file_differs records (inr (inl (k, r, is, at, others, d))) =
+      differs_in_piece (trace_file Octets own records) (octets_after own (take k records)) (record_octets r) (written_at Octets own (drop (k + 1) records)) (pieces records k r is at) d
+  file_differs records (inr (inr behind)) = differs_behind (trace_file Octets own records) behind.2
+
 -- why nothing is verified
 pub not_verified : (before after : InputsSeen) (asked : AllAsked) (text : List ℕ) (t : TopologyValue) (records : List (Record (List ℕ))) (fault : Fault CheckCause) (s : Status)
     → topology_of text ≡ Ok t → AreNames asked.names t → IsTraceBefore t t.stop records
@@ -231,5 +268,6 @@ not_verified before after asked text t records (Refused (Differs own octet)) s r
       there = at;
       wanted = wanted;
       called = called iface at;
+      differs = file_differs t asked.names (texts_of before asked.folder t) own octet records differs;
       first = differs;
     })

@@ -1,6 +1,5 @@
 -- The word `all`: the trace files of interfaces, by one event list.
-use Rattle.std.specs.Prelude.{◌≡◌, ◌⊎◌, Bool, ◌||◌, ℕ, nat_eq, if◌then◌else◌, List, [], ◌∷◌, All, is_some, length, map, position, string_bytes, Some, None, Ok}
-use Rattle.std.specs.List.{enumerate_from, flat_map}
+use Rattle.std.specs.Prelude.{◌≡◌, ◌⊎◌, Bool, ◌||◌, ℕ, nat_eq, List, All, is_some, length, map, position, string_bytes, Some, None, Ok}
 use Rattle.std.specs.Str.{bytes_eq}
 use Rattle.nm_base.specs.declared.record.Record.{Record}
 use Rattle.nm_pcap.specs.declared.form.Form.TheVariants.{Octets}
@@ -11,7 +10,7 @@ use Rattle.nm_sim.specs.Trace.{IsTraceBefore}
 use Rattle.nm_command.specs.declared.arguments.AllArguments.{AllArguments}
 use Rattle.nm_command.specs.declared.status.Status.{Status}
 use Rattle.nm_command.specs.declared.status.Status.TheVariants.{Done, NoInterface, File, Memory}
-use Rattle.nm_files.specs.Names.{file_name}
+use Rattle.nm_files.specs.Folder.{chosen_files}
 use Rattle.nm_files.specs.Outputs.{Files, HasMade, HasMadeSome}
 use Rattle.nm_files.specs.TraceFile.{trace_file}
 use Rattle.nm_offline.specs.Input.{IsInput, IsRefused}
@@ -25,15 +24,9 @@ is_asked_for names iface =
 
 -- the files that are asked for: each is the trace file of its interface over these records; in the
 -- order of the text
-abbrev pub wanted_file : List (List ℕ) → List ℕ → List (Record (List ℕ)) → ℕ × IfaceValue → Files
-wanted_file names folder records i =
-    if is_asked_for names i.1
-    then (file_name folder i.1, trace_file Octets i.0 records) ∷ []
-    else []
-
-abbrev pub wanted_files : TopologyValue → List (List ℕ) → List ℕ → List (Record (List ℕ)) → Files
-wanted_files t names folder records =
-    flat_map (wanted_file names folder records) (enumerate_from 0 t.ifaces)
+abbrev pub asked_files : TopologyValue → List (List ℕ) → List ℕ → List (Record (List ℕ)) → Files
+asked_files t names folder records =
+    chosen_files (λ n iface. is_asked_for names iface) folder (λ n. trace_file Octets n records) t.ifaces
 
 -- these are all files that are asked for, of the topology of this text, over the whole run; each
 -- name is that of an interface
@@ -44,7 +37,7 @@ pub record AreAsked (folder : List ℕ) (names : List (List ℕ)) (text : List �
   pub named : All (λ name. iface_named network.ifaces (Some name) ≡ None → ⊥) names
   pub records : List (Record (List ℕ))
   pub trace : IsTraceBefore network network.stop records
-  pub all : files ≡ wanted_files network names folder records
+  pub all : files ≡ asked_files network names folder records
 
 -- why no file is asked for: the text is refused, or one of the names is that of no interface
 abbrev pub HasNoIfaces : List (List ℕ) → List ℕ → Status → Type 0

@@ -7,7 +7,6 @@ pub mod Script
 pub mod Shown
 pub mod Check
 pub mod All
-pub mod Held
 pub mod Path
 pub mod Series
 pub mod Packets

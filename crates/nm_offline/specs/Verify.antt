@@ -3,6 +3,7 @@ use Rattle.std.specs.Prelude.{◌≡◌, ◌⊎◌, ℕ, ◌+◌, ◌<◌, true,
 use Rattle.std.specs.Io.{StartsWith}
 use Rattle.std.specs.List.{enumerate_from, flat_map}
 use Rattle.arrayvec.specs.ArrayString.{ArrayString}
+use Rattle.nm_base.specs.Count.{saturated}
 use Rattle.nm_base.specs.declared.fault.Fault.{Fault}
 use Rattle.nm_base.specs.declared.fault.Fault.TheVariants.{Refused, Memory as NoMemory}
 use Rattle.nm_base.specs.declared.record.Record.{Record}
@@ -15,7 +16,7 @@ use Rattle.nm_sim.specs.Totals.{totals_of}
 use Rattle.nm_sim.specs.Trace.{IsTraceBefore}
 use Rattle.nm_command.specs.declared.status.Status.{Status}
 use Rattle.nm_command.specs.declared.status.Status.TheVariants.{Differs, Done, File, Memory}
-use Rattle.nm_files.specs.Checked.{DiffersIn, GoesOn}
+use Rattle.nm_files.specs.Checked.{DiffersAt, DiffersIn, GoesOn}
 use Rattle.nm_files.specs.declared.checked_file.CheckCause.{CheckCause}
 use Rattle.nm_files.specs.declared.checked_file.CheckCause.TheVariants.{Failed}
 use Rattle.nm_files.specs.declared.checked_file.CheckCause.TheVariants as cause
@@ -63,6 +64,12 @@ module _ (t : TopologyValue) (names : List (List ℕ)) (texts : ℕ → Option (
   IsWanted n = (iface : IfaceValue) × (slice_get t.ifaces n ≡ Some iface)
       × (is_asked_for names iface ≡ true)
 
+  -- the file of interface n differs from these octets at this one, which stops at 2 ^ 64 - 1, and at
+  -- none before it
+  abbrev pub FileDiffers : (n : ℕ) → (octets : List ℕ) → (octet : ℕ) → Type 0
+  FileDiffers n octets octet =
+      IfSome (texts n) (λ text. (k : ℕ) × (octet ≡ saturated k) × DiffersAt text octets k)
+
   -- The file of interface `own` is the first that differs, at this octet: in its header, and the
   -- headers of those before it are right.
   abbrev pub DiffersInHeader : (own octet : ℕ) → Type 0
@@ -103,7 +110,8 @@ pub record AreVerified (inputs : InputsSeen) (asked : AllAsked) (text octets : L
       (λ n text. text ≡ trace_file Octets n records)
   pub said : octets ≡ codes "verified\n" ++ wanted_lines asked.names records network
 
--- one of them differs, which is that of an interface with this name
+-- One of them differs from the trace file of its interface, which has this name, and no other does
+-- before it.
 pub record OneDiffers (inputs : InputsSeen) (asked : AllAsked) (text name : List ℕ) (octet : ℕ)
     : Type 0 where
   pub network : TopologyValue
@@ -116,6 +124,8 @@ pub record OneDiffers (inputs : InputsSeen) (asked : AllAsked) (text name : List
   pub there : slice_get network.ifaces own ≡ Some iface
   pub wanted : is_asked_for asked.names iface ≡ true
   pub called : name ≡ iface.name
+  pub differs : FileDiffers network asked.names (texts_of inputs asked.folder network) own
+      (trace_file Octets own records) octet
   pub first : DiffersFirst network asked.names (texts_of inputs asked.folder network) records own octet
 
 -- it is said once all are verified

@@ -2,8 +2,8 @@
 #![tactic(auto)]
 
 pub mod all;
+pub mod asked;
 pub mod checking;
-pub mod closed;
 pub mod input;
 pub mod inputs;
 pub mod lines;
@@ -19,7 +19,6 @@ pub mod shown;
 pub mod trace_file;
 pub mod traces;
 pub mod verify;
-pub mod wanted;
 
 pub use input::NamedInputs;
 pub use inputs::Inputs;

@@ -1,7 +1,8 @@
 //! The word `verify`: whether the trace files that are there have the traces of their interfaces.
 
-ghost use Rattle.std.specs.Prelude.{◌≡◌, ◌⊎◌, ◌<◌, ◌++◌, ◌∷◌, ℕ, List, [], Some, IfErr, IfOk, IfSome};
-ghost use Rattle.std.specs.Prelude.{Ok, OnOk, Option, codes, length, map, slice_get, string_bytes, true};
+ghost use Rattle.std.specs.Prelude.{◌≡◌, ◌⊎◌, ◌<◌, ◌++◌, ◌∷◌, ℕ, List, [], Some, IfErr, IfOk};
+ghost use Rattle.std.specs.Prelude.{IfSome, Ok, OnOk, Option, codes, length, map, slice_get};
+ghost use Rattle.std.specs.Prelude.{string_bytes, true};
 ghost use Rattle.std.specs.Io.Buffered.{reader_remaining};
 ghost use Rattle.nm_base.specs.declared.fault.Fault.TheVariants.{Refused};
 ghost use Rattle.nm_base.specs.declared.record.Record.{Record as TraceRecord};
@@ -27,19 +28,19 @@ ghost use Rattle.nm_sim.specs.Trace.{IsTraceBefore};
 ghost use Rattle.nm_sim.specs.Tracing.{IsTracing};
 ghost use Rattle.nm_topology.specs.PartValues.{IfaceValue};
 
+use crate::asked::{Asked, find_ifaces};
 use crate::input::NamedInputs;
 use crate::inputs::Inputs;
 use crate::lines::push_iface_line;
 use crate::output::{Output, end};
 use crate::reading::read_topology;
 use crate::trace_file::go_on;
-use crate::wanted::{Wanted, find_ifaces, is_asked_for};
 use nm_base::{IfaceNo, Sink, push_text};
 use nm_command::status::IfaceName;
 use nm_command::{AllArguments, Status};
 use nm_files::checked_file::{check_fault, difference};
 use nm_files::names::name_of;
-use nm_files::{CheckFault, CheckedFiles};
+use nm_files::{CheckFault, CheckedFiles, Choice, Folder};
 use nm_progress::Progress;
 use nm_sim::Tracer;
 use nm_sim::trace::every_topology_has_a_trace;
@@ -48,41 +49,41 @@ use std::alloc::{AllocError, Global};
 use std::io::{BufRead, BufReader};
 
 /// Opens the trace file of an interface, if it is asked for, and reads its header.
-fn open_wanted<I: Inputs>(
+fn open_one<I: Inputs>(
     alloc: Global,
-    wanted: &Wanted<'_>,
+    folder: &Folder<'_, Asked<'_>>,
     number: usize,
     inputs: &NamedInputs<I>,
     files: &mut CheckedFiles<BufReader<I::File>>,
 ) -> Result<(), CheckFault>
     // The interface is there, and comes next.
-    requires there { number < length wanted.now.network.now.ifaces }
+    requires there { number < length folder.now.topology.now.ifaces }
     requires next { number ≡ length files.old.files.items }
 
     // Its file is looked at where it is asked for, and has its header then.
     ensures looked { (iface : IfaceValue)
-        → slice_get wanted.now.network.now.ifaces number ≡ Some iface
+        → slice_get folder.now.topology.now.ifaces number ≡ Some iface
         → OnOk result (looked_at files.new.files.items ≡ looked_at files.old.files.items
-        ++ is_asked_for (map (λ n. string_bytes n) wanted.now.names.now) iface ∷ []) }
-    ensures read { HaveRead (texts_of (inputs_seen I.seen inputs.now) wanted.now.folder.now
-        wanted.now.network.now) (reader_remaining I.File.remaining) [] files.old.files.items
-        → OnOk result (HaveRead (texts_of (inputs_seen I.seen inputs.now) wanted.now.folder.now
-        wanted.now.network.now) (reader_remaining I.File.remaining) [] files.new.files.items) }
+        ++ is_asked_for (map (λ n. string_bytes n) folder.now.choice.names.now) iface ∷ []) }
+    ensures read { HaveRead (texts_of (inputs_seen I.seen inputs.now) folder.now.name.now
+        folder.now.topology.now) (reader_remaining I.File.remaining) [] files.old.files.items
+        → OnOk result (HaveRead (texts_of (inputs_seen I.seen inputs.now) folder.now.name.now
+        folder.now.topology.now) (reader_remaining I.File.remaining) [] files.new.files.items) }
 
     // Or it differs there.
     ensures unlike { IfErr result (λ f. (iface octet : ℕ) → f ≡ Refused (Differs iface octet)
         → (iface ≡ number)
-        × ((x : IfaceValue) → slice_get wanted.now.network.now.ifaces number ≡ Some x
-        → is_asked_for (map (λ n. string_bytes n) wanted.now.names.now) x ≡ true)
-        × DiffersIn (texts_of (inputs_seen I.seen inputs.now) wanted.now.folder.now
-        wanted.now.network.now) number [] file_header octet) }
+        × ((x : IfaceValue) → slice_get folder.now.topology.now.ifaces number ≡ Some x
+        → is_asked_for (map (λ n. string_bytes n) folder.now.choice.names.now) x ≡ true)
+        × DiffersIn (texts_of (inputs_seen I.seen inputs.now) folder.now.name.now
+        folder.now.topology.now) number [] file_header octet) }
 {
-    let iface = wanted.network.iface_number(number);
-    if !is_asked_for(wanted.names, wanted.network.iface(iface)) {
+    let iface = folder.topology.iface_number(number);
+    if !folder.choice.chooses(folder.topology, iface) {
         files.skip()?;
         return Ok(());
     }
-    let name = name_of(alloc, wanted.folder, wanted.network.iface(iface))?;
+    let name = name_of(alloc, folder.name, folder.topology.iface(iface))?;
     match inputs.open(alloc, name.as_str()) {
         Ok(reader) => files.open(iface, reader),
         Err(error) => Err(check_fault(&error)),
@@ -93,25 +94,26 @@ fn open_wanted<I: Inputs>(
 /// headers.
 fn open_all<I: Inputs>(
     alloc: Global,
-    wanted: &Wanted<'_>,
+    folder: &Folder<'_, Asked<'_>>,
     inputs: &NamedInputs<I>,
 ) -> Result<CheckedFiles<BufReader<I::File>>, CheckFault>
     ensures looked { IfOk result (λ files. looked_at files.files.items
-        ≡ map (is_asked_for (map (λ n. string_bytes n) wanted.now.names.now))
-        wanted.now.network.now.ifaces) }
+        ≡ map (is_asked_for (map (λ n. string_bytes n) folder.now.choice.names.now))
+        folder.now.topology.now.ifaces) }
     ensures read { IfOk result (λ files. HaveRead (texts_of (inputs_seen I.seen inputs.now)
-        wanted.now.folder.now wanted.now.network.now) (reader_remaining I.File.remaining) []
+        folder.now.name.now folder.now.topology.now) (reader_remaining I.File.remaining) []
         files.files.items) }
     ensures first { IfErr result (λ f. (own octet : ℕ) → f ≡ Refused (Differs own octet)
-        → IsWanted wanted.now.network.now (map (λ n. string_bytes n) wanted.now.names.now)
-        (texts_of (inputs_seen I.seen inputs.now) wanted.now.folder.now wanted.now.network.now) own
-        × DiffersInHeader wanted.now.network.now (map (λ n. string_bytes n) wanted.now.names.now)
-        (texts_of (inputs_seen I.seen inputs.now) wanted.now.folder.now wanted.now.network.now)
+        → IsWanted folder.now.topology.now (map (λ n. string_bytes n) folder.now.choice.names.now)
+        (texts_of (inputs_seen I.seen inputs.now) folder.now.name.now folder.now.topology.now) own
+        × DiffersInHeader folder.now.topology.now
+        (map (λ n. string_bytes n) folder.now.choice.names.now)
+        (texts_of (inputs_seen I.seen inputs.now) folder.now.name.now folder.now.topology.now)
         own octet) }
 {
     let mut files = CheckedFiles::new(alloc);
-    for number in 0..wanted.network.ifaces().len() {
-        open_wanted(alloc, wanted, number, inputs, &mut files)?;
+    for number in 0..folder.topology.ifaces().len() {
+        open_one(alloc, folder, number, inputs, &mut files)?;
     }
     Ok(files)
 }
@@ -180,38 +182,39 @@ fn finish_all<B: BufRead + Drop>(
 /// Reads the trace files that are asked for beside the records of the network.
 fn check_files<I: Inputs>(
     alloc: Global,
-    wanted: &Wanted<'_>,
+    folder: &Folder<'_, Asked<'_>>,
     inputs: &NamedInputs<I>,
     progress: &Progress,
 ) -> Result<CheckedFiles<BufReader<I::File>>, CheckFault>
     ensures looked { IfOk result (λ files. looked_at files.files.items
-        ≡ map (is_asked_for (map (λ n. string_bytes n) wanted.now.names.now))
-        wanted.now.network.now.ifaces) }
+        ≡ map (is_asked_for (map (λ n. string_bytes n) folder.now.choice.names.now))
+        folder.now.topology.now.ifaces) }
     ensures read { (records : List (TraceRecord (List ℕ)))
-        → IsTraceBefore wanted.now.network.now wanted.now.network.now.stop records
+        → IsTraceBefore folder.now.topology.now folder.now.topology.now.stop records
         → IfOk result (λ files. HaveRead (texts_of (inputs_seen I.seen inputs.now)
-        wanted.now.folder.now wanted.now.network.now) (reader_remaining I.File.remaining) records
+        folder.now.name.now folder.now.topology.now) (reader_remaining I.File.remaining) records
         files.files.items) }
     ensures whole { (records : List (TraceRecord (List ℕ)))
-        → IsTraceBefore wanted.now.network.now wanted.now.network.now.stop records
-        → OnOk result (OfEach wanted.now.network.now
-        (map (λ n. string_bytes n) wanted.now.names.now)
-        (texts_of (inputs_seen I.seen inputs.now) wanted.now.folder.now wanted.now.network.now)
+        → IsTraceBefore folder.now.topology.now folder.now.topology.now.stop records
+        → OnOk result (OfEach folder.now.topology.now
+        (map (λ n. string_bytes n) folder.now.choice.names.now)
+        (texts_of (inputs_seen I.seen inputs.now) folder.now.name.now folder.now.topology.now)
         (λ n text. text ≡ trace_file Octets n records)) }
     ensures first { (records : List (TraceRecord (List ℕ)))
-        → IsTraceBefore wanted.now.network.now wanted.now.network.now.stop records
+        → IsTraceBefore folder.now.topology.now folder.now.topology.now.stop records
         → IfErr result (λ f. (own octet : ℕ) → f ≡ Refused (Differs own octet)
-        → IsWanted wanted.now.network.now (map (λ n. string_bytes n) wanted.now.names.now)
-        (texts_of (inputs_seen I.seen inputs.now) wanted.now.folder.now wanted.now.network.now) own
-        × DiffersFirst wanted.now.network.now (map (λ n. string_bytes n) wanted.now.names.now)
-        (texts_of (inputs_seen I.seen inputs.now) wanted.now.folder.now wanted.now.network.now)
+        → IsWanted folder.now.topology.now (map (λ n. string_bytes n) folder.now.choice.names.now)
+        (texts_of (inputs_seen I.seen inputs.now) folder.now.name.now folder.now.topology.now) own
+        × DiffersFirst folder.now.topology.now
+        (map (λ n. string_bytes n) folder.now.choice.names.now)
+        (texts_of (inputs_seen I.seen inputs.now) folder.now.name.now folder.now.topology.now)
         records own octet) }
 {
-    every_topology_has_a_trace(wanted.network); // law: the files are read beside one
-    let mut files = open_all(alloc, wanted, inputs)?;
-    let mut tracer = Tracer::start(alloc, wanted.network)?;
-    check_records(alloc, wanted.network, &mut tracer, &mut files, progress)?;
-    finish_all(wanted.network, &mut files)?;
+    every_topology_has_a_trace(folder.topology); // law: the files are read beside one
+    let mut files = open_all(alloc, folder, inputs)?;
+    let mut tracer = Tracer::start(alloc, folder.topology)?;
+    check_records(alloc, folder.topology, &mut tracer, &mut files, progress)?;
+    finish_all(folder.topology, &mut files)?;
     Ok(files)
 }
 
@@ -227,7 +230,8 @@ fn push_looked<B: Drop>(
         (records : List (TraceRecord (List ℕ))) → HaveRead texts left records files.now.files.items
         → looked_at files.now.files.items ≡ map (is_asked_for names) network.now.ifaces
         → (iface : IfaceValue) → slice_get network.now.ifaces number ≡ Some iface
-        → OnOk result (text.new.items ≡ text.old.items ++ wanted_line names records (number, iface)) }
+        → OnOk result
+        (text.new.items ≡ text.old.items ++ wanted_line names records (number, iface)) }
 {
     let iface = network.iface_number(number);
     let Some(file) = files.get(iface) else {
@@ -313,12 +317,14 @@ fn verify_network<I: Inputs>(
         return Err(Status::File);
     }
     progress.begin(network.stop());
-    let wanted = Wanted {
-        network,
-        folder: words.folder,
-        names: words.ifaces,
+    let folder = Folder {
+        topology: network,
+        name: words.folder,
+        choice: Asked {
+            names: words.ifaces,
+        },
     };
-    match check_files(alloc, &wanted, inputs, progress) {
+    match check_files(alloc, &folder, inputs, progress) {
         Ok(files) => Output::of(verified_text(alloc, network, &files), Status::Done),
         Err(fault) => Err(status_of(network, inputs, &fault)),
     }

@@ -27,21 +27,15 @@ use Rattle.nm_offline.specs.Input.{InputsSeen, IsInput, IsRefused}
 use Rattle.nm_offline.specs.Lines.{iface_line}
 use Rattle.nm_offline.specs.Output.{EndsWord, FailsOfInputs, FilesSeen, SaysOfInputs}
 use Rattle.nm_program.specs.Surroundings.{Surroundings, files_of}
-use Rattle.nm_files.specs.Names.{file_name}
+use Rattle.nm_files.specs.Folder.{chosen_files}
 use Rattle.nm_files.specs.Outputs.{Files, HasMade}
 use Rattle.nm_files.specs.TraceFile.{trace_file}
-
--- what is made of the interfaces of a partition, each with its number, in the order of the text
-abbrev pub of_own : {X : Type 0} → TopologyValue → ℕ → (ℕ → IfaceValue → X) → ℕ × IfaceValue
-    → List X
-of_own t partition f i = if receiver_of (net_of t) i.0 == partition then f i.0 i.1 ∷ [] else []
 
 -- the trace files of a partition's interfaces, with these records
 abbrev pub own_files : TopologyValue → ℕ → List ℕ → List (Record (List ℕ)) → Files
 own_files t partition folder records =
-    flat_map (of_own t partition
-    (λ number iface. (file_name folder iface, trace_file Octets number records)))
-    (enumerate_from 0 t.ifaces)
+    chosen_files (λ n iface. receiver_of (net_of t) n == partition) folder
+    (λ n. trace_file Octets n records) t.ifaces
 
 -- and their lines
 abbrev pub own_line : TopologyValue → ℕ → List (Record (List ℕ)) → ℕ × IfaceValue → List ℕ

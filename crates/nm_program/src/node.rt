@@ -20,13 +20,13 @@ ghost use Rattle.nm_topology.specs.Topology.{topology_of};
 
 use crate::means::Means;
 use crate::node_inputs::{NodeArguments, read_both};
-use crate::trace_files::{OwnFiles, make_files};
+use crate::trace_files::make_files;
 use nm_base::{PartNo, Record, Sink};
 use nm_book::Book;
 use nm_book::channels::partition_of;
 use nm_book::laws::records_have_times_of_a_file;
 use nm_command::Status;
-use nm_files::Outputs;
+use nm_files::{Folder, Outputs};
 use nm_offline::input::NamedInputs;
 use nm_offline::inputs::Inputs;
 use nm_offline::lines::push_iface_line;
@@ -35,6 +35,7 @@ use nm_peers::Listener;
 use nm_process::{Process, ProcessCause, ProcessEnd, ProcessFault, run_process};
 use nm_replica::Served;
 use nm_replica::limits::MAX_IDLE_PERIODS;
+use nm_run::OfPartition;
 use nm_topology::Topology;
 use std::alloc::{AllocError, Global};
 use std::net::Net;
@@ -108,13 +109,14 @@ fn write_book<F: Outputs>(
         ≡ own_lines topology.now words.now.partition (state_of book.now).records)) }
     ensures fault { IfErr result (λ s. (s ≡ File) ⊎ (s ≡ Memory)) }
 {
-    let own = OwnFiles {
+    let folder = Folder {
         topology,
-        partition: words.partition,
-        folder: words.folder,
-        records: trace_of(book),
+        name: words.folder,
+        choice: OfPartition {
+            partition: words.partition,
+        },
     };
-    make_files(alloc, &own, outputs)?;
+    make_files(alloc, &folder, trace_of(book), outputs)?;
     Output::of(
         own_text(alloc, topology, words.partition, book),
         Status::Done,

@@ -1,8 +1,9 @@
 -- Why a run has no report.
-use Rattle.std.specs.Prelude.{◌≡◌, ◌⊎◌, ℕ, List, [], ◌∷◌}
+use Rattle.std.specs.Prelude.{◌≡◌, ◌⊎◌, ℕ}
 use Rattle.nm_base.specs.declared.fault.Fault.{Fault}
 use Rattle.nm_base.specs.declared.fault.Fault.TheVariants.{Memory, Refused}
 use Rattle.nm_topology.specs.TopologyValue.{TopologyValue}
+use Rattle.nm_files.specs.declared.trace_files.FileFault.{FileFault}
 use Rattle.nm_run.specs.Report.{IsNotCertified}
 use Rattle.nm_run.specs.declared.fault.RunCause.{RunCause}
 use Rattle.nm_run.specs.declared.fault.RunCause.TheVariants as cause
@@ -26,14 +27,14 @@ HasReason t replicas (Refused (cause.NotCertified fault)) = IsNotCertified t rep
 HasReason t replicas (Refused (cause.Stalled polls)) = Unit {0}
 HasReason t replicas (Refused cause.Broken) = Unit {0}
 
--- the trace file of this interface failed when it had so many octets; or memory was refused
-abbrev pub IsFaultAt : (iface written : ℕ) → Stop → Type 0
-IsFaultAt iface written s = (s ≡ stop.File iface written) ⊎ (s ≡ stop.Memory)
+-- why a run stops whose trace files have this fault
+abbrev pub files_stop : Fault FileFault → Stop
+files_stop Memory = stop.Memory
+files_stop (Refused fault) = stop.File fault.iface fault.written
 
--- so one of these did, each an interface and how many octets its file has
-abbrev pub IsOneOf : List (ℕ × ℕ) → Stop → Type 0
-IsOneOf [] s = ⊥
-IsOneOf (file ∷ files) s = IsFaultAt file.0 file.1 s ⊎ IsOneOf files s
+-- so it stops for a fault of which this is true
+abbrev pub StopsFor : (Fault FileFault → Type 0) → Stop → Type 0
+StopsFor Is s = (fault : Fault FileFault) × Is fault × (s ≡ files_stop fault)
 
 -- it may be that a trace file did not get its name: those before it have theirs then
 abbrev pub IsOfFiles : Fault RunCause → Type 0

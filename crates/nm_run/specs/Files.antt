@@ -1,14 +1,16 @@
 -- The trace files of a run: one of each interface.
-use Rattle.std.specs.Prelude.{◌≡◌, ◌⊎◌, ℕ, zero, suc, ◌==◌, List, [], ◌∷◌, ◌++◌, length, map, slice_get, Option, Some, is_some}
+use Rattle.std.specs.Prelude.{◌≡◌, ◌⊎◌, ℕ, zero, suc, ◌==◌, true, List, [], length, map, slice_get, Option, Some, is_some}
 use Rattle.nm_base.specs.Count.{saturated}
+use Rattle.nm_base.specs.Sink.{SinkSeen}
 use Rattle.nm_model.specs.Partition.{receiver_of}
-use Rattle.nm_topology.specs.PartValues.{IfaceValue}
+use Rattle.nm_pcap.specs.Writer.{Writer}
 use Rattle.nm_topology.specs.TopologyValue.{TopologyValue}
-use Rattle.nm_files.specs.Names.{file_name}
-use Rattle.nm_files.specs.Outputs.{Files, HasMadeSome}
+use Rattle.nm_files.specs.Files.{HoldsFile}
+use Rattle.nm_files.specs.Folder.{chosen_files}
+use Rattle.nm_files.specs.Outputs.{AreWhole, Files, HasMade, HasMadeSome}
+use Rattle.nm_files.specs.declared.closed_files.ClosedFile.{ClosedFile}
 use Rattle.nm_sim.specs.Network.{net_of}
 use Rattle.nm_run.specs.Report.{IsCertifiedRun}
-use Rattle.nm_run.specs.declared.files.ClosedFile.{ClosedFile}
 use Rattle.nm_run.specs.declared.report.IfaceTotals.{IfaceTotals}
 
 -- the first n interfaces have open files, those of this partition, and the others have none
@@ -18,56 +20,52 @@ pub record AreOpen {X : Type 0} (t : TopologyValue) (partition n : ℕ) (files :
   pub each : (i : ℕ) (file : Option X) → slice_get files i ≡ Some file
       → is_some file ≡ (receiver_of (net_of t) i == partition)
 
--- one interface more, which has an open file if it is of the partition
-abbrev pub IsNextFile : {X : Type 0} → TopologyValue → (partition iface : ℕ)
-    → (old new : List (Option X)) → Type 0
-IsNextFile {X} t partition iface old new =
-    (file : Option X) × (new ≡ old ++ file ∷ [])
-    × (is_some file ≡ (receiver_of (net_of t) iface == partition))
-
 -- the first replica of a partition has a file of each of its interfaces, and any other has none
 abbrev pub AreOwnFiles : {X : Type 0} → TopologyValue → (partition replica : ℕ)
     → List (Option X) → Type 0
 AreOwnFiles t partition zero files = AreOpen t partition (length t.ifaces) files
 AreOwnFiles t partition (suc r) files = files ≡ []
 
--- the name of an interface's trace file, and as many octets as these totals say, up to 2 ^ 64 - 1
-abbrev pub IsFileOf : (folder : List ℕ) → IfaceValue → IfaceTotals → List ℕ × List ℕ → Type 0
-IsFileOf folder iface totals file =
-    (file.0 ≡ file_name folder iface) × (saturated (length file.1) ≡ totals.octets)
+-- there is a file, and it holds some octets
+abbrev pub HoldsSome : {S : Type 0} → (S → SinkSeen) → Option Files → Option (Writer S) → Type 0
+HoldsSome seen made file = (octets : List ℕ) × HoldsFile seen made true octets file
 
--- the files of the first n interfaces, in the order of the topology's text
-pub record AreFilesOf (folder : List ℕ) (t : TopologyValue) (totals : List IfaceTotals) (n : ℕ)
-    (files : Files) : Type 0 where
-  pub count : length files ≡ n
-  pub each : (i : ℕ) (file : List ℕ × List ℕ) → slice_get files i ≡ Some file
-      → (x : IfaceValue) (own : IfaceTotals) → slice_get t.ifaces i ≡ Some x
-      → slice_get totals i ≡ Some own → IsFileOf folder x own file
+-- as many octets were written to each file as these totals say
+abbrev pub AreAsMany : {S : Type 0} → List IfaceTotals → List (Option (Writer S)) → Type 0
+AreAsMany {S} totals files = (n : ℕ) (file : Writer S) (own : IfaceTotals)
+    → slice_get files n ≡ Some (Some file) → slice_get totals n ≡ Some own
+    → file.written ≡ own.octets
+
+-- the files of a run: one of each interface, with these octets, in the order of the topology's text
+abbrev pub run_files : (folder : List ℕ) → TopologyValue → (ℕ → List ℕ) → Files
+run_files folder t octets = chosen_files (λ n iface. true) folder octets t.ifaces
+
+-- each interface has as many octets as these totals say, up to 2 ^ 64 - 1
+abbrev pub AreSoMany : List IfaceTotals → (ℕ → List ℕ) → Type 0
+AreSoMany totals octets = (n : ℕ) (own : IfaceTotals) → slice_get totals n ≡ Some own
+    → saturated (length (octets n)) ≡ own.octets
 
 -- such files were closed, where it is told which files were placed
 abbrev pub AreClosed : {C : Type 0} → (C → Option (List ℕ × List ℕ)) → Option Files
-    → (Files → Type 0) → List (ClosedFile C) → Type 0
-AreClosed closed made Are all =
-    (first : Files) → made ≡ Some first
-    → (files : Files) × Are files
-    × (map (λ c. closed c.file) all ≡ map (λ file. Some file) files)
+    → (folder : List ℕ) → TopologyValue → List IfaceTotals → List (ClosedFile C) → Type 0
+AreClosed closed made folder t totals all =
+    (octets : ℕ → List ℕ) × AreSoMany totals octets
+    × AreWhole made (map (λ c. closed c.file) all) (run_files folder t octets)
 
 -- behind the files that were placed before came one of each interface, where it is told which files
 -- were placed
 abbrev pub HaveFiles : (before after : Option Files) → (folder : List ℕ) → TopologyValue
     → List IfaceTotals → Type 0
 HaveFiles before after folder t totals =
-    (first : Files) → before ≡ Some first
-    → (files : Files) × AreFilesOf folder t totals (length t.ifaces) files
-    × (after ≡ Some (first ++ files))
+    (octets : ℕ → List ℕ) × AreSoMany totals octets
+    × HasMade before after (run_files folder t octets)
 
 -- or only the first of them
 abbrev pub HaveSomeFiles : (before after : Option Files) → (folder : List ℕ) → TopologyValue
     → List IfaceTotals → Type 0
 HaveSomeFiles before after folder t totals =
-    (first : Files) → before ≡ Some first
-    → (files : Files) × AreFilesOf folder t totals (length t.ifaces) files
-    × HasMadeSome before after files
+    (octets : ℕ → List ℕ) × AreSoMany totals octets
+    × HasMadeSome before after (run_files folder t octets)
 
 -- However a run ends, a file got its name only where the run is certified: behind the files that
 -- were placed before come the first of those that these totals say, where it is told which they are.

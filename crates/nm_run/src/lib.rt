@@ -19,6 +19,7 @@ pub mod stop;
 mod threads;
 
 pub use fault::{RunCause, RunFault};
+pub use files::OfPartition;
 pub use report::{IfaceTotals, Report};
 pub use run::{RunPlan, run_all};
 pub use runtime::Runtime;

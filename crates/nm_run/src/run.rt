@@ -1,12 +1,12 @@
 //! A run of all partitions.
 
-ghost use Rattle.std.specs.Prelude.{◌≡◌, ◌⊎◌, ◌≤◌, All, IfErr, IfOk, length, map};
+ghost use Rattle.std.specs.Prelude.{◌≡◌, ◌⊎◌, ◌≤◌, All, IfErr, IfOk, map};
 ghost use Rattle.std.specs.Arc.{arc_value};
 ghost use Rattle.nm_files.specs.Files.{AreCounted};
 ghost use Rattle.nm_run.specs.Faults.{HasReason, IsOfFiles};
 ghost use Rattle.nm_replica.specs.Seats.{board_of};
 ghost use Rattle.nm_peers.specs.Peers.{ArePeers};
-ghost use Rattle.nm_run.specs.Files.{AreClosed, AreFilesOf, AreNamed, AreOwnFiles, HaveFiles};
+ghost use Rattle.nm_run.specs.Files.{AreClosed, AreNamed, AreOwnFiles, HaveFiles};
 ghost use Rattle.nm_run.specs.Replicas.{AreAllReplicas};
 ghost use Rattle.nm_shared.specs.Board.{AreFirstOwners};
 ghost use Rattle.nm_run.specs.Report.{AreOfRun, IsCertifiedRun};
@@ -15,7 +15,7 @@ use crate::closing::{certify_all, close_run};
 use crate::dispatching::Dispatcher;
 use crate::endings::check_endings;
 use crate::fault::RunFault;
-use crate::files::{ClosedFile, TraceFolder, close_all, files_of, place_files};
+use crate::files::{close_all, files_of, place_files};
 use crate::jobs::Watched;
 use crate::posts::{Post, Posts, open_posts, woken_poll};
 use crate::report::{Report, report_of};
@@ -27,7 +27,7 @@ use crate::threads::Threaded;
 use mio::{Events, Poll};
 use nm_base::PartNo;
 use nm_book::{Book, BookFault};
-use nm_files::Outputs;
+use nm_files::{ClosedFiles, Outputs};
 use nm_peers::peers_of;
 use nm_progress::Progress;
 use nm_replica::seats::Dealt;
@@ -114,12 +114,8 @@ fn holdings_of<'a, F: Outputs, G, R: Wait>(
         own.entry.book.now.partition own.entry.book.now.replica h.files.files.items) }
     ensures same { F.made outputs.new ≡ F.made outputs.old }
 {
-    let folder = TraceFolder {
-        topology: threaded.plan.topology,
-        folder: threaded.plan.folder,
-    };
     Ok(Holdings {
-        files: files_of(threaded.alloc, folder, own.name(), outputs)?,
+        files: files_of(threaded.alloc, threaded.plan, own.name(), outputs)?,
         pass: own.book.pass(rt)?,
         passes: passes_of(rt, threaded.alloc, threaded.books)?,
         seats,
@@ -285,7 +281,7 @@ fn run_certified<'x, F: Outputs, G: Gate + Sync, R>(
     plan: &'x RunPlan<'x>,
     outputs: &mut F,
     gate: &'x G,
-) -> Result<(Report, Vec<ClosedFile<F::Closed>>), RunFault>
+) -> Result<(Report, ClosedFiles<F::Closed>), RunFault>
 where
     F::File: Send,
     R: Runtime,
@@ -293,8 +289,8 @@ where
     ensures certified { IfOk result (λ run. IsCertifiedRun (arc_value plan.now.topology.now)
         run.0.totals.items) }
     ensures closed { IfOk result (λ run. AreClosed F.closed (F.made outputs.old)
-        (AreFilesOf plan.now.folder.now (arc_value plan.now.topology.now) run.0.totals.items
-        (length (arc_value plan.now.topology.now).ifaces)) run.1.items) }
+        plan.now.folder.now (arc_value plan.now.topology.now) run.0.totals.items
+        run.1.files.items) }
     ensures refused { IfErr result
         (HasReason (arc_value plan.now.topology.now) plan.now.replicas) }
     ensures same { F.made outputs.new ≡ F.made outputs.old }
@@ -303,12 +299,7 @@ where
     let (ends, passes) = run_books(rt, alloc, &*plan, shared.as_slice(), outputs, &*gate)?;
     let (books, files) = close_run(alloc, plan, shared, ends, passes)?;
     let report = certified_report(alloc, plan.topology, plan.replicas, books.as_slice())?;
-    let folder = TraceFolder {
-        topology: plan.topology,
-        folder: plan.folder,
-    };
-    let totals = report.totals.as_slice();
-    let closed = close_all(alloc, folder, plan.replicas, totals, outputs, files)?;
+    let closed = close_all(alloc, plan, report.totals.as_slice(), outputs, files)?;
     Ok((report, closed))
 }
 

@@ -51,6 +51,10 @@ impl From<io::Error> for Stop {
 }
 
 impl From<FilesFault> for Stop {
+    ghost use Rattle.nm_run.specs.Faults.{files_stop};
+
+    ghost from_gives = { λ fault s. s ≡ files_stop fault };
+
     fn from(fault: FilesFault) -> Self {
         match fault {
             FilesFault::Refused(FileFault { iface, written }) => Stop::File { iface, written },

@@ -3,6 +3,7 @@
 
 use nm_base::MemSink;
 use nm_command::Status;
+use nm_command::status::IfaceName;
 use nm_topology::Refusal;
 use std::process::Abort;
 use std::test::Fail;
@@ -34,6 +35,14 @@ fn a_line_of_each_status(rt: HostRuntime) -> Result<(), Fail> {
         (Status::Memory, 5, "nullsim: memory\n"),
         (Status::NotCertified(4), 6, "nullsim: not certified 4\n"),
         (Status::Stalled, 7, "nullsim: stalled\n"),
+        (
+            Status::Differs {
+                iface: IfaceName::from("a0")?,
+                octet: 140,
+            },
+            8,
+            "nullsim: differs a0 140\n",
+        ),
     ] {
         says(&rt, status, code, line)?;
     }

@@ -1,8 +1,8 @@
 use Rattle.std.proofs.Common.{map, string_bytes, inl, inr, refl}
 use Rattle.std.proofs.lemmas.Result.{err_from_is_err_and}
-use Rattle.nm_offline.specs.All.{wanted_files}
+use Rattle.nm_offline.specs.All.{asked_files}
 use Rattle.nm_offline.specs.Input.{inputs_seen}
-use Rattle.nm_offline.proofs.Held.{ends_all}
+use Rattle.nm_offline.proofs.AskedNames.{ends_all}
 use Rattle.nm_offline.proofs.all.make_all.Goals as goal
 
 pub returns : goal.returns
@@ -13,7 +13,7 @@ returns g c =
     let names = map (λ n. string_bytes n) c.args.words.now.ifaces.now in
     let folder = c.args.words.now.folder.now in
     ends_all (inputs_seen g.I.Inputs.seen c.args.inputs.now) (inputs_seen g.I.Inputs.seen c.read_topology.new.inputs)
-    (g.F.Outputs.made c.args.outputs.now) (g.F.Outputs.made c.make_files.new.outputs) c.args.words.now.topology.now folder names read.0 (wanted_files network names folder there.0) c.make_files.result
+    (g.F.Outputs.made c.args.outputs.now) (g.F.Outputs.made c.make_files.new.outputs) c.args.words.now.topology.now folder names read.0 (asked_files network names folder there.0) c.make_files.result
     read.1
     (record {
       network = network;

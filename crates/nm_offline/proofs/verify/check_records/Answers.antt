@@ -1,7 +1,7 @@
 use Rattle.std.proofs.Common.{◌≡◌, ◌∙◌, ◌++◌, [], length, Ok, take, ap, refl, sym, subst, arith}
 use Rattle.std.proofs.lemmas.List.{take_all}
 use Rattle.std.proofs.lemmas.Result.{err_from_is_err_and}
-use Rattle.nm_files.specs.Checked.{DiffersInOne, HaveRead, looked_at}
+use Rattle.nm_files.specs.Checked.{DiffersInOne, HaveRead}
 use Rattle.nm_files.proofs.Checked.{differs_later}
 use Rattle.nm_sim.specs.Records.{cut}
 use Rattle.nm_sim.specs.Tracing.{ShowsNext}

@@ -8,7 +8,7 @@ use Rattle.nm_offline.proofs.verify.open_all.Given as goal
 
 abbrev pub invariant-loop-number : goal.invariant-loop-number
 invariant-loop-number g l = record {
-  within : l.number ≤ length l.wanted.network.now.ifaces;
-  looked : looked_at l.files.files.items ≡ map (is_asked_for (map (λ n. string_bytes n) l.wanted.names.now)) (take l.number l.wanted.network.now.ifaces);
-  read : HaveRead (texts_of (inputs_seen g.I.Inputs.seen l.inputs) l.wanted.folder.now l.wanted.network.now) (reader_remaining g.I.File.Read.remaining) [] l.files.files.items;
+  within : l.number ≤ length l.folder.topology.now.ifaces;
+  looked : looked_at l.files.files.items ≡ map (is_asked_for (map (λ n. string_bytes n) l.folder.choice.names.now)) (take l.number l.folder.topology.now.ifaces);
+  read : HaveRead (texts_of (inputs_seen g.I.Inputs.seen l.inputs) l.folder.name.now l.folder.topology.now) (reader_remaining g.I.File.Read.remaining) [] l.files.files.items;
 }

@@ -1,4 +1,4 @@
-use Rattle.std.proofs.Common.{◌≡◌, ◌++◌, ℕ, List, true, Some, slice_get, sym, ◌∙◌, ap, ap₂, subst, rules}
+use Rattle.std.proofs.Common.{◌≡◌, ◌++◌, ℕ, true, slice_get, sym, ◌∙◌, ap, ap₂, subst, rules}
 use Rattle.std.proofs.lemmas.Result.{on_ok_weaker}
 use Rattle.nm_files.specs.Checked.{is_looked_at}
 use Rattle.nm_offline.specs.Lines.{iface_line}

@@ -1,4 +1,4 @@
-use Rattle.std.proofs.Common.{◌≡◌, ◌≤◌, ◌++◌, ℕ, List, Option, codes, length, map}
+use Rattle.std.proofs.Common.{◌≡◌, ◌≤◌, ℕ, List, Option, codes, length, map}
 use Rattle.nm_base.specs.declared.record.Record.{Record}
 use Rattle.nm_files.specs.Checked.{HaveRead, looked_at}
 use Rattle.nm_offline.specs.All.{is_asked_for}

@@ -1,4 +1,4 @@
-use Rattle.std.proofs.Common.{◌≡◌, ◌<◌, ◌++◌, ◌+◌, ◌-◌, List, ℕ, Option, drop, length, take, sym, ◌∙◌, ap, subst, arith, append-nil, rules}
+use Rattle.std.proofs.Common.{◌≡◌, ◌<◌, ◌++◌, ◌-◌, drop, length, take, sym, ◌∙◌, ap, subst, append-nil, rules}
 use Rattle.std.proofs.Math.Seq.{take-add}
 use Rattle.std.proofs.lemmas.List.{append_assoc}
 use Rattle.nm_files.specs.Checked.{HasRead}

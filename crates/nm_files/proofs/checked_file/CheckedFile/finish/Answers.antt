@@ -1,4 +1,4 @@
-use Rattle.std.proofs.Common.{IfSome, ◌<◌, length, [], ◌∙◌, ap, sym, subst, arith, rules}
+use Rattle.std.proofs.Common.{◌<◌, length, [], rules}
 use Rattle.nm_files.proofs.Checked.{more_left}
 use Rattle.nm_files.proofs.checked_file.CheckedFile.finish.Goals as goal
 

@@ -1,4 +1,4 @@
-use Rattle.std.proofs.Common.{[], refl, subst, sym, rules}
+use Rattle.std.proofs.Common.{[], refl, subst}
 use Rattle.std.proofs.lemmas.Result.{err_from_is_err_and}
 use Rattle.nm_files.specs.Checked.{HasRead, IsUnlike}
 use Rattle.nm_files.proofs.Checked.{nothing_read}

@@ -1,4 +1,3 @@
-use Rattle.std.proofs.Common.{IfSome, rules}
 use Rattle.nm_files.proofs.Checked.{unlike_next}
 use Rattle.nm_files.proofs.checked_file.CheckedFile.read_same.Goals as goal
 

@@ -1,4 +1,3 @@
-use Rattle.std.proofs.Common.{[], subst, ◌∙◌, sym, rules}
 use Rattle.nm_files.proofs.Checked.{one_opened}
 use Rattle.nm_files.proofs.checked_files.CheckedFiles.open.Goals as goal
 
