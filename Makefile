@@ -23,7 +23,7 @@ help:
 	@echo 'make bench       times it on generated topologies, and event lists and knowledge alone (docs/BENCH.md)'
 	@echo 'make compare     compares traces, speed and memory with ns-3 (docs/COMPARED.md); needs Debian'"'"'s ns3, libns3-dev and g++; ANYWAY=1: on a busy host too'
 	@echo 'make cases       compares it with cases of an independent model; CASES=FOLDER: with those of a folder'
-	@echo 'make run-cases   runs the partitions of many topologies at once, and compares each file with what one writes'
+	@echo 'make run-cases   runs the partitions of many topologies at once, and has each file verified'
 	@echo 'make tutorial    runs the commands of docs/TUTORIAL.md, and compares what they print'
 	@echo 'make check-docs  checks that links and names in the documents are right, and runs the commands of README'
 	@echo 'make check-edge  checks the help, and what is said of faults on a terminal'
