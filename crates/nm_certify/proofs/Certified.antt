@@ -33,7 +33,8 @@ use Rattle.nm_certify.specs.declared.fault.CertifyCause.TheVariants as cause
 use Rattle.nm_certify.specs.declared.part.Job.{Job}
 use Rattle.nm_certify.specs.declared.part.PartEnd.{PartEnd}
 use Rattle.nm_certify.specs.declared.part_files.PartFiles.{PartFiles}
-use Rattle.nm_certify.proofs.Pieces.{element, zip_at, zip_count}
+use Rattle.nm_files.proofs.Folders.{element}
+use Rattle.nm_certify.proofs.Pieces.{zip_at, zip_count}
 
 -- a list by a test, in both words
 kept_as : {X : Type 0} (p : X → Bool) (xs : List X) → keep_where p xs ≡ filter p xs

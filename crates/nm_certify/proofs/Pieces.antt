@@ -8,6 +8,7 @@ use Rattle.nm_base.specs.declared.fault.Fault.{Fault}
 use Rattle.nm_base.specs.declared.fault.Fault.TheVariants.{Memory, Refused}
 use denote.Param.Members.{Shared}
 use Rattle.std.specs.Fork.{GivesJobs}
+use Rattle.nm_files.proofs.Folders.{element}
 use Rattle.nm_certify.specs.Checking.{IsEnd, RefusesOne, RefusesPart, jobs_from}
 use Rattle.nm_certify.specs.declared.part.PartEnd.{PartEnd}
 use Rattle.nm_certify.specs.declared.fault.CertifyCause.{CertifyCause}
@@ -41,11 +42,6 @@ module _ {A B : Type 0} (R : A → B → Type 0) where
   zip_at (v ∷ xs) [] i x y h at here = absurd (none-some y here)
   zip_at (v ∷ xs) (w ∷ ys) zero x y h at here = subst (R x) (same_Some w y here) (subst (λ z. R z w) (same_Some v x at) h.0)
   zip_at (v ∷ xs) (w ∷ ys) (suc i) x y h at here = zip_at xs ys i x y h.1 at here
-
-pub element : {X : Type 0} (xs : List X) (i : ℕ) → i < length xs → (x : X) × (slice_get xs i ≡ Some x)
-element [] i low = absurd (omega (arith, low))
-element (x ∷ xs) zero low = (x, refl)
-element (x ∷ xs) (suc i) low = element xs i (omega (arith, low))
 
 -- Of each element there is a result, good or bad.
 module _ {J E F : Type 0} (Good : J → E → Type 0) (Bad : J → F → Type 0) (js : List J) (rs : List (Result E F)) (same : length rs ≡ length js)
