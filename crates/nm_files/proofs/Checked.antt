@@ -1,5 +1,5 @@
 -- Files that are read beside what they are to have.
-use Rattle.std.proofs.Common.{◌≡◌, ◌≢◌, ℕ, zero, suc, ◌+◌, ◌-◌, ◌<◌, ◌≤◌, ◌==◌, min, Bool, true, false, cond, List, [], ◌∷◌, ◌++◌, length, length-append, take, drop, get_or, set, length-set, Option, Some, None, option_map, is_some, IfSome, IsSomeAnd, IfErr, OnOk, Result, Ok, Err, slice_get, slice_set, append-nil, refl, sym, ◌∙◌, ap, subst, arith}
+use Rattle.std.proofs.Common.{◌≡◌, ◌≢◌, ℕ, zero, suc, ◌+◌, ◌-◌, ◌<◌, ◌==◌, Bool, true, false, cond, List, [], ◌∷◌, ◌++◌, length, length-append, take, drop, get_or, set, length-set, Option, Some, None, option_map, is_some, IfSome, IsSomeAnd, IfErr, OnOk, Result, Ok, Err, slice_get, slice_set, append-nil, refl, sym, ◌∙◌, ap, subst, arith}
 use Rattle.std.specs.Io.{StartsWith}
 use Rattle.std.proofs.Math.Seq.{take-append-add, take-append_seam, take-length}
 use Rattle.std.proofs.lemmas.Bool.{true≢false}
@@ -13,7 +13,7 @@ use Rattle.nm_base.specs.declared.fault.Fault.TheVariants.{Memory, Refused}
 use Rattle.nm_base.specs.declared.record.Record.{Record}
 use Rattle.nm_pcap.specs.declared.form.Form.TheVariants.{Octets}
 use Rattle.nm_pcap.specs.Format.{file_header, record_octets}
-use Rattle.nm_files.specs.Checked.{DiffersAt, DiffersInOne, HasRead, HaveRead, IsLonger, IsUnlike, is_looked_at, looked_at}
+use Rattle.nm_files.specs.Checked.{DiffersAt, DiffersInOne, HasRead, HaveRead, IsUnlike, is_looked_at, looked_at}
 use Rattle.nm_files.specs.TraceFile.{octets_after, records_at, written_at}
 use Rattle.nm_files.specs.declared.checked_file.CheckCause.{CheckCause}
 use Rattle.nm_files.specs.declared.checked_file.CheckCause.TheVariants.{Differs, Failed}
@@ -28,11 +28,12 @@ behind (x ∷ xs) ys n = ap (slice_get (x ∷ (xs ++ ys))) (further (length xs) 
     further : (k n : ℕ) → suc k + n ≡ suc (k + n)
     further k n = omega arith
 
-next_behind : {X : Type 0} (xs ys : List X) → slice_get (xs ++ ys) (length xs) ≡ slice_get ys 0
+-- what comes behind a list, and what stands in it though others follow
+pub next_behind : {X : Type 0} (xs ys : List X) → slice_get (xs ++ ys) (length xs) ≡ slice_get ys 0
 next_behind [] ys = refl
 next_behind (x ∷ xs) ys = next_behind xs ys
 
-in_front : {X : Type 0} (xs ys : List X) (n : ℕ) → n < length xs → slice_get (xs ++ ys) n ≡ slice_get xs n
+pub in_front : {X : Type 0} (xs ys : List X) (n : ℕ) → n < length xs → slice_get (xs ++ ys) n ≡ slice_get xs n
 in_front [] ys n low = absurd (omega (arith, low))
 in_front (x ∷ xs) ys zero low = refl
 in_front (x ∷ xs) ys (suc n) low = in_front xs ys n (omega (arith, low))

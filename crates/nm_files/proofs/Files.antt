@@ -1,5 +1,5 @@
 -- Trace files that are written side by side.
-use Rattle.std.proofs.Common.{◌≡◌, ◌⊎◌, inl, inr, ℕ, ◌==◌, ◌<◌, ◌≤◌, true, false, Bool, Option, Some, None, List, [], ◌∷◌, length, get_or, set, length-set, take, ◌+◌, ◌++◌, slice_get, slice_set, Result, Ok, Err, OnOk, refl, sym, ◌∙◌, ap, subst, arith, length-append}
+use Rattle.std.proofs.Common.{◌≡◌, ◌⊎◌, inl, inr, ℕ, ◌==◌, ◌<◌, ◌≤◌, true, false, Bool, Option, Some, None, List, [], ◌∷◌, length, get_or, set, length-set, take, ◌+◌, ◌++◌, slice_get, slice_set, Err, refl, sym, ◌∙◌, ap, subst, arith, length-append}
 use Rattle.std.proofs.lemmas.List.{get_or-set_same, get_or-set_other}
 use Rattle.std.proofs.lemmas.List.Elements.{All-from_get_or, All-get_or}
 use Rattle.std.proofs.lemmas.Option.{slice_get_within, get_or_from_slice_get, slice_get-get_or}
@@ -9,14 +9,14 @@ use Rattle.nm_base.specs.Sink.{SinkSeen}
 use Rattle.nm_base.proofs.Sinks.{Appends-append}
 use Rattle.nm_base.specs.Count.{saturated}
 use Rattle.nm_base.specs.declared.record.Record.{Record}
-use Rattle.nm_pcap.specs.Format.{file_header, record_octets}
+use Rattle.nm_pcap.specs.Format.{record_octets}
 use Rattle.nm_pcap.specs.Outcome.{AddedAll, AddedNothing, AddedPart, Adds}
 use Rattle.nm_pcap.specs.Writer.{Writer}
 use Rattle.nm_pcap.specs.declared.writer.PcapFault.{PcapFault}
 use Rattle.nm_pcap.specs.declared.writer.PcapFault.TheVariants.{File, Failed}
 use Rattle.nm_pcap.specs.Writing.{written}
-use Rattle.nm_files.specs.Files.{AreCounted, FileTook, FilesTook, IsBegun, IsCounted, Took}
-use Rattle.nm_files.specs.Outputs.{Files, IsEmpty}
+use Rattle.nm_files.specs.Files.{AreCounted, FileTook, FilesTook, IsCounted, Took}
+use Rattle.nm_files.specs.Outputs.{Files}
 use Rattle.nm_files.specs.TraceFile.{written_at}
 use Rattle.nm_files.proofs.Made.{appended}
 use Rattle.nm_files.proofs.Pieces.{WroteAll-nil}
@@ -28,10 +28,6 @@ pub not_written : {S : Type 0} (seen : S → SinkSeen) (old new : Writer S) (e :
     → AddedPart seen old new octets n ⊎ AddedNothing seen old new × (n ≡ new.written)
 not_written seen old new (File m) octets n is w = inl (subst (AddedPart seen old new octets) (w.told ∙ sym is) w)
 not_written seen old new Failed octets n is w = inr (w, is)
-
-pub on_ok : {T E : Type 0} {A B : Type 0} (r : Result T E) → (A → B) → OnOk r A → OnOk r B
-on_ok (Ok x) f a = f a
-on_ok (Err e) f a = tt
 
 module _ {S : Type 0} (seen : S → SinkSeen) (r : Record (List ℕ)) where
   -- the record's own file took it

@@ -24,6 +24,22 @@ pub all_whole : {X : Type 0} (f : ℕ × X → Files) (xs : List X) (n : ℕ) (m
     → AreWhole made closed (flat_map f (enumerate_from 0 (take n xs))) → AreWhole made closed (flat_map f (enumerate_from 0 xs))
 all_whole f xs n made closed all whole = subst (λ l. AreWhole made closed (flat_map f (enumerate_from 0 l))) (take_all n xs (omega (arith, all))) whole
 
+-- files were made, and behind them others
+pub made_more : (before mid after : Option Files) (files more : Files) → HasMade before mid files → HasMade mid after more → HasMade before after (files ++ more)
+made_more before mid after files more first then first_files is = then (first_files ++ files) (first first_files is) ∙ ap (λ l. Some l) (append_assoc first_files files more)
+
+-- or only the first of these
+pub made_some_more : (before mid after : Option Files) (files more : Files) → HasMade before mid files → HasMadeSome mid after more → HasMadeSome before after (files ++ more)
+made_some_more before mid after files more first then first_files is =
+    let some = then (first_files ++ files) (first first_files is) in
+    (files ++ some.0, some.1, ap (λ l. files ++ l) some.2 ∙ sym (append_assoc files some.0 some.1), some.3 ∙ ap (λ l. Some l) (append_assoc first_files files some.0))
+
+-- the first of files are the first of these and others
+pub made_some_of : (before after : Option Files) (files more : Files) → HasMadeSome before after files → HasMadeSome before after (files ++ more)
+made_some_of before after files more some first_files is =
+    let s = some first_files is in
+    (s.0, s.1 ++ more, ap (λ l. l ++ more) s.2 ∙ append_assoc s.0 s.1 more, s.3)
+
 abbrev octets_in : Option (List ℕ) → List ℕ
 octets_in None = []
 octets_in (Some octets) = octets

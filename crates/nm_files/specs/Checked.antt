@@ -1,5 +1,5 @@
 -- Trace files that are there, read beside what they are to have. File n is that of interface n.
-use Rattle.std.specs.Prelude.{◌≡◌, ◌≢◌, ℕ, ◌+◌, ◌<◌, Bool, false, true, IfSome, IsSomeAnd, List, [], ◌∷◌, ◌++◌, get_or, length, map, slice_get, take, Option, None, Some, is_some}
+use Rattle.std.specs.Prelude.{◌≡◌, ◌≢◌, ℕ, ◌+◌, ◌<◌, Bool, false, true, IfSome, IsSomeAnd, List, ◌++◌, get_or, length, map, slice_get, take, Option, None, Some, is_some}
 use Rattle.std.specs.Io.{StartsWith}
 use Rattle.nm_base.specs.Count.{saturated}
 use Rattle.nm_base.specs.declared.fault.Fault.{Fault}
@@ -15,6 +15,10 @@ use Rattle.nm_files.specs.declared.checked_file.CheckedFile.{CheckedFile}
 -- another one, or one of both ends.
 abbrev pub DiffersAt : (text octets : List ℕ) → ℕ → Type 0
 DiffersAt text octets n = (take n text ≡ take n octets) × (slice_get text n ≢ slice_get octets n)
+
+-- A text differs from these octets at this octet, which stops at 2 ^ 64 - 1, and at none before it.
+abbrev pub TextDiffers : (text octets : List ℕ) → (octet : ℕ) → Type 0
+TextDiffers text octets octet = (k : ℕ) × (octet ≡ saturated k) × DiffersAt text octets k
 
 -- the interface whose file differs, and at which octet, where one does
 abbrev pub difference : Fault CheckCause → Option (ℕ × ℕ)

@@ -10,6 +10,8 @@ use Rattle.nm_topology.specs.PartValues.{IfaceValue}
 use Rattle.nm_files.specs.Files.{HoldsFile}
 use Rattle.nm_files.specs.Names.{file_name}
 use Rattle.nm_files.specs.Outputs.{Files, IsWhole}
+use Rattle.nm_files.specs.declared.outputs.OutputFault.{OutputFault}
+use Rattle.nm_files.specs.declared.outputs.OutputFault.TheVariants.{Failed, Memory as NoMemory}
 use Rattle.nm_files.specs.declared.trace_files.FileFault.{FileFault}
 
 -- the files of a folder with this name: one of each interface that is chosen, by its number and what
@@ -36,6 +38,16 @@ abbrev pub IsClosedAs : Option Files → Bool → List ℕ × List ℕ → Optio
 IsClosedAs made false file closed = closed ≡ None
 IsClosedAs made true file None = ⊥
 IsClosedAs made true file (Some closed) = IsWhole made closed file
+
+-- what the fault of an output is to trace files, one of which failed so
+abbrev pub files_fault : OutputFault → FileFault → Fault FileFault
+files_fault Failed file = Refused file
+files_fault NoMemory file = Memory
+
+-- the file of interface n failed; or memory was refused
+abbrev pub IsOfIface : (n : ℕ) → Fault FileFault → Type 0
+IsOfIface n Memory = Unit {0}
+IsOfIface n (Refused fault) = fault.iface ≡ n
 
 -- the file of interface n failed when it had as many octets as were counted; or memory was refused
 abbrev pub IsOwnFault : {S : Type 0} → (n : ℕ) → Option (Writer S) → Fault FileFault → Type 0

@@ -1,12 +1,12 @@
 //! A trace file that is there, read beside what it is to have.
 
-ghost use Rattle.std.specs.Prelude.{◌≡◌, ◌≢◌, ℕ, ◌+◌, ◌<◌, ◌≤◌, ◌++◌, IfErr, IfOk, IfSome, List};
+ghost use Rattle.std.specs.Prelude.{◌≡◌, ◌≢◌, ◌⊎◌, ℕ, ◌+◌, ◌<◌, ◌≤◌, ◌++◌, IfErr, IfOk, IfSome, List};
 ghost use Rattle.std.specs.Prelude.{[], OnOk, Option, length, slice_get, take};
 ghost use Rattle.nm_base.specs.Count.{saturated};
-ghost use Rattle.nm_base.specs.declared.fault.Fault.TheVariants.{Refused};
+ghost use Rattle.nm_base.specs.declared.fault.Fault.TheVariants.{Memory, Refused};
 ghost use Rattle.nm_base.specs.declared.limits.TheConstants.{MAX_TIME};
 ghost use Rattle.nm_files.specs.Checked.{HasRead, IsLonger, IsUnlike, difference};
-ghost use Rattle.nm_files.specs.declared.checked_file.CheckCause.TheVariants.{Differs};
+ghost use Rattle.nm_files.specs.declared.checked_file.CheckCause.TheVariants.{Differs, Failed};
 ghost use Rattle.nm_pcap.specs.Format.{file_header, record_octets};
 
 use nm_base::{Fault, IfaceNo, Record};
@@ -32,7 +32,8 @@ pub type CheckFault = Fault<CheckCause>;
 
 /// What an error of the system is at a file.
 pub fn check_fault(error: &io::Error) -> CheckFault
-    ensures { (n : ℕ) (texts : ℕ → Option (List ℕ)) (before next : List ℕ)
+    ensures kinds { (result ≡ Memory) ⊎ (result ≡ Refused Failed) }
+    ensures unlike { (n : ℕ) (texts : ℕ → Option (List ℕ)) (before next : List ℕ)
         → IsUnlike texts n before next result × IsLonger texts n before result }
 {
     match error.kind() {

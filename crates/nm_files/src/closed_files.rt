@@ -5,7 +5,7 @@ ghost use Rattle.std.specs.Prelude.{◌≡◌, ◌++◌, IfErr, OnOk, [], map};
 ghost use Rattle.nm_files.specs.Folder.{IsOneOf};
 ghost use Rattle.nm_files.specs.Outputs.{AreWhole, Files, HasMade, HasMadeSome};
 
-use crate::outputs::Outputs;
+use crate::outputs::{OutputFault, Outputs};
 use crate::trace_files::{FileFault, FilesFault, files_fault};
 use nm_base::IfaceNo;
 use std::alloc::{AllocError, Global};
@@ -45,6 +45,26 @@ impl<C: Drop> ClosedFiles<C> {
         }
         Ok(())
     }
+}
+
+/// Gives closed files their names, in order, in place of what had them.
+///
+/// # Errors
+///
+/// That of the one that could not get its name. Those before it have theirs, and of the names of
+/// the others what had them stays.
+pub fn place_each<F: Outputs>(outputs: &mut F, closed: Vec<F::Closed>) -> Result<(), OutputFault>
+    ensures placed { OnOk result ((files : Files)
+        → AreWhole (F.made outputs.old) (map F.closed closed.items) files
+        → HasMade (F.made outputs.old) (F.made outputs.new) files) }
+    ensures some { (files : Files)
+        → AreWhole (F.made outputs.old) (map F.closed closed.items) files
+        → HasMadeSome (F.made outputs.old) (F.made outputs.new) files }
+{
+    for file in closed {
+        outputs.place(file)?;
+    }
+    Ok(())
 }
 
 /// Gives closed trace files their names, in order, in place of what had them.

@@ -3,7 +3,8 @@
 ghost use Rattle.std.specs.Prelude.{◌≡◌, ℕ, ◌<◌, Bool, IfErr, IfOk, List, None, OnOk};
 ghost use Rattle.std.specs.Prelude.{get_or, length, map, option_map, slice_get};
 ghost use Rattle.nm_files.specs.Files.{HoldsFile, HoldsFiles};
-ghost use Rattle.nm_files.specs.Folder.{HasOpened, IsClosedAs, IsOwnFault, chosen_files};
+ghost use Rattle.nm_files.specs.Folder.{HasOpened, IsClosedAs, IsOfIface, IsOwnFault};
+ghost use Rattle.nm_files.specs.Folder.{chosen_files};
 ghost use Rattle.nm_files.specs.Names.{file_name};
 ghost use Rattle.nm_files.specs.Outputs.{AreWhole};
 ghost use Rattle.nm_pcap.specs.Format.{file_header};
@@ -56,6 +57,7 @@ impl<'a, C: Choice> Folder<'a, C> {
             → OnOk result (HasOpened F.File.seen (F.made outputs.old)
             (C.chooses self.now.choice self.now.topology.now number x)
             files.old.files.items files.new.files.items) }
+        ensures told { IfErr result (IsOfIface number) }
         ensures same { F.made outputs.new ≡ F.made outputs.old }
     {
         let iface = self.topology.iface_number(number);
@@ -85,6 +87,8 @@ impl<'a, C: Choice> Folder<'a, C> {
             (λ n. file_header) files.files.items) }
         ensures count { IfOk result
             (λ files. length files.files.items ≡ length self.now.topology.now.ifaces) }
+        ensures told { IfErr result (λ fault. (n : ℕ)
+            × (n < length self.now.topology.now.ifaces) × IsOfIface n fault) }
         ensures same { F.made outputs.new ≡ F.made outputs.old }
     {
         let mut files = TraceFiles::new(alloc);

@@ -14,7 +14,7 @@ pub mod trace_files;
 
 pub use checked_file::{CheckCause, CheckFault, CheckedFile};
 pub use checked_files::CheckedFiles;
-pub use closed_files::{ClosedFiles, place_all};
+pub use closed_files::{ClosedFiles, place_all, place_each};
 pub use folder::{Choice, Folder};
 pub use mem_outputs::MemOutputs;
 pub use outputs::{OutputFault, Outputs};

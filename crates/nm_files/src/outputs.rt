@@ -1,8 +1,10 @@
 //! Where files go.
 
 ghost use Rattle.std.specs.Prelude.{◌≡◌, ℕ, List, Option, IfErr, IfOk, OnOk};
+ghost use Rattle.nm_files.specs.declared.outputs.OutputFault.TheVariants.{Memory};
 
 use nm_base::Sink;
+use std::alloc::{AllocError, AllocFailed};
 use thiserror::Error;
 
 /// Why a file was not made, closed or placed.
@@ -14,6 +16,22 @@ pub enum OutputFault {
     /// Memory was refused.
     #[error("out of memory")]
     Memory,
+}
+
+impl From<AllocError> for OutputFault {
+    ghost from_gives = { λ _ fault. fault ≡ Memory };
+
+    fn from(_: AllocError) -> Self {
+        OutputFault::Memory
+    }
+}
+
+impl<T: Drop> From<AllocFailed<T>> for OutputFault {
+    ghost from_gives = { λ _ fault. fault ≡ Memory };
+
+    fn from(_: AllocFailed<T>) -> Self {
+        OutputFault::Memory
+    }
 }
 
 /// Files that are made, or replaced, by their names. A file is written and closed beside its name,

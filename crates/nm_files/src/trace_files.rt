@@ -7,6 +7,7 @@ ghost use Rattle.nm_base.specs.declared.fault.Fault.TheVariants.{Memory, Refused
 ghost use Rattle.nm_base.specs.declared.limits.TheConstants.{MAX_TIME};
 ghost use Rattle.nm_files.specs.Files.{AreCounted, FileFailed, FileTook, FilesTook, HasBegun};
 ghost use Rattle.nm_files.specs.Files.{OwnFileFailed, FailedAt, IsBegun};
+ghost use Rattle.nm_files.specs.Folder.{IsOfIface, files_fault};
 ghost use Rattle.nm_files.specs.Outputs.{Files};
 
 use crate::outputs::OutputFault;
@@ -44,7 +45,8 @@ pub struct TraceFiles<S> {
 
 /// What the fault of an output is to trace files, one of which failed so.
 pub(crate) fn files_fault(fault: OutputFault, file: FileFault) -> FilesFault
-    ensures { (result ≡ Refused file) ⊎ (result ≡ Memory) }
+    ensures value { result ≡ files_fault fault file }
+    ensures kinds { (result ≡ Refused file) ⊎ (result ≡ Memory) }
 {
     match fault {
         OutputFault::Failed => FilesFault::Refused(file),
@@ -64,7 +66,8 @@ fn fault_of<S>(iface: IfaceNo, file: &PcapOut<S>) -> FileFault
 
 /// A file whose header is written.
 fn begun<S: Sink + Drop>(iface: IfaceNo, sink: S) -> Result<PcapOut<S>, FilesFault>
-    ensures { IfOk result (IsBegun S.seen sink) }
+    ensures begun { IfOk result (IsBegun S.seen sink) }
+    ensures told { IfErr result (IsOfIface iface) }
 {
     let mut file = PcapOut::new(sink);
     match file.start() {
@@ -171,6 +174,7 @@ impl<S: Sink + Drop> TraceFiles<S> {
         ensures begun { OnOk result (HasBegun S.seen sink
             self.old.files.items self.new.files.items) }
         ensures same { IfErr result (λ _. self.new.files.items ≡ self.old.files.items) }
+        ensures told { IfErr result (IsOfIface iface) }
     {
         let file = begun(iface, sink)?;
         Ok(self.add(file)?)

@@ -43,4 +43,4 @@ pub returns-in-Err-clause-told : goal.returns-in-Err-clause-told
 returns-in-Err-clause-told g c =
     subst (λ l. IsOneOf (map (λ c. (c.iface, c.written)) l) c.files_fault.result)
     (sym (c.loop-one.invariant.left ∙ ap (λ l. c.loop-one.yielded ++ l) c.in-Some.ensures.steps.0))
-    (one_of c.loop-one.yielded (into_iter_items c.next.new.self) c.in-Some.one c.files_fault.result c.files_fault.ensures)
+    (one_of c.loop-one.yielded (into_iter_items c.next.new.self) c.in-Some.one c.files_fault.result c.files_fault.ensures.kinds)

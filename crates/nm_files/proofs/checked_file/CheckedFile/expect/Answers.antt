@@ -34,4 +34,4 @@ returns-in-Ok-eq0-clause-unlike g c = λ texts n before read.
     )
 
 pub returns-in-Err-clause-unlike : goal.returns-in-Err-clause-unlike
-returns-in-Err-clause-unlike g c = λ texts n before read. (c.check_fault.ensures n texts before c.args.octets.now).0
+returns-in-Err-clause-unlike g c = λ texts n before read. (c.check_fault.ensures.unlike n texts before c.args.octets.now).0

@@ -3,7 +3,7 @@ use Rattle.nm_files.proofs.Checked.{more_left}
 use Rattle.nm_files.proofs.checked_file.CheckedFile.finish.Goals as goal
 
 pub returns-in-Err-clause-longer : goal.returns-in-Err-clause-longer
-returns-in-Err-clause-longer g c = λ texts n octets read. (c.check_fault.ensures n texts octets []).1
+returns-in-Err-clause-longer g c = λ texts n octets read. (c.check_fault.ensures.unlike n texts octets []).1
 
 pub returns-else-is_end-clause-longer : goal.returns-else-is_end-clause-longer
 returns-else-is_end-clause-longer g c = λ texts n octets read.
