@@ -15,7 +15,7 @@ use Rattle.nm_model.specs.Run.{one_list}
 use Rattle.nm_pcap.specs.Format.{file_header, record_octets}
 use Rattle.nm_pcap.specs.declared.form.Form.TheVariants.{Octets}
 use Rattle.nm_topology.specs.TopologyValue.{TopologyValue}
-use Rattle.nm_files.specs.Checked.{HaveRead}
+use Rattle.nm_files.specs.Checked.{HaveRead, TextDiffers}
 use Rattle.nm_files.specs.TraceFile.{octets_after, trace_file}
 use Rattle.nm_files.specs.declared.checked_file.CheckCause.{CheckCause}
 use Rattle.nm_files.specs.declared.checked_file.CheckCause.TheVariants.{Differs, Failed}
@@ -26,7 +26,7 @@ use Rattle.nm_book.specs.Book.{state_of}
 use Rattle.nm_rounds.specs.Certify.{AreCertified, Certifies}
 use Rattle.nm_rounds.specs.declared.certify.CertFault.{CertFault}
 use Rattle.nm_known.specs.Known.{ExplainsText}
-use Rattle.nm_certify.specs.Certify.{AreBooksOf, AreTraceFiles, DiffersFirst, ExplainsFault, HaveTexts, IsBookOf, fresh_book}
+use Rattle.nm_certify.specs.Certify.{AreBooksOf, AreTraceFiles, ExplainsFault, HaveTexts, IsBookOf, fresh_book}
 use Rattle.nm_certify.specs.Checking.{EndsAs, HasRecord, IsEnd, RefusesOne, jobs_from, trace_fault}
 use Rattle.nm_certify.specs.declared.fault.CertifyCause.TheVariants.{Known, NotCertified}
 use Rattle.nm_certify.specs.declared.fault.CertifyCause.TheVariants as cause
@@ -48,10 +48,11 @@ same_number a b is = grind (arith, nat_tests, is)
 whole_file : (n : ℕ) (records : List (Record (List ℕ))) → octets_after n records ≡ trace_file Octets n records
 whole_file n records = sym (file_parts Octets n records ∙ append-nil (octets_after n records))
 
-all_at : {X : Type 0} (P : X → Type 0) (xs : List X) (i : ℕ) (x : X) → All P xs → slice_get xs i ≡ Some x → P x
+pub all_at : {X : Type 0} (P : X → Type 0) (xs : List X) (i : ℕ) (x : X) → All P xs → slice_get xs i ≡ Some x → P x
 all_at P xs i x all at = subst P (get_or_from_slice_get xs i x x at) (all i x (slice_get_within xs i x at))
 
-mapped_at : {X Y : Type 0} (f : X → Y) (xs : List X) (i : ℕ) (y : Y) → slice_get (map f xs) i ≡ Some y → (x : X) × (slice_get xs i ≡ Some x) × (f x ≡ y)
+-- an element of a list that a function gave
+pub mapped_at : {X Y : Type 0} (f : X → Y) (xs : List X) (i : ℕ) (y : Y) → slice_get (map f xs) i ≡ Some y → (x : X) × (slice_get xs i ≡ Some x) × (f x ≡ y)
 mapped_at f [] i y at = absurd (none-some y at)
 mapped_at f (x ∷ xs) zero y at = (x, refl, same_Some (f x) y at)
 mapped_at f (x ∷ xs) (suc i) y at = mapped_at f xs i y at
@@ -151,7 +152,7 @@ module _ {B : Type 0} (t : TopologyValue) (left : B → Option (List ℕ)) (part
       count = length-map ends (λ end. end.book) ∙ count;
       each = λ p files b at here.
           let end = mapped_at (λ end. end.book) ends p b here in
-          subst (IsBookOf t left p files) end.2 (end_is p files end.0 at end.1).book;
+          subst (IsBookOf t p files.replica (left files.known)) end.2 (end_is p files end.0 at end.1).book;
     }
 
     pub not_certified : (f : CertFault) → Certifies t (map (λ end. end.book) ends) (Err f) → ExplainsFault t left parts (Refused (NotCertified f))
@@ -198,7 +199,7 @@ module _ {B : Type 0} (t : TopologyValue) (left : B → Option (List ℕ)) (part
               files,
               ap (slice_get parts) at_own ∙ there.1,
               differs.0,
-              subst (λ l. IfSome (texts n) (λ text. DiffersFirst text l octet)) (own_file t law i own all records is_trace n at_own) differs.2,
+              subst (λ l. IfSome (texts n) (λ text. TextDiffers text l octet)) (own_file t law i own all records is_trace n at_own) differs.2,
             ),
       )
         where

@@ -11,7 +11,7 @@ use Rattle.nm_model.specs.Partition.{receiver_of}
 use Rattle.nm_model.proofs.ListLemmas.{below_or_at}
 use Rattle.nm_topology.specs.TopologyValue.{TopologyValue}
 use Rattle.nm_sim.specs.Network.{net_of}
-use Rattle.nm_files.specs.Checked.{DiffersAt, HaveRead, IsLonger, is_looked_at, looked_at}
+use Rattle.nm_files.specs.Checked.{DiffersAt, HaveRead, TextDiffers, IsLonger, is_looked_at, looked_at}
 use Rattle.nm_files.specs.TraceFile.{octets_after}
 use Rattle.nm_files.specs.declared.checked_file.CheckCause.{CheckCause}
 use Rattle.nm_files.specs.declared.checked_file.CheckCause.TheVariants.{Differs, Failed}
@@ -19,7 +19,7 @@ use Rattle.nm_files.specs.declared.checked_file.CheckedFile.{CheckedFile}
 use Rattle.nm_frames.specs.Frame.{stream_octets}
 use Rattle.nm_book.specs.Book.{BookValue, state_of}
 use Rattle.nm_known.specs.Known.{frames_below, known_octets, replica_hello, told_of}
-use Rattle.nm_certify.specs.Certify.{DiffersFirst, HasDoneAll, fresh_book}
+use Rattle.nm_certify.specs.Certify.{HasDoneAll, fresh_book}
 use Rattle.nm_certify.specs.declared.part.Job.{Job}
 use Rattle.nm_certify.specs.Checking.{EndsAs, IsEnd, IsUnlikeAmong}
 
@@ -44,7 +44,7 @@ module _ (texts : ℕ → Option (List ℕ)) (t : TopologyValue) (p : ℕ) (reco
   ends_behind n (Refused (Differs iface octet)) own seen h = (
     ap (is_looked_at files) h.0 ∙ seen,
     inr (ap (receiver_of (net_of t)) h.0 ∙ own),
-    subst (λ k. IfSome (texts k) (λ text. DiffersFirst text (octets_after k records) octet)) (sym h.0)
+    subst (λ k. IfSome (texts k) (λ text. TextDiffers text (octets_after k records) octet)) (sym h.0)
         (IfSome_then (texts n) h.1 (λ text d. (length (octets_after n records), d.0, d.2))),
   )
 
@@ -90,8 +90,8 @@ is_end t left job first last traces fresh ran told all ends = record {
   book = record {
     topology = ap {A = BookValue} (λ b. b.topology) ran ∙ ap {A = BookValue} (λ b. b.topology) fresh;
     partition = ap {A = BookValue} (λ b. b.partition) ran ∙ ap {A = BookValue} (λ b. b.partition) fresh;
-    replica = ap {A = BookValue} (λ b. b.replica) ran ∙ ap {A = BookValue} (λ b. b.replica) fresh;
-    known = IfSome_then (left job.files.known) told (λ text is. is ∙ sym (ap known_octets ran ∙ octets_same first last.events last.handed));
+    replica_is = ap {A = BookValue} (λ b. b.replica) ran ∙ ap {A = BookValue} (λ b. b.replica) fresh;
+    told = IfSome_then (left job.files.known) told (λ text is. is ∙ sym (ap known_octets ran ∙ octets_same first last.events last.handed));
     ran = all;
   };
   traces = ends;

@@ -2,4 +2,4 @@ mod Runs
 mod Over
 mod Ends
 mod Pieces
-mod Certified
+pub mod Certified

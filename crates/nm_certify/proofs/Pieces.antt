@@ -8,6 +8,7 @@ use Rattle.nm_base.specs.declared.fault.Fault.{Fault}
 use Rattle.nm_base.specs.declared.fault.Fault.TheVariants.{Memory, Refused}
 use denote.Param.Members.{Shared}
 use Rattle.std.specs.Fork.{GivesJobs}
+use Rattle.nm_files.proofs.Checked.{in_front, next_behind}
 use Rattle.nm_files.proofs.Folders.{element}
 use Rattle.nm_certify.specs.Checking.{IsEnd, RefusesOne, RefusesPart, jobs_from}
 use Rattle.nm_certify.specs.declared.part.PartEnd.{PartEnd}
@@ -65,16 +66,6 @@ module _ {J E F : Type 0} (Good : J → E → Type 0) (Bad : J → F → Type 0)
 pub none_of : {X : Type 0} (xs : List X) → length xs ≡ 0 → xs ≡ []
 none_of [] none = refl
 none_of (x ∷ xs) none = absurd (let e : suc (length xs) ≡ 0 = none in omega (arith, e))
-
--- what stands in a list that others follow, and what comes next
-in_front : {X : Type 0} (xs ys : List X) (n : ℕ) → n < length xs → slice_get (xs ++ ys) n ≡ slice_get xs n
-in_front [] ys n low = absurd (omega (arith, low))
-in_front (x ∷ xs) ys zero low = refl
-in_front (x ∷ xs) ys (suc n) low = in_front xs ys n (omega (arith, low))
-
-next_behind : {X : Type 0} (xs ys : List X) → slice_get (xs ++ ys) (length xs) ≡ slice_get ys 0
-next_behind [] ys = refl
-next_behind (x ∷ xs) ys = next_behind xs ys
 
 -- a result that is a fault, behind others that are not
 pub first_fault : {E F : Type 0} (es : List E) (f : F) (left rest rs : List (Result E F)) → map (λ e. Ok e) es ++ left ≡ rs → left ≡ Err f ∷ rest

@@ -1,6 +1,5 @@
 -- What files of several machines show.
 use Rattle.std.specs.Prelude.{◌≡◌, ℕ, ◌<◌, true, All, IfSome, List, [], length, replicate, slice_get, Option, Some, Err}
-use Rattle.nm_base.specs.Count.{saturated}
 use Rattle.nm_base.specs.declared.fault.Fault.{Fault}
 use Rattle.nm_base.specs.declared.fault.Fault.TheVariants.{Memory, Refused}
 use Rattle.nm_base.specs.declared.record.Record.{Record}
@@ -9,7 +8,7 @@ use Rattle.nm_model.specs.Knowledge.{nothing_known}
 use Rattle.nm_model.specs.Partition.{receiver_of}
 use Rattle.nm_pcap.specs.declared.form.Form.TheVariants.{Octets}
 use Rattle.nm_topology.specs.TopologyValue.{TopologyValue}
-use Rattle.nm_files.specs.Checked.{DiffersAt, HaveRead, is_looked_at}
+use Rattle.nm_files.specs.Checked.{HaveRead, TextDiffers, is_looked_at}
 use Rattle.nm_files.specs.TraceFile.{trace_file}
 use Rattle.nm_sim.specs.Network.{net_of}
 use Rattle.nm_sim.specs.Trace.{IsTraceBefore}
@@ -35,27 +34,23 @@ fresh_book t partition replica = record {
 abbrev pub HasDoneAll : BookValue → Type 0
 HasDoneAll b = IsCount (net_of b.topology) b.partition (knowledge b) b.events
 
--- A text differs from these octets at this octet, counted from 0, which stops at 2 ^ 64 - 1, and at
--- none before it.
-abbrev pub DiffersFirst : (text octets : List ℕ) → (octet : ℕ) → Type 0
-DiffersFirst text octets octet = (k : ℕ) × (octet ≡ saturated k) × DiffersAt text octets k
+-- The book of a replica of partition p, which knows what this file of what is known tells, where
+-- that is told, and did all that it may do by that.
+pub record IsBookOf (t : TopologyValue) (p replica : ℕ) (known : Option (List ℕ)) (b : BookValue)
+    : Type 0 where
+  pub topology : b.topology ≡ t
+  pub partition : b.partition ≡ p
+  pub replica_is : b.replica ≡ replica
+  pub told : IfSome known (λ text. text ≡ known_octets b)
+  pub ran : HasDoneAll b
 
 -- Of files by partitions, of which the octets that are left of a reader are told, or are not.
 module _ {B : Type 0} (t : TopologyValue) (left : B → Option (List ℕ)) where
-  -- a book of partition p, which knows what its file of what is known tells, and did all that it
-  -- may do by that
-  pub record IsBookOf (p : ℕ) (files : PartFiles B) (b : BookValue) : Type 0 where
-    pub topology : b.topology ≡ t
-    pub partition : b.partition ≡ p
-    pub replica : b.replica ≡ files.replica
-    pub known : IfSome (left files.known) (λ text. text ≡ known_octets b)
-    pub ran : HasDoneAll b
-
   -- one of each partition, in order
   pub record AreBooksOf (parts : List (PartFiles B)) (books : List BookValue) : Type 0 where
     pub count : length books ≡ length parts
     pub each : (p : ℕ) (files : PartFiles B) (b : BookValue) → slice_get parts p ≡ Some files
-        → slice_get books p ≡ Some b → IsBookOf p files b
+        → slice_get books p ≡ Some b → IsBookOf t p files.replica (left files.known) b
 
   -- the trace files have these texts, each where it is told, and of each the header is read
   abbrev pub HaveTexts : (ℕ → Option (List ℕ)) → List (PartFiles B) → Type 0
@@ -77,7 +72,7 @@ module _ {B : Type 0} (t : TopologyValue) (left : B → Option (List ℕ)) where
   DiffersInItsPart texts records parts iface octet = (files : PartFiles B)
       × (slice_get parts (receiver_of (net_of t) iface) ≡ Some files)
       × (is_looked_at files.traces.files.items iface ≡ true)
-      × IfSome (texts iface) (λ text. DiffersFirst text (trace_file Octets iface records) octet)
+      × IfSome (texts iface) (λ text. TextDiffers text (trace_file Octets iface records) octet)
 
   -- Why files are not certified: what is told of partition p's file of what is known, while each
   -- partition before it has a book; or what the certificate shows of books that know what these
@@ -91,7 +86,7 @@ module _ {B : Type 0} (t : TopologyValue) (left : B → Option (List ℕ)) where
       (files : PartFiles B) × (slice_get parts p ≡ Some files)
       × ExplainsText (fresh_book t p files.replica) (left files.known) (Refused cause)
       × ((q : ℕ) (earlier : PartFiles B) → q < p → slice_get parts q ≡ Some earlier
-      → (b : BookValue) × IsBookOf q earlier b)
+      → (b : BookValue) × IsBookOf t q earlier.replica (left earlier.known) b)
   ExplainsFault parts (Refused (NotCertified f)) =
       (books : List BookValue) × AreBooksOf parts books × Certifies t books (Err f)
   ExplainsFault parts (Refused (Differs iface octet)) =

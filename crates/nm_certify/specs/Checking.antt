@@ -5,7 +5,7 @@ use Rattle.nm_base.specs.declared.fault.Fault.TheVariants.{Memory, Refused}
 use Rattle.nm_base.specs.declared.record.Record.{Record}
 use Rattle.nm_model.specs.Partition.{receiver_of}
 use Rattle.nm_topology.specs.TopologyValue.{TopologyValue}
-use Rattle.nm_files.specs.Checked.{DiffersIn, HaveRead, is_looked_at}
+use Rattle.nm_files.specs.Checked.{DiffersIn, HaveRead, TextDiffers, is_looked_at}
 use Rattle.nm_files.specs.TraceFile.{octets_after}
 use Rattle.nm_files.specs.declared.checked_file.CheckCause.{CheckCause}
 use Rattle.nm_files.specs.declared.checked_file.CheckCause.TheVariants.{Differs, Failed}
@@ -16,7 +16,7 @@ use Rattle.nm_book.specs.declared.running.Ran.{Ran}
 use Rattle.nm_book.specs.declared.running.Ran.TheVariants.{All, Limit, Memory as NoMemory}
 use Rattle.nm_known.specs.Known.{ExplainsText}
 use Rattle.nm_known.specs.declared.known_fault.KnownCause.{KnownCause}
-use Rattle.nm_certify.specs.Certify.{DiffersFirst, HasDoneAll, IsBookOf, fresh_book}
+use Rattle.nm_certify.specs.Certify.{HasDoneAll, IsBookOf, fresh_book}
 use Rattle.nm_certify.specs.declared.fault.CertifyCause.{CertifyCause}
 use Rattle.nm_certify.specs.declared.fault.CertifyCause.TheVariants.{Known, NotCertified}
 use Rattle.nm_certify.specs.declared.fault.CertifyCause.TheVariants as cause
@@ -72,7 +72,7 @@ module _ (texts : ℕ → Option (List ℕ)) where
   EndsAs t p records files (Err (Refused Failed)) = Unit {0}
   EndsAs t p records files (Err (Refused (Differs own octet))) = (is_looked_at files own ≡ true)
       × (HasRecord own records ⊎ (receiver_of (net_of t) own ≡ p))
-      × IfSome (texts own) (λ text. DiffersFirst text (octets_after own records) octet)
+      × IfSome (texts own) (λ text. TextDiffers text (octets_after own records) octet)
 
 -- the first result that is a fault
 abbrev pub IsFirstFault : List (Result PartEnd (Fault CertifyCause)) → Fault CertifyCause → Type 0
@@ -87,7 +87,7 @@ jobs_from n (files ∷ more) = record { partition = n; files = files } ∷ jobs_
 module _ {B : Type 0} (t : TopologyValue) (left : B → Option (List ℕ)) where
   -- what came of a partition
   pub record IsEnd (job : Job B) (end : PartEnd) : Type 0 where
-    pub book : IsBookOf t left job.partition job.files end.book
+    pub book : IsBookOf t job.partition job.files.replica (left job.files.known) end.book
     pub traces : (texts : ℕ → Option (List ℕ))
         → HaveRead texts left [] job.files.traces.files.items
         → EndsAs texts t job.partition (state_of end.book).records job.files.traces.files.items

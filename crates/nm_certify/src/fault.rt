@@ -54,7 +54,7 @@ pub(crate) fn known_fault(partition: PartNo, fault: KnownFault) -> CertifyFault
 }
 
 /// What the fault of a trace file is to the files.
-pub(crate) fn trace_fault(fault: &CheckFault) -> CertifyFault
+pub fn trace_fault(fault: &CheckFault) -> CertifyFault
     ensures { result ≡ trace_fault fault.now }
 {
     match fault {
