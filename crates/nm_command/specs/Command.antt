@@ -1,5 +1,5 @@
 -- The words of the program.
-use Rattle.std.specs.Prelude.{ℕ, ◌+◌, ◌≤◌, ◌&&◌, leb, if◌then◌else◌, List, [], ◌∷◌, codes, decimal, Option, Some, None, option_map, map, string_bytes}
+use Rattle.std.specs.Prelude.{ℕ, ◌+◌, ◌≤◌, Bool, true, false, ◌&&◌, leb, if◌then◌else◌, List, [], ◌∷◌, codes, decimal, Option, Some, None, option_map, map, string_bytes}
 use Rattle.std.specs.Str.{bytes_eq}
 use Rattle.nm_command.specs.declared.command.Command.{Command}
 use Rattle.nm_command.specs.declared.command.Command.TheVariants as command
@@ -42,11 +42,14 @@ pub data CommandValue : Type 0 where
   -- to say the way of a packet: the topology, the name of the node that sends it, and the address
   Path : List ℕ → List ℕ → List ℕ → CommandValue
   -- to run all partitions: the topology, the folder of their trace files, how many threads run
-  -- books, and how many replicas each partition has
-  Run : List ℕ → List ℕ → ℕ → ℕ → CommandValue
+  -- books, how many replicas each partition has, and whether files of what is known are made too
+  Run : List ℕ → List ℕ → ℕ → ℕ → Bool → CommandValue
   -- to run one replica: the topology, the folder of its trace files, the partition, the number
-  -- of the replica, and the addresses
-  Node : List ℕ → List ℕ → ℕ → ℕ → List ℕ → CommandValue
+  -- of the replica, the addresses, and whether the file of what it knows is made too
+  Node : List ℕ → List ℕ → ℕ → ℕ → List ℕ → Bool → CommandValue
+  -- to certify files that replicas left: the topology, how many partitions are worked on at a time,
+  -- and the folders
+  Certify : List ℕ → ℕ → List (List ℕ) → CommandValue
 
 abbrev pub command_value : Command → CommandValue
 command_value (command.Trace words) =
@@ -64,9 +67,12 @@ command_value (command.Series words) = Series words.topology.now words.step word
 command_value (command.Packets words) = Packets words.topology.now words.source
 command_value (command.Path words) = Path words.topology.now words.node.now words.address.now
 command_value (command.Run words) =
-    Run words.topology.now words.folder.now words.workers words.replicas
+    Run words.topology.now words.folder.now words.workers words.replicas words.keeps
 command_value (command.Node words) =
     Node words.topology.now words.folder.now words.partition words.replica words.addresses.now
+    words.keeps
+command_value (command.Certify words) =
+    Certify words.topology.now words.workers (map (λ name. string_bytes name) words.folders.now)
 
 -- the numbers of a command are such as may be asked for
 abbrev pub AsksWithinLimits : Command → Type 0
@@ -85,6 +91,7 @@ AsksWithinLimits (command.Run words) = (1 ≤ words.workers) × (words.workers �
     × (1 ≤ words.replicas) × (words.replicas ≤ MAX_REPLICAS)
 AsksWithinLimits (command.Node words) =
     (words.partition ≤ MAX_PARTITION) × (words.replica ≤ MAX_REPLICA)
+AsksWithinLimits (command.Certify words) = (1 ≤ words.workers) × (words.workers ≤ MAX_WORKERS)
 
 -- the words that write one trace file
 abbrev pub form_of : List ℕ → Option (Form × Ways)
@@ -158,35 +165,55 @@ of_four word topology third fourth =
     else (if bytes_eq word (codes "path") then Some (Path topology third fourth) else None)
 
 -- `run`, if its two numbers are such
-abbrev pub run_of : List ℕ → List ℕ → Option ℕ → Option ℕ → Option CommandValue
-run_of topology folder None replicas = None
-run_of topology folder (Some workers) None = None
-run_of topology folder (Some workers) (Some replicas) = Some (Run topology folder workers replicas)
+abbrev pub run_of : List ℕ → List ℕ → Option ℕ → Option ℕ → Bool → Option CommandValue
+run_of topology folder None replicas keeps = None
+run_of topology folder (Some workers) None keeps = None
+run_of topology folder (Some workers) (Some replicas) keeps =
+    Some (Run topology folder workers replicas keeps)
+
+-- `node`, if its two numbers are such
+abbrev pub node_of : List ℕ → List ℕ → Option ℕ → Option ℕ → List ℕ → Bool → Option CommandValue
+node_of topology folder None replica addresses keeps = None
+node_of topology folder (Some partition) None addresses keeps = None
+node_of topology folder (Some partition) (Some replica) addresses keeps =
+    Some (Node topology folder partition replica addresses keeps)
 
 -- `run TOPO DIR WORKERS REPLICAS`
 abbrev pub of_five : List ℕ → List ℕ → List ℕ → List ℕ → List ℕ → Option CommandValue
 of_five word topology folder workers replicas =
     if bytes_eq word (codes "run") then
     run_of topology folder (asked_number 1 MAX_WORKERS workers)
-    (asked_number 1 MAX_REPLICAS replicas)
+    (asked_number 1 MAX_REPLICAS replicas) false
     else None
 
--- `node`, if its two numbers are such
-abbrev pub node_of : List ℕ → List ℕ → Option ℕ → Option ℕ → List ℕ → Option CommandValue
-node_of topology folder None replica addresses = None
-node_of topology folder (Some partition) None addresses = None
-node_of topology folder (Some partition) (Some replica) addresses =
-    Some (Node topology folder partition replica addresses)
-
--- `node TOPO DIR PARTITION REPLICA ADDRESSES`
+-- `run TOPO DIR WORKERS REPLICAS keep` and `node TOPO DIR PARTITION REPLICA ADDRESSES`
 abbrev pub of_six : List ℕ → List ℕ → List ℕ → List ℕ → List ℕ → List ℕ → Option CommandValue
-of_six word topology folder partition replica addresses =
-    if bytes_eq word (codes "node") then
+of_six word topology folder third fourth last =
+    if bytes_eq word (codes "run") && bytes_eq last (codes "keep") then
+    run_of topology folder (asked_number 1 MAX_WORKERS third) (asked_number 1 MAX_REPLICAS fourth)
+    true
+    else
+    (if bytes_eq word (codes "node") then
+    node_of topology folder (asked_number 0 MAX_PARTITION third)
+    (asked_number 0 MAX_REPLICA fourth) last false
+    else None)
+
+-- `node TOPO DIR PARTITION REPLICA ADDRESSES keep`
+abbrev pub of_seven : List ℕ → List ℕ → List ℕ → List ℕ → List ℕ → List ℕ → List ℕ
+    → Option CommandValue
+of_seven word topology folder partition replica addresses last =
+    if bytes_eq word (codes "node") && bytes_eq last (codes "keep") then
     node_of topology folder (asked_number 0 MAX_PARTITION partition)
-    (asked_number 0 MAX_REPLICA replica) addresses
+    (asked_number 0 MAX_REPLICA replica) addresses true
     else None
 
--- words of two to six; no words are `onehex -`
+-- `certify`, if its number is such and there is a folder
+abbrev pub certify_of : List ℕ → Option ℕ → List (List ℕ) → Option CommandValue
+certify_of topology workers [] = None
+certify_of topology workers (folder ∷ folders) =
+    option_map (λ n. Certify topology n (folder ∷ folders)) workers
+
+-- words of two to seven; no words are `onehex -`
 abbrev pub of_number : List (List ℕ) → Option CommandValue
 of_number [] = trace_from (codes "-") None (Some (Hexadecimal, Both))
 of_number (word ∷ []) = None
@@ -197,10 +224,20 @@ of_number (word ∷ topology ∷ folder ∷ workers ∷ replicas ∷ []) =
     of_five word topology folder workers replicas
 of_number (word ∷ topology ∷ folder ∷ partition ∷ replica ∷ addresses ∷ []) =
     of_six word topology folder partition replica addresses
-of_number (word ∷ topology ∷ folder ∷ partition ∷ replica ∷ addresses ∷ more ∷ rest) = None
+of_number (word ∷ topology ∷ folder ∷ partition ∷ replica ∷ addresses ∷ last ∷ []) =
+    of_seven word topology folder partition replica addresses last
+of_number (word ∷ topology ∷ folder ∷ partition ∷ replica ∷ addresses ∷ last ∷ more ∷ rest) = None
 
--- `all TOPO DIR` and `verify TOPO DIR`, with or without names behind them, and else words of a
--- number
+-- `certify TOPO WORKERS` with folders behind it; of other words what else they are
+abbrev pub certify_or : List (List ℕ) → Option CommandValue → Option CommandValue
+certify_or (word ∷ topology ∷ workers ∷ folders) other =
+    if bytes_eq word (codes "certify") then
+    certify_of topology (asked_number 1 MAX_WORKERS workers) folders
+    else other
+certify_or words other = other
+
+-- `all TOPO DIR` and `verify TOPO DIR`, with or without names behind them; of other words what else
+-- they are
 abbrev pub files_or : List (List ℕ) → Option CommandValue → Option CommandValue
 files_or (word ∷ topology ∷ folder ∷ ifaces) other =
     if bytes_eq word (codes "all") then Some (All topology folder ifaces)
@@ -208,4 +245,4 @@ files_or (word ∷ topology ∷ folder ∷ ifaces) other =
 files_or words other = other
 
 abbrev pub command_of : List (List ℕ) → Option CommandValue
-command_of words = files_or words (of_number words)
+command_of words = files_or words (certify_or words (of_number words))

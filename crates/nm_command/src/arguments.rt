@@ -69,6 +69,8 @@ pub struct RunArguments<'a> {
     pub workers: u8,
     /// How many replicas each partition has: 1 or 2.
     pub replicas: u8,
+    /// Whether the files of what the first replica of each partition knows are made too.
+    pub keeps: bool,
 }
 
 /// What the words of `node` name.
@@ -84,4 +86,17 @@ pub struct NodeArguments<'a> {
     pub replica: u8,
     /// The input with the addresses of the replicas.
     pub addresses: &'a str,
+    /// Whether the file of what it knows is made too.
+    pub keeps: bool,
+}
+
+/// What the words of `certify` name.
+#[derive(Clone, Copy)]
+pub struct CertifyArguments<'a> {
+    /// The input with the topology text.
+    pub topology: &'a str,
+    /// How many partitions are worked on at a time: 1 to 64.
+    pub workers: u8,
+    /// The folders with the files, one at least.
+    pub folders: &'a [String],
 }

@@ -3,16 +3,17 @@
 ghost use Rattle.std.specs.Prelude.{◌≡◌, ℕ, ◌≤◌, map, IfSome, Some, decimal, option_map};
 ghost use Rattle.std.specs.Prelude.{string_bytes};
 ghost use Rattle.nm_command.specs.Command.{AsksWithinLimits, asked_number, command_of};
-ghost use Rattle.nm_command.specs.Command.{command_value, form_of, of_five, of_four, of_number};
-ghost use Rattle.nm_command.specs.Command.{of_six, of_three, of_two, shown_of};
+ghost use Rattle.nm_command.specs.Command.{certify_of, certify_or, command_value, form_of, node_of};
+ghost use Rattle.nm_command.specs.Command.{of_four};
+ghost use Rattle.nm_command.specs.Command.{of_number, of_six, of_three, of_two, run_of, shown_of};
 ghost use Rattle.nm_command.specs.Command.{series_of, timed_of, trace_from};
 ghost use Rattle.nm_base.specs.declared.limits.TheConstants.{MAX_PARTITION, MAX_REPLICA};
 ghost use Rattle.nm_base.specs.declared.limits.TheConstants.{MAX_REPLICAS, MAX_SOURCE, MAX_TIME};
 ghost use Rattle.nm_base.specs.declared.limits.TheConstants.{MAX_WORKERS};
 
 use crate::arguments::{
-    AllArguments, NodeArguments, PacketsArguments, PathArguments, RunArguments, SeriesArguments,
-    TraceArguments,
+    AllArguments, CertifyArguments, NodeArguments, PacketsArguments, PathArguments, RunArguments,
+    SeriesArguments, TraceArguments,
 };
 use crate::view::{Subject, View};
 use crate::ways::Ways;
@@ -21,6 +22,9 @@ use nm_base::limits::{
 };
 use nm_base::{PartNo, SourceNo, number_of};
 use nm_pcap::Form;
+
+/// The further word of `run` and `node` which has the files of what is known made.
+const KEEP: &str = "keep";
 
 /// What the program is to do. Each input is named by the file that has it, or by `-`, which is
 /// standard input. A clause sees the names as octets.
@@ -75,6 +79,9 @@ pub enum Command<'a> {
     Run(RunArguments<'a>),
     /// To run one replica of a partition, which talks with the others over sockets.
     Node(NodeArguments<'a>),
+    /// To certify what replicas knew, by the files that they left, and to see whether the trace
+    /// files beside those have their traces.
+    Certify(CertifyArguments<'a>),
 }
 
 /// The form of a trace file that a first word asks for, and which ways its packets go.
@@ -248,21 +255,19 @@ fn of_four<'a>(
     }
 }
 
-/// The command of five words: `run`, where its two numbers are such.
-fn of_five<'a>(
-    word: &'a str,
+/// The command `run`, where its two numbers are such.
+fn run_of<'a>(
     topology: &'a str,
     folder: &'a str,
     workers: &str,
     replicas: &str,
+    keeps: bool,
 ) -> Option<Command<'a>>
-    ensures value { option_map command_value result
-        ≡ of_five word.now topology.now folder.now workers.now replicas.now }
+    ensures value { option_map command_value result ≡ run_of topology.now folder.now
+        (asked_number 1 MAX_WORKERS workers.now) (asked_number 1 MAX_REPLICAS replicas.now)
+        keeps }
     ensures limits { IfSome result AsksWithinLimits }
 {
-    if word != "run" {
-        return None;
-    }
     let workers = asked_number(workers, 1, MAX_WORKERS)?;
     let replicas = asked_number(replicas, 1, MAX_REPLICAS as u64)?;
     Some(Command::Run(RunArguments {
@@ -270,25 +275,24 @@ fn of_five<'a>(
         folder,
         workers: workers as u8,
         replicas: replicas as u8,
+        keeps,
     }))
 }
 
-/// The command of six words: `node`, where its two numbers are such.
-fn of_six<'a>(
-    word: &'a str,
+/// The command `node`, where its two numbers are such.
+fn node_of<'a>(
     topology: &'a str,
     folder: &'a str,
-    partition: &'a str,
-    replica: &'a str,
+    partition: &str,
+    replica: &str,
     addresses: &'a str,
+    keeps: bool,
 ) -> Option<Command<'a>>
-    ensures value { option_map command_value result
-        ≡ of_six word.now topology.now folder.now partition.now replica.now addresses.now }
+    ensures value { option_map command_value result ≡ node_of topology.now folder.now
+        (asked_number 0 MAX_PARTITION partition.now) (asked_number 0 MAX_REPLICA replica.now)
+        addresses.now keeps }
     ensures limits { IfSome result AsksWithinLimits }
 {
-    if word != "node" {
-        return None;
-    }
     let partition = asked_number(partition, 0, MAX_PARTITION)?;
     let replica = asked_number(replica, 0, MAX_REPLICA)?;
     Some(Command::Node(NodeArguments {
@@ -297,10 +301,49 @@ fn of_six<'a>(
         partition: PartNo::new(partition as u32),
         replica: replica as u8,
         addresses,
+        keeps,
     }))
 }
 
-/// The command of words that are neither `all` nor `verify` with a topology and a folder.
+/// The command of six words: `node`, or `run` with its further word.
+fn of_six<'a>(
+    word: &'a str,
+    topology: &'a str,
+    folder: &'a str,
+    third: &'a str,
+    fourth: &'a str,
+    last: &'a str,
+) -> Option<Command<'a>>
+    ensures value { option_map command_value result
+        ≡ of_six word.now topology.now folder.now third.now fourth.now last.now }
+    ensures limits { IfSome result AsksWithinLimits }
+{
+    match word {
+        "run" if last == KEEP => run_of(topology, folder, third, fourth, true),
+        "node" => node_of(topology, folder, third, fourth, last, false),
+        _ => None,
+    }
+}
+
+/// The command `certify`, where its number is such, and there is a folder.
+fn certify_of<'a>(topology: &'a str, workers: &str, folders: &'a [String]) -> Option<Command<'a>>
+    ensures value { option_map command_value result ≡ certify_of topology.now
+        (asked_number 1 MAX_WORKERS workers.now) (map (λ f. string_bytes f) folders.now) }
+    ensures limits { IfSome result AsksWithinLimits }
+{
+    if folders.is_empty() {
+        return None;
+    }
+    let workers = asked_number(workers, 1, MAX_WORKERS)?;
+    Some(Command::Certify(CertifyArguments {
+        topology,
+        workers: workers as u8,
+        folders,
+    }))
+}
+
+/// The command of words that are neither `all` nor `verify` with a topology and a folder, nor
+/// `certify`.
 fn of_number<'a>(words: &'a [String]) -> Option<Command<'a>>
     ensures value { option_map command_value result
         ≡ of_number (map (λ w. string_bytes w) words.now) }
@@ -321,22 +364,49 @@ fn of_number<'a>(words: &'a [String]) -> Option<Command<'a>>
             node.as_str(),
             address.as_str(),
         ),
-        [word, topology, folder, workers, replicas] => of_five(
-            word.as_str(),
+        [word, topology, folder, workers, replicas] if word.as_str() == "run" => run_of(
             topology.as_str(),
             folder.as_str(),
             workers.as_str(),
             replicas.as_str(),
+            false,
         ),
-        [word, topology, folder, partition, replica, addresses] => of_six(
+        [word, topology, folder, third, fourth, last] => of_six(
             word.as_str(),
             topology.as_str(),
             folder.as_str(),
-            partition.as_str(),
-            replica.as_str(),
-            addresses.as_str(),
+            third.as_str(),
+            fourth.as_str(),
+            last.as_str(),
         ),
+        [word, topology, folder, partition, replica, addresses, last]
+            if word.as_str() == "node" && last.as_str() == KEEP => {
+            node_of(
+                topology.as_str(),
+                folder.as_str(),
+                partition.as_str(),
+                replica.as_str(),
+                addresses.as_str(),
+                true,
+            )
+        }
         _ => None,
+    }
+}
+
+/// The command `certify`, or else the one of words of a number.
+fn certify_or<'a>(words: &'a [String]) -> Option<Command<'a>>
+    ensures value { option_map command_value result
+        ≡ certify_or (map (λ w. string_bytes w) words.now)
+        (of_number (map (λ w. string_bytes w) words.now)) }
+    ensures limits { IfSome result AsksWithinLimits }
+{
+    match words {
+        [word, topology, workers, folders @ ..] => match word.as_str() {
+            "certify" => certify_of(topology.as_str(), workers.as_str(), folders),
+            _ => of_number(words),
+        },
+        _ => of_number(words),
     }
 }
 
@@ -346,9 +416,10 @@ impl<'a> Command<'a> {
     /// `verify TOPO DIR` with or without names of interfaces behind it, `rounds TOPO MAX`, `script
     /// TOPO STEPS`, `check TOPO`, `report TOPO`, `report TOPO csv` or `report TOPO delays`, `dot
     /// TOPO` or `dot TOPO load`, `text TOPO IFACE`, `series TOPO STEP` or `series TOPO STEP flows`,
-    /// `packets TOPO SOURCE`, `path TOPO NODE ADDRESS`, `run TOPO DIR WORKERS REPLICAS`, or `node
-    /// TOPO DIR PARTITION REPLICA ADDRESSES`. No words are `onehex -`. `None` where the words are
-    /// no command.
+    /// `packets TOPO SOURCE`, `path TOPO NODE ADDRESS`, `run TOPO DIR WORKERS REPLICAS` or `node
+    /// TOPO DIR PARTITION REPLICA ADDRESSES` with or without `keep` behind it, or `certify TOPO
+    /// WORKERS` with one folder or more behind it. No words are `onehex -`. `None` where the words
+    /// are no command.
     pub fn of(words: &'a [String]) -> Option<Command<'a>>
         ensures value { option_map command_value result
             ≡ command_of (map (λ w. string_bytes w) words.now) }
@@ -366,9 +437,9 @@ impl<'a> Command<'a> {
                     folder: folder.as_str(),
                     ifaces,
                 })),
-                _ => of_number(words),
+                _ => certify_or(words),
             },
-            _ => of_number(words),
+            _ => certify_or(words),
         }
     }
 }

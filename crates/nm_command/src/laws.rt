@@ -2,12 +2,12 @@
 //! statement.
 
 ghost use Rattle.std.specs.Prelude.{◌≡◌, ℕ, ◌^◌, List, [], ◌∷◌, ◌++◌, codes, decimal, Some};
-ghost use Rattle.std.specs.Prelude.{None, option_map};
+ghost use Rattle.std.specs.Prelude.{Bool, None, false, option_map, true};
 ghost use Rattle.arrayvec.specs.ArrayString.{ArrayString};
 ghost use Rattle.nm_topology.specs.declared.fault.Refusal.TheVariants.{Hex};
 ghost use Rattle.nm_pcap.specs.declared.form.Form.TheVariants.{Octets, Hexadecimal};
-ghost use Rattle.nm_command.specs.Command.{All, Check, Node, Packets, Path, Rounds, Run, Script};
-ghost use Rattle.nm_command.specs.Command.{Series, Show, Text, Trace, Verify, asked_number};
+ghost use Rattle.nm_command.specs.Command.{All, Certify, Check, Node, Packets, Path, Rounds, Run};
+ghost use Rattle.nm_command.specs.Command.{Script, Series, Show, Text, Trace, Verify, asked_number};
 ghost use Rattle.nm_command.specs.Command.{command_of};
 ghost use Rattle.nm_command.specs.Command.{node_of, run_of};
 ghost use Rattle.nm_command.specs.Status.{code_of, line_of};
@@ -29,7 +29,8 @@ pub fn words_of_the_program()
         ≡ Some (Trace Octets Received t (Some i))) }
     ensures files { (t d : List ℕ) (names : List (List ℕ))
         → (command_of (codes "all" ∷ t ∷ d ∷ names) ≡ Some (All t d names))
-        × (command_of (codes "verify" ∷ t ∷ d ∷ names) ≡ Some (Verify t d names)) }
+        × (command_of (codes "verify" ∷ t ∷ d ∷ names) ≡ Some (Verify t d names))
+        × (command_of (codes "certify" ∷ t ∷ d ∷ []) ≡ None) }
     ensures script { (t s : List ℕ)
         → command_of (codes "script" ∷ t ∷ s ∷ []) ≡ Some (Script t s) }
     ensures looks { (t i a : List ℕ) → (command_of (codes "check" ∷ t ∷ []) ≡ Some (Check t))
@@ -58,11 +59,20 @@ pub fn numbers_of_words()
     ensures packets { (t n : List ℕ) → command_of (codes "packets" ∷ t ∷ n ∷ [])
         ≡ option_map (λ n. Packets t n) (asked_number 0 1_023 n) }
     ensures run { (t d w r : List ℕ) → command_of (codes "run" ∷ t ∷ d ∷ w ∷ r ∷ [])
-        ≡ run_of t d (asked_number 1 64 w) (asked_number 1 2 r) }
+        ≡ run_of t d (asked_number 1 64 w) (asked_number 1 2 r) false }
     ensures node { (t d p r a : List ℕ) → command_of (codes "node" ∷ t ∷ d ∷ p ∷ r ∷ a ∷ [])
-        ≡ node_of t d (asked_number 0 63 p) (asked_number 0 1 r) a }
-    ensures both { (t d a : List ℕ) → (run_of t d (Some 3) (Some 2) ≡ Some (Run t d 3 2))
-        × (node_of t d (Some 3) (Some 1) a ≡ Some (Node t d 3 1 a)) }
+        ≡ node_of t d (asked_number 0 63 p) (asked_number 0 1 r) a false }
+    ensures keep { (t d n r a : List ℕ)
+        → (command_of (codes "run" ∷ t ∷ d ∷ n ∷ r ∷ codes "keep" ∷ [])
+        ≡ run_of t d (asked_number 1 64 n) (asked_number 1 2 r) true)
+        × (command_of (codes "node" ∷ t ∷ d ∷ n ∷ r ∷ a ∷ codes "keep" ∷ [])
+        ≡ node_of t d (asked_number 0 63 n) (asked_number 0 1 r) a true) }
+    ensures both { (t d a : List ℕ) (keeps : Bool)
+        → (run_of t d (Some 3) (Some 2) keeps ≡ Some (Run t d 3 2 keeps))
+        × (node_of t d (Some 3) (Some 1) a keeps ≡ Some (Node t d 3 1 a keeps)) }
+    ensures certify { (t w d : List ℕ) (more : List (List ℕ))
+        → command_of (codes "certify" ∷ t ∷ w ∷ d ∷ more)
+        ≡ option_map (λ n. Certify t n (d ∷ more)) (asked_number 1 64 w) }
 {}
 
 /// The exit status and the line of each ending.

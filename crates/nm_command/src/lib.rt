@@ -9,8 +9,8 @@ pub mod view;
 pub mod ways;
 
 pub use arguments::{
-    AllArguments, NodeArguments, PacketsArguments, PathArguments, RunArguments, SeriesArguments,
-    TraceArguments,
+    AllArguments, CertifyArguments, NodeArguments, PacketsArguments, PathArguments, RunArguments,
+    SeriesArguments, TraceArguments,
 };
 pub use command::Command;
 pub use nm_pcap::Form;

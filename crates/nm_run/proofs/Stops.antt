@@ -9,6 +9,7 @@ use Rattle.nm_run.specs.declared.stop.Stop.TheVariants as stop
 
 reason : (t : TopologyValue) (replicas : ℕ) (s : Stop) → HasReason t replicas (run_fault s)
 reason t replicas (stop.File iface written) = tt
+reason t replicas stop.Known = tt
 reason t replicas stop.Net = tt
 reason t replicas stop.Memory = tt
 reason t replicas (stop.Stalled polls) = tt

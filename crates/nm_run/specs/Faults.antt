@@ -13,6 +13,7 @@ use Rattle.nm_run.specs.declared.stop.Stop.TheVariants as stop
 -- what a run is told that did not come to its end
 abbrev pub run_fault : Stop → Fault RunCause
 run_fault (stop.File iface written) = Refused (cause.File iface written)
+run_fault stop.Known = Refused cause.Known
 run_fault stop.Net = Refused cause.Net
 run_fault stop.Memory = Memory
 run_fault (stop.Stalled polls) = Refused (cause.Stalled polls)
@@ -22,6 +23,7 @@ run_fault stop.Broken = Refused cause.Broken
 abbrev pub HasReason : TopologyValue → ℕ → Fault RunCause → Type 0
 HasReason t replicas Memory = Unit {0}
 HasReason t replicas (Refused (cause.File iface written)) = Unit {0}
+HasReason t replicas (Refused cause.Known) = Unit {0}
 HasReason t replicas (Refused cause.Net) = Unit {0}
 HasReason t replicas (Refused (cause.NotCertified fault)) = IsNotCertified t replicas fault
 HasReason t replicas (Refused (cause.Stalled polls)) = Unit {0}
@@ -36,7 +38,7 @@ files_stop (Refused fault) = stop.File fault.iface fault.written
 abbrev pub StopsFor : (Fault FileFault → Type 0) → Stop → Type 0
 StopsFor Is s = (fault : Fault FileFault) × Is fault × (s ≡ files_stop fault)
 
--- it may be that a trace file did not get its name: those before it have theirs then
+-- it may be that a file did not get its name: those before it have theirs then
 abbrev pub IsOfFiles : Fault RunCause → Type 0
-IsOfFiles fault =
-    ((iface written : ℕ) × (fault ≡ Refused (cause.File iface written))) ⊎ (fault ≡ Memory)
+IsOfFiles fault = ((iface written : ℕ) × (fault ≡ Refused (cause.File iface written)))
+    ⊎ (fault ≡ Refused cause.Known) ⊎ (fault ≡ Memory)

@@ -1,5 +1,6 @@
 -- The trace files of a run: one of each interface.
-use Rattle.std.specs.Prelude.{◌≡◌, ◌⊎◌, ℕ, zero, suc, ◌==◌, true, List, [], length, map, slice_get, Option, Some, is_some}
+use Rattle.std.specs.Prelude.{◌≡◌, ◌⊎◌, ℕ, zero, suc, ◌==◌, Bool, true, if◌then◌else◌, List, [], ◌∷◌, ◌++◌, length, map, slice_get, Option, Some, is_some}
+use Rattle.std.specs.List.{flat_map}
 use Rattle.nm_base.specs.Count.{saturated}
 use Rattle.nm_base.specs.Sink.{SinkSeen}
 use Rattle.nm_model.specs.Partition.{receiver_of}
@@ -10,7 +11,10 @@ use Rattle.nm_files.specs.Folder.{chosen_files}
 use Rattle.nm_files.specs.Outputs.{AreWhole, Files, HasMade, HasMadeSome}
 use Rattle.nm_files.specs.declared.closed_files.ClosedFile.{ClosedFile}
 use Rattle.nm_sim.specs.Network.{net_of}
-use Rattle.nm_run.specs.Report.{IsCertifiedRun}
+use Rattle.nm_book.specs.Book.{BookValue}
+use Rattle.nm_rounds.specs.Certify.{AreCertified}
+use Rattle.nm_known.specs.Keeping.{known_file}
+use Rattle.nm_run.specs.Report.{AreOfRun, IsCertifiedRun}
 use Rattle.nm_run.specs.declared.report.IfaceTotals.{IfaceTotals}
 
 -- the first n interfaces have open files, those of this partition, and the others have none
@@ -52,25 +56,55 @@ AreClosed closed made folder t totals all =
     (octets : ℕ → List ℕ) × AreSoMany totals octets
     × AreWhole made (map (λ c. closed c.file) all) (run_files folder t octets)
 
--- behind the files that were placed before came one of each interface, where it is told which files
--- were placed
-abbrev pub HaveFiles : (before after : Option Files) → (folder : List ℕ) → TopologyValue
+-- What a run is to leave: in which folder, how many replicas each partition has, and whether files
+-- of what the first of each knows are made too.
+pub record Leaving : Type 0 where
+  pub folder : List ℕ
+  pub replicas : ℕ
+  pub keeps : Bool
+
+-- these: one of each first replica
+abbrev pub kept_file : (folder : List ℕ) → BookValue → Files
+kept_file folder b = if b.replica == 0 then known_file folder b ∷ [] else []
+
+abbrev pub kept_files : Leaving → List BookValue → Files
+kept_files run books = if run.keeps then flat_map (kept_file run.folder) books else []
+
+-- such files were closed, of books that are certified
+abbrev pub AreKept : {C : Type 0} → (C → Option (List ℕ × List ℕ)) → Option Files → Leaving
+    → TopologyValue → List C → Type 0
+AreKept closed made run t all =
+    (books : List BookValue) × (AreOfRun t run.replicas books × AreCertified t books)
+    × AreWhole made (map closed all) (kept_files run books)
+
+-- The files of a certified run: of each interface one with as many octets as these totals say, and
+-- behind them those of what is known.
+pub record AreRunFiles (run : Leaving) (t : TopologyValue) (totals : List IfaceTotals)
+    (files : Files) : Type 0 where
+  pub octets : ℕ → List ℕ
+  pub many : AreSoMany totals octets
+  pub books : List BookValue
+  pub of_run : AreOfRun t run.replicas books
+  pub certified : AreCertified t books
+  pub are : files ≡ run_files run.folder t octets ++ kept_files run books
+
+-- behind the files that were placed before came all of these, where it is told which files were
+-- placed
+abbrev pub HaveFiles : (before after : Option Files) → Leaving → TopologyValue
     → List IfaceTotals → Type 0
-HaveFiles before after folder t totals =
-    (octets : ℕ → List ℕ) × AreSoMany totals octets
-    × HasMade before after (run_files folder t octets)
+HaveFiles before after run t totals =
+    (files : Files) × AreRunFiles run t totals files × HasMade before after files
 
 -- or only the first of them
-abbrev pub HaveSomeFiles : (before after : Option Files) → (folder : List ℕ) → TopologyValue
+abbrev pub HaveSomeFiles : (before after : Option Files) → Leaving → TopologyValue
     → List IfaceTotals → Type 0
-HaveSomeFiles before after folder t totals =
-    (octets : ℕ → List ℕ) × AreSoMany totals octets
-    × HasMadeSome before after (run_files folder t octets)
+HaveSomeFiles before after run t totals =
+    (files : Files) × AreRunFiles run t totals files × HasMadeSome before after files
 
 -- However a run ends, a file got its name only where the run is certified: behind the files that
 -- were placed before come the first of those that these totals say, where it is told which they are.
-abbrev pub AreNamed : (before after : Option Files) → (folder : List ℕ) → TopologyValue → Type 0
-AreNamed before after folder t =
+abbrev pub AreNamed : (before after : Option Files) → Leaving → TopologyValue → Type 0
+AreNamed before after run t =
     (after ≡ before)
     ⊎ ((totals : List IfaceTotals) × IsCertifiedRun t totals
-    × HaveSomeFiles before after folder t totals)
+    × HaveSomeFiles before after run t totals)

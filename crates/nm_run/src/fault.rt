@@ -8,8 +8,8 @@ use nm_base::{Fault, IfaceNo};
 use nm_rounds::certify::CertFault;
 use thiserror::Error;
 
-/// Why a run has no report. No trace file has its name then, but where one was refused its name
-/// those before it have. Each part that is left has a prefix of what its replica handed out, and
+/// Why a run has no report. No file has its name then, but where one was refused its name those
+/// before it have. Each part that is left has a prefix of what its replica handed out, and
 /// nothing is claimed of it.
 #[derive(Clone, Copy, Debug, PartialEq, Eq, Error)]
 pub enum RunCause {
@@ -17,6 +17,9 @@ pub enum RunCause {
     /// had so many at its end where the certified books have another number. It stops at 2^64 - 1.
     #[error("a trace file failed after {written} octets")]
     File { iface: IfaceNo, written: u64 },
+    /// The file of what a replica knows could not be made, written whole or given its name.
+    #[error("a file of what a replica knows failed")]
+    Known,
     /// No replica can listen or wait, one was told what cannot be, or the gate said so.
     #[error("the network failed")]
     Net,
@@ -41,6 +44,7 @@ impl From<Stop> for RunFault {
     fn from(stop: Stop) -> Self {
         match stop {
             Stop::File { iface, written } => RunFault::Refused(RunCause::File { iface, written }),
+            Stop::Known => RunFault::Refused(RunCause::Known),
             Stop::Net => RunFault::Refused(RunCause::Net),
             Stop::Memory => RunFault::Memory,
             Stop::Stalled { polls } => RunFault::Refused(RunCause::Stalled { polls }),

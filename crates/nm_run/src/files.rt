@@ -15,31 +15,14 @@ ghost use Rattle.nm_run.specs.Files.{AreAsMany, AreClosed, AreOwnFiles, HoldsSom
 use crate::report::IfaceTotals;
 use crate::run::RunPlan;
 use crate::stop::Stop;
-use nm_base::{IfaceNo, PartNo, Sink};
+use nm_base::{IfaceNo, Sink};
 use nm_book::channels::partition_of;
 use nm_files::{Choice, ClosedFiles, Folder, Outputs, TraceFiles, place_all};
 use nm_frames::ReplicaName;
+use nm_known::OfPartition;
 use nm_pcap::PcapOut;
 use nm_topology::Topology;
 use std::alloc::Global;
-
-/// The interfaces of a partition.
-#[derive(Clone, Copy)]
-pub struct OfPartition {
-    pub partition: PartNo,
-}
-
-impl Choice for OfPartition {
-    ghost use Rattle.std.specs.Prelude.{◌==◌};
-    ghost use Rattle.nm_model.specs.Partition.{receiver_of};
-    ghost use Rattle.nm_sim.specs.Network.{net_of};
-
-    ghost chooses = { λ c t n iface. receiver_of (net_of t) n == c.partition };
-
-    fn chooses(&self, topology: &Topology, iface: IfaceNo) -> bool {
-        partition_of(topology, iface) == self.partition
-    }
-}
 
 /// All interfaces.
 #[derive(Clone, Copy)]

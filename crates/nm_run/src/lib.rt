@@ -9,6 +9,7 @@ pub mod fault;
 mod files;
 mod gates;
 mod jobs;
+mod keeping;
 mod posts;
 pub mod report;
 pub mod run;
@@ -19,7 +20,6 @@ pub mod stop;
 mod threads;
 
 pub use fault::{RunCause, RunFault};
-pub use files::OfPartition;
 pub use report::{IfaceTotals, Report};
 pub use run::{RunPlan, run_all};
 pub use runtime::Runtime;

@@ -1,12 +1,14 @@
 //! A run of all partitions.
 
-ghost use Rattle.std.specs.Prelude.{◌≡◌, ◌⊎◌, ◌≤◌, All, IfErr, IfOk, map};
+ghost use Rattle.std.specs.Prelude.{◌≡◌, ◌⊎◌, ◌≤◌, All, IfErr, IfOk, OnOk, map};
 ghost use Rattle.std.specs.Arc.{arc_value};
 ghost use Rattle.nm_files.specs.Files.{AreCounted};
 ghost use Rattle.nm_run.specs.Faults.{HasReason, IsOfFiles};
 ghost use Rattle.nm_replica.specs.Seats.{board_of};
 ghost use Rattle.nm_peers.specs.Peers.{ArePeers};
-ghost use Rattle.nm_run.specs.Files.{AreClosed, AreNamed, AreOwnFiles, HaveFiles};
+ghost use Rattle.nm_rounds.specs.Certify.{AreCertified};
+ghost use Rattle.nm_run.specs.Files.{AreClosed, AreKept, AreNamed, AreOwnFiles, HaveFiles};
+ghost use Rattle.nm_run.specs.Leaving.{leaving};
 ghost use Rattle.nm_run.specs.Replicas.{AreAllReplicas};
 ghost use Rattle.nm_shared.specs.Board.{AreFirstOwners};
 ghost use Rattle.nm_run.specs.Report.{AreOfRun, IsCertifiedRun};
@@ -17,6 +19,7 @@ use crate::endings::check_endings;
 use crate::fault::RunFault;
 use crate::files::{close_all, files_of, place_files};
 use crate::jobs::Watched;
+use crate::keeping::{keep_books, place_known};
 use crate::posts::{Post, Posts, open_posts, woken_poll};
 use crate::report::{Report, report_of};
 use crate::runtime::Runtime;
@@ -50,6 +53,8 @@ pub struct RunPlan<'a> {
     pub workers: usize,
     /// How many replicas each partition has: 1 or 2.
     pub replicas: u8,
+    /// Whether files of what the first replica of each partition knows are made too.
+    pub keeps: bool,
     /// Where it is noted how far all are.
     pub progress: &'a Progress,
 }
@@ -273,7 +278,15 @@ where
     Ok((ends, passes))
 }
 
-/// Runs all partitions, and closes their trace files once all books are certified.
+/// What a certified run leaves, whose files do not have their names yet.
+#[derive(Drop)]
+struct Certified<C> {
+    report: Report,
+    traces: ClosedFiles<C>,
+    known: Vec<C>,
+}
+
+/// Runs all partitions, and closes their files once all books are certified.
 #[tactic(auto, using(crate::proofs::Stops::stops_have_reason))]
 fn run_certified<'x, F: Outputs, G: Gate + Sync, R>(
     rt: &R,
@@ -281,16 +294,18 @@ fn run_certified<'x, F: Outputs, G: Gate + Sync, R>(
     plan: &'x RunPlan<'x>,
     outputs: &mut F,
     gate: &'x G,
-) -> Result<(Report, ClosedFiles<F::Closed>), RunFault>
+) -> Result<Certified<F::Closed>, RunFault>
 where
     F::File: Send,
     R: Runtime,
     requires { (1 ≤ plan.now.workers) × (plan.now.workers ≤ 64) }
     ensures certified { IfOk result (λ run. IsCertifiedRun (arc_value plan.now.topology.now)
-        run.0.totals.items) }
+        run.report.totals.items) }
     ensures closed { IfOk result (λ run. AreClosed F.closed (F.made outputs.old)
-        plan.now.folder.now (arc_value plan.now.topology.now) run.0.totals.items
-        run.1.files.items) }
+        plan.now.folder.now (arc_value plan.now.topology.now) run.report.totals.items
+        run.traces.files.items) }
+    ensures kept { IfOk result (λ run. AreKept F.closed (F.made outputs.old) (leaving plan.now)
+        (arc_value plan.now.topology.now) run.known.items) }
     ensures refused { IfErr result
         (HasReason (arc_value plan.now.topology.now) plan.now.replicas) }
     ensures same { F.made outputs.new ≡ F.made outputs.old }
@@ -299,15 +314,21 @@ where
     let (ends, passes) = run_books(rt, alloc, &*plan, shared.as_slice(), outputs, &*gate)?;
     let (books, files) = close_run(alloc, plan, shared, ends, passes)?;
     let report = certified_report(alloc, plan.topology, plan.replicas, books.as_slice())?;
-    let closed = close_all(alloc, plan, report.totals.as_slice(), outputs, files)?;
-    Ok((report, closed))
+    let traces = close_all(alloc, plan, report.totals.as_slice(), outputs, files)?;
+    let known = keep_books(alloc, plan, books.as_slice(), outputs)?;
+    Ok(Certified {
+        report,
+        traces,
+        known,
+    })
 }
 
 /// Runs all partitions of a network at once: each as one or two replicas in threads of their own,
 /// which speak over TCP on 127.0.0.1, and whose books so many workers run. The traces go to files
 /// of the folder as they are made. When all have ended their books are certified. Then the files,
 /// each of as many octets as its interface has in the trace of the one event list, get their
-/// names, `NAME.pcap`, in the order of the topology's text, and the report has these totals.
+/// names, `NAME.pcap`, in the order of the topology's text, and the report has these totals. Where
+/// the plan asks for them, those of what the first replica of each partition knows come behind.
 ///
 /// # Errors
 ///
@@ -329,18 +350,23 @@ where
     ensures certified { IfOk result (λ report. IsCertifiedRun (arc_value plan.now.topology.now)
         report.totals.items) }
     ensures placed { IfOk result (λ report. HaveFiles (F.made outputs.old) (F.made outputs.new)
-        plan.now.folder.now (arc_value plan.now.topology.now) report.totals.items) }
+        (leaving plan.now) (arc_value plan.now.topology.now) report.totals.items) }
     ensures refused { IfErr result
         (HasReason (arc_value plan.now.topology.now) plan.now.replicas) }
     ensures kept { IfErr result (λ fault. IsOfFiles fault
         ⊎ (F.made outputs.new ≡ F.made outputs.old)) }
 
     // However it ends, no file gets its name before the run is certified.
-    ensures named { AreNamed (F.made outputs.old) (F.made outputs.new) plan.now.folder.now
+    ensures named { AreNamed (F.made outputs.old) (F.made outputs.new) (leaving plan.now)
         (arc_value plan.now.topology.now) }
 {
-    let (report, closed) = run_certified(rt, alloc, &*plan, outputs, &*gate)?;
-    place_files(outputs, closed)?;
+    let Certified {
+        report,
+        traces,
+        known,
+    } = run_certified(rt, alloc, &*plan, outputs, &*gate)?;
+    place_files(outputs, traces)?;
+    place_known(outputs, known)?;
     Ok(report)
 }
 
@@ -353,6 +379,7 @@ fn certified_report(
     books: &[Book],
 ) -> Result<Report, RunFault>
     requires { AreOfRun topology.now replicas books.now }
+    ensures books { OnOk result (AreCertified topology.now books.now) }
     ensures certified { IfOk result
         (λ report. IsCertifiedRun topology.now report.totals.items) }
     ensures refused { IfErr result (HasReason topology.now replicas) }

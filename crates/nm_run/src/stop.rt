@@ -1,10 +1,10 @@
 //! Why a run does not come to its end.
 
-ghost use Rattle.std.specs.Prelude.{◌≡◌};
-ghost use Rattle.nm_run.specs.declared.stop.Stop.TheVariants.{Memory};
+ghost use Rattle.std.specs.Prelude.{◌≡◌, ◌⊎◌};
+ghost use Rattle.nm_run.specs.declared.stop.Stop.TheVariants.{Known, Memory};
 
 use nm_base::IfaceNo;
-use nm_files::{FileFault, FilesFault};
+use nm_files::{FileFault, FilesFault, OutputFault};
 use std::alloc::{AllocError, AllocFailed};
 use std::io::{self, ErrorKind};
 
@@ -13,6 +13,8 @@ use std::io::{self, ErrorKind};
 pub enum Stop {
     /// The trace file of this interface could not be made, or failed when it had so many octets.
     File { iface: IfaceNo, written: u64 },
+    /// The file of what a replica knows could not be made, or given its name.
+    Known,
     /// The network failed.
     Net,
     /// Memory was refused.
@@ -46,6 +48,17 @@ impl From<io::Error> for Stop {
             Stop::Memory
         } else {
             Stop::Net
+        }
+    }
+}
+
+impl From<OutputFault> for Stop {
+    ghost from_gives = { λ _ s. (s ≡ Known) ⊎ (s ≡ Memory) };
+
+    fn from(fault: OutputFault) -> Self {
+        match fault {
+            OutputFault::Failed => Stop::Known,
+            OutputFault::Memory => Stop::Memory,
         }
     }
 }

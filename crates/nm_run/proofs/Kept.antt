@@ -1,0 +1,73 @@
+-- The files of what the replicas of a run know.
+use Rattle.std.proofs.Common.{◌≡◌, ℕ, ◌+◌, ◌<◌, ◌==◌, Bool, true, false, cond, List, [], ◌∷◌, ◌++◌, append-nil, get_or, length, map, take, Option, Some, refl, sym, ◌∙◌, ap, subst, arith}
+use Rattle.std.specs.List.{flat_map}
+use Rattle.std.proofs.lemmas.Grind.{flat_map-append}
+use Rattle.std.proofs.lemmas.List.{take_all, take_more}
+use Rattle.nm_topology.specs.TopologyValue.{TopologyValue}
+use Rattle.nm_book.specs.Book.{BookValue}
+use Rattle.nm_files.specs.Outputs.{AreWhole, Files, HasMade, HasMadeSome}
+use Rattle.nm_files.specs.declared.closed_files.ClosedFile.{ClosedFile}
+use Rattle.nm_files.proofs.Made.{made_more, made_some_more, made_some_of}
+use Rattle.nm_run.specs.Files.{AreClosed, AreKept, AreRunFiles, HaveFiles, HaveSomeFiles, Leaving, kept_file, kept_files, run_files}
+use Rattle.nm_run.specs.declared.report.IfaceTotals.{IfaceTotals}
+
+-- those of some books
+abbrev pub firsts : List ℕ → List BookValue → Files
+firsts folder books = flat_map (kept_file folder) books
+
+pub one_book_more : (folder : List ℕ) (books : List BookValue) (n : ℕ) (book : BookValue) → n < length books → book ≡ get_or books n book → firsts folder (take (n + 1) books) ≡ firsts folder (take n books) ++ kept_file folder book
+one_book_more folder books n book low is =
+    ap (firsts folder) (take_more books n book low ∙ ap (λ x. take n books ++ x ∷ []) (sym is))
+    ∙ flat_map-append (kept_file folder) (take n books) (book ∷ []) ∙ ap (λ l. firsts folder (take n books) ++ l) (append-nil (kept_file folder book))
+
+pub all_books : (run : Leaving) (books : List BookValue) (n : ℕ) (made : Option Files) (closed : List (Option (List ℕ × List ℕ))) → n ≡ length books → run.keeps ≡ true
+    → AreWhole made closed (firsts run.folder (take n books)) → AreWhole made closed (kept_files run books)
+all_books run books n made closed all keeps whole =
+    subst (λ k. AreWhole made closed (cond k (firsts run.folder books) [])) (sym keeps) (subst (λ l. AreWhole made closed (firsts run.folder l)) (take_all n books (omega (arith, all))) whole)
+
+pub no_books : (run : Leaving) (books : List BookValue) (made : Option Files) (closed : List (Option (List ℕ × List ℕ))) → run.keeps ≡ false → closed ≡ [] → AreWhole made closed (kept_files run books)
+no_books run books made closed keeps none = subst (λ k. AreWhole made closed (cond k (firsts run.folder books) [])) (sym keeps) (λ first told. none)
+
+module _ {C : Type 0} (closed : C → Option (List ℕ × List ℕ)) (before mid : Option Files) (run : Leaving) (t : TopologyValue) (totals : List IfaceTotals) (traces : List (ClosedFile C)) (known : List C)
+    (are_closed : AreClosed closed before run.folder t totals traces) (are_kept : AreKept closed before run t known) where
+  first_files : Files
+  first_files = run_files run.folder t are_closed.0
+
+  files : Files
+  files = first_files ++ kept_files run are_kept.0
+
+  are_files : AreRunFiles run t totals files
+  unfolding files first_files
+  are_files = record {
+    octets = are_closed.0;
+    many = are_closed.1;
+    books = are_kept.0;
+    of_run = are_kept.1.0;
+    certified = are_kept.1.1;
+    are = refl;
+  }
+
+  -- all got their names
+  pub all_named : (after : Option Files) → ((fs : Files) → AreWhole before (map (λ c. closed c.file) traces) fs → HasMade before mid fs) → ((fs : Files) → AreWhole mid (map closed known) fs → HasMade mid after fs)
+      → HaveFiles before after run t totals
+  unfolding files first_files
+  all_named after placed then = (
+    files,
+    are_files,
+    λ first told. made_more before mid after first_files (kept_files run are_kept.0) (placed first_files are_closed.2) (then (kept_files run are_kept.0) (λ now is. are_kept.2 first told)) first told,
+  )
+
+  -- the trace files did, and the first of the others
+  pub traces_named : (after : Option Files) → ((fs : Files) → AreWhole before (map (λ c. closed c.file) traces) fs → HasMade before mid fs) → ((fs : Files) → AreWhole mid (map closed known) fs → HasMadeSome mid after fs)
+      → HaveSomeFiles before after run t totals
+  unfolding files first_files
+  traces_named after placed then = (
+    files,
+    are_files,
+    λ first told. made_some_more before mid after first_files (kept_files run are_kept.0) (placed first_files are_closed.2) (then (kept_files run are_kept.0) (λ now is. are_kept.2 first told)) first told,
+  )
+
+  -- the first of the trace files did
+  pub some_named : ((fs : Files) → AreWhole before (map (λ c. closed c.file) traces) fs → HasMadeSome before mid fs) → HaveSomeFiles before mid run t totals
+  unfolding files first_files
+  some_named placed = (files, are_files, made_some_of before mid first_files (kept_files run are_kept.0) (placed first_files are_closed.2))

@@ -1,0 +1,6 @@
+-- What a plan says of the files of its run.
+use Rattle.nm_run.specs.Files.{Leaving}
+use Rattle.nm_run.specs.declared.run.RunPlan.{RunPlan}
+
+abbrev pub leaving : RunPlan → Leaving
+leaving plan = record { folder = plan.folder.now; replicas = plan.replicas; keeps = plan.keeps }
