@@ -1,8 +1,8 @@
 -- The lines of interfaces, one after another, and those after rounds.
-use Rattle.std.proofs.Common.{◌≡◌, ℕ, ltb, true, if◌then◌else◌, OnOk, Result, Ok, Err, Option, None, inl, inr, ◌⊎◌, ◌≤◌, codes, decimal, get_or, ◌+◌, ◌<◌, ◌==◌, take, min, length, List, ◌++◌, Some, slice_get, refl, sym, ◌∙◌, ap, subst, arith}
+use Rattle.std.proofs.Common.{◌≡◌, ℕ, ltb, true, if◌then◌else◌, Ok, Option, None, codes, decimal, ◌+◌, ◌<◌, ◌==◌, take, min, length, List, ◌++◌, Some, slice_get, refl, sym, ◌∙◌, ap, subst, arith}
 use Rattle.std.specs.List.{enumerate_from, flat_map}
 use Rattle.std.proofs.lemmas.List.{append_assoc, take_all}
-use Rattle.std.proofs.lemmas.Option.{slice_get_within, get_or_from_slice_get, slice_get_cases}
+use Rattle.std.proofs.lemmas.Option.{slice_get_within, get_or_from_slice_get}
 use Rattle.nm_base.specs.Count.{saturated}
 use Rattle.nm_base.specs.declared.record.Record.{Record}
 use Rattle.nm_model.specs.Before.{IsBefore, trace}
@@ -20,6 +20,8 @@ use Rattle.nm_sim.specs.Totals.{totals_at, totals_of}
 use Rattle.nm_sim.specs.Trace.{IsTraceBefore}
 use Rattle.nm_book.specs.Book.{BookValue, state_of}
 use Rattle.nm_book.proofs.Incoming.{ifaces_are}
+use Rattle.nm_rounds.specs.Certify.{AreCertified}
+use Rattle.nm_certify.proofs.Certified.{all_at}
 use Rattle.nm_rounds.specs.Rounds.{AreBooks, AreDoneWithin, AreUnfinished}
 use Rattle.nm_base.proofs.Numbered.{numbered_more}
 use Rattle.nm_files.proofs.Folders.{element}
@@ -62,16 +64,32 @@ stops : (t : TopologyValue) → min t.stop t.stop ≡ (net_of t).stop
 unfolding net_of
 stops t = omega arith
 
--- once all are done, each interface has in its partition what it has in the whole network
-pub done_totals : (t : TopologyValue) (max rounds : ℕ) (books : List BookValue) (records : List (Record (List ℕ)))
-    → ((p i last : ℕ) → p ≡ receiver_of (net_of t) i → keep_where (λ r. r.iface == i) (trace (net_of t) p last) ≡ keep_where (λ r. r.iface == i) (one_list (net_of t) last).records)
+-- an interface has in its partition what it has in the whole network
+abbrev pub HaveTheirRecords : TopologyValue → Type 0
+HaveTheirRecords t = (p i last : ℕ) → p ≡ receiver_of (net_of t) i
+    → keep_where (λ r. r.iface == i) (trace (net_of t) p last) ≡ keep_where (λ r. r.iface == i) (one_list (net_of t) last).records
+
+whole_totals : (t : TopologyValue) (i : ℕ) (own records : List (Record (List ℕ))) → HaveTheirRecords t → ((last : ℕ) → IsBefore (net_of t) (net_of t).stop last → own ≡ trace (net_of t) (receiver_of (net_of t) i) last)
+    → IsTraceBefore t t.stop records → totals_of i records ≡ totals_of i own
+whole_totals t i own records law whole trace_is =
+    let last = trace_is.0 in
+    ap (λ own. (saturated (length own), saturated (length (pcap own))))
+    (ap (keep_where (λ r. r.iface == i)) trace_is.2 ∙ sym (law (receiver_of (net_of t) i) i last refl)
+    ∙ ap (keep_where (λ r. r.iface == i)) (sym (whole last (subst (λ n. IsBefore (net_of t) n last) (stops t) trace_is.1))))
+
+-- so it is once all are done
+pub done_totals : (t : TopologyValue) (max rounds : ℕ) (books : List BookValue) (records : List (Record (List ℕ))) → HaveTheirRecords t
     → AreDoneWithin t max rounds books → IsTraceBefore t t.stop records → AreTotals t books (λ i. totals_of i records)
 done_totals t max rounds books records law done trace_is i b there at =
+    whole_totals t i (state_of b).records records law (λ last is. (done.whole (receiver_of (net_of t) i) b at).trace last is) trace_is
+
+-- and in books that are certified
+pub certified_totals : (t : TopologyValue) (books : List BookValue) (records : List (Record (List ℕ))) → HaveTheirRecords t
+    → AreOfPartitions t books → AreCertified t books → IsTraceBefore t t.stop records → AreTotals t books (λ i. totals_of i records)
+certified_totals t books records law are certified trace_is i b there at =
     let p = receiver_of (net_of t) i in
-    let last = trace_is.0 in
-    let whole = (done.whole p b at).trace last (subst (λ n. IsBefore (net_of t) n last) (stops t) trace_is.1) in
-    ap (λ own. (saturated (length own), saturated (length (pcap own))))
-    (ap (keep_where (λ r. r.iface == i)) trace_is.2 ∙ sym (law p i last refl) ∙ ap (keep_where (λ r. r.iface == i)) (sym whole))
+    whole_totals t i (state_of b).records records law
+    (λ last is. all_at (λ b. (state_of b).records ≡ trace (net_of t) b.partition last) books p b (certified.traces last is) at ∙ ap (λ k. trace (net_of t) k last) (are.each p b at).1) trace_is
 
 -- The same books, through references.
 pub are_theirs : (t seen : TopologyValue) (books shown : List BookValue) → seen ≡ t → shown ≡ books → AreOfPartitions t books → AreOfPartitions seen shown
@@ -134,10 +152,6 @@ parts_are t = refl
 pub book_there : (t : TopologyValue) (books : List BookValue) (i : ℕ) → IsParted (net_of t) → AreOfPartitions t books → i < length t.ifaces → receiver_of (net_of t) i < length books
 book_there t books i parted are low =
     let e = ifaces_are t in let h = parted.ifaces i (omega (arith, e, low)) in let p = parts_are t in let c = are.count in omega (arith, h, p, c)
-
-pub on_ok : {T E : Type 0} {A B : Type 0} (r : Result T E) → (A → B) → OnOk r A → OnOk r B
-on_ok (Ok x) f a = f a
-on_ok (Err e) f a = tt
 
 at_low : (t : TopologyValue) (i : ℕ) (records : List (Record (List ℕ))) → i < length t.ifaces → totals_at t records i ≡ totals_of i records
 at_low t i records low = let e : ltb i (length t.ifaces) ≡ true = grind (arith, low) in ap (λ z. if z then totals_of i records else (0, FILE_HEADER_OCTETS)) e

@@ -7,3 +7,5 @@ mod AskedNames
 mod Showings
 mod Stepping
 pub mod Verifying
+pub mod Certifying
+pub mod MemFiles

@@ -157,12 +157,12 @@ same_iface t n one other is at = let e : Some one ≡ Some other = sym is ∙ at
     inner : (x y : IfaceValue) → Some x ≡ Some y → x ≡ y
     inner x y e = cc
 
-pub unlike_header : (t : TopologyValue) (names : List (List ℕ)) (texts : ℕ → Option (List ℕ)) (n : ℕ) (one : IfaceValue) (fault : Fault CheckCause) (iface octet : ℕ) → slice_get t.ifaces n ≡ Some one
-    → is_asked_for names one ≡ true → fault ≡ Refused (Differs iface octet) → IsUnlike texts n [] file_header fault
-    → (iface ≡ n) × ((x : IfaceValue) → slice_get t.ifaces n ≡ Some x → is_asked_for names x ≡ true) × DiffersIn texts n [] file_header octet
-unlike_header t names texts n one fault iface octet there asked is unlike =
+pub unlike_header : (t : TopologyValue) (chosen : IfaceValue → Bool) (texts : ℕ → Option (List ℕ)) (n : ℕ) (one : IfaceValue) (fault : Fault CheckCause) (iface octet : ℕ) → slice_get t.ifaces n ≡ Some one
+    → chosen one ≡ true → fault ≡ Refused (Differs iface octet) → IsUnlike texts n [] file_header fault
+    → (iface ≡ n) × ((x : IfaceValue) → slice_get t.ifaces n ≡ Some x → chosen x ≡ true) × DiffersIn texts n [] file_header octet
+unlike_header t chosen texts n one fault iface octet there asked is unlike =
     let at = subst (IsUnlike texts n [] file_header) is unlike in
-    (at.0, (λ x found. ap (is_asked_for names) (sym (same_iface t n one x there found)) ∙ asked), at.1)
+    (at.0, (λ x found. ap chosen (sym (same_iface t n one x there found)) ∙ asked), at.1)
 
 -- of no files nothing was read
 pub none_read : {B : Type 0} (texts : ℕ → Option (List ℕ)) (left : B → Option (List ℕ)) → HaveRead texts left [] []
@@ -194,24 +194,28 @@ differs_is (Refused (Differs own octet)) place is = ap (λ (q : ℕ × ℕ). Ref
     inner : (x y : ℕ × ℕ) → Some x ≡ Some y → x ≡ y
     inner x y e = cc
 
+-- the interface that is named is the one of the number
+pub differs_named : (ifaces : List IfaceValue) (own octet : ℕ) (s : Status) → own < length ifaces
+    → ((x : IfaceValue) → slice_get ifaces own ≡ Some x → (s ≡ Memory) ⊎ ((name : ArrayString) × (s ≡ status.Differs name octet) × (name.bytes ≡ x.name)))
+    → (s ≡ Memory) ⊎ ((name : ArrayString) × (s ≡ status.Differs name octet) × ((iface : IfaceValue) → slice_get ifaces own ≡ Some iface → name.bytes ≡ iface.name))
+differs_named ifaces own octet s low says = let there = element ifaces own low in pick there.0 there.1 (says there.0 there.1)
+  where
+    inner : (x y : IfaceValue) → Some x ≡ Some y → x ≡ y
+    inner x y e = cc
+
+    pick : (x : IfaceValue) → slice_get ifaces own ≡ Some x → (s ≡ Memory) ⊎ ((name : ArrayString) × (s ≡ status.Differs name octet) × (name.bytes ≡ x.name))
+        → (s ≡ Memory) ⊎ ((name : ArrayString) × (s ≡ status.Differs name octet) × ((iface : IfaceValue) → slice_get ifaces own ≡ Some iface → name.bytes ≡ iface.name))
+    pick x at (inl memory) = inl memory
+    pick x at (inr (name, says_so, called)) = inr (name, says_so, λ iface found. called ∙ ap (λ i. i.name) (inner x iface (sym at ∙ found)))
+
 module _ (before after : InputsSeen) (ifaces : List IfaceValue) where
   pub status_differs : (fault : Fault CheckCause) (place : ℕ × ℕ) (s : Status) → difference fault ≡ Some place → place.0 < length ifaces
       → ((x : IfaceValue) → slice_get ifaces place.0 ≡ Some x → (s ≡ Memory) ⊎ ((name : ArrayString) × (s ≡ status.Differs name place.1) × (name.bytes ≡ x.name))) → IsStatusOf before after ifaces fault s
-  status_differs fault place s is low says =
-      let there = element ifaces place.0 low in
-      subst (λ f. IsStatusOf before after ifaces f s) (sym (differs_is fault place is)) (pick there.0 there.1 (says there.0 there.1))
-    where
-      inner : (x y : IfaceValue) → Some x ≡ Some y → x ≡ y
-      inner x y e = cc
-
-      pick : (x : IfaceValue) → slice_get ifaces place.0 ≡ Some x → (s ≡ Memory) ⊎ ((name : ArrayString) × (s ≡ status.Differs name place.1) × (name.bytes ≡ x.name))
-          → (s ≡ Memory) ⊎ ((name : ArrayString) × (s ≡ status.Differs name place.1) × ((iface : IfaceValue) → slice_get ifaces place.0 ≡ Some iface → name.bytes ≡ iface.name))
-      pick x at (inl memory) = inl memory
-      pick x at (inr (name, says_so, called)) = inr (name, says_so, λ iface found. called ∙ ap (λ i. i.name) (inner x iface (sym at ∙ found)))
+  status_differs fault place s is low says = subst (λ f. IsStatusOf before after ifaces f s) (sym (differs_is fault place is)) (differs_named ifaces place.0 place.1 s low says)
 
 -- A file that differs in a piece of what it is to have, or behind it, differs there from what it is to have.
 module _ (t : TopologyValue) (names : List (List ℕ)) (texts : ℕ → Option (List ℕ)) (own octet : ℕ) where
-  differs_in_piece : (file before next more : List ℕ) → before ++ (next ++ more) ≡ file → DiffersIn texts own before next octet → FileDiffers t names texts own file octet
+  pub differs_in_piece : (file before next more : List ℕ) → before ++ (next ++ more) ≡ file → DiffersIn texts own before next octet → FileDiffers t names texts own file octet
   differs_in_piece file before next more is d = told (texts own) (unlike_more texts own before next more (Refused (Differs own octet)) (refl, d)).1
     where
       told : (text : Option (List ℕ)) → IfSome text (λ l. (k : ℕ) × (k < length (next ++ more)) × (octet ≡ saturated (length before + k)) × DiffersAt l (before ++ (next ++ more)) (length before + k))

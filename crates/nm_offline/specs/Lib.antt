@@ -5,6 +5,8 @@ pub mod Output
 pub mod Rounds
 pub mod Script
 pub mod Shown
+pub mod Certify
+pub mod Finding
 pub mod Check
 pub mod All
 pub mod Path

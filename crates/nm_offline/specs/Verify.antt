@@ -3,7 +3,6 @@ use Rattle.std.specs.Prelude.{◌≡◌, ◌⊎◌, ℕ, ◌+◌, ◌<◌, true,
 use Rattle.std.specs.Io.{StartsWith}
 use Rattle.std.specs.List.{enumerate_from, flat_map}
 use Rattle.arrayvec.specs.ArrayString.{ArrayString}
-use Rattle.nm_base.specs.Count.{saturated}
 use Rattle.nm_base.specs.declared.fault.Fault.{Fault}
 use Rattle.nm_base.specs.declared.fault.Fault.TheVariants.{Refused, Memory as NoMemory}
 use Rattle.nm_base.specs.declared.record.Record.{Record}
@@ -16,7 +15,7 @@ use Rattle.nm_sim.specs.Totals.{totals_of}
 use Rattle.nm_sim.specs.Trace.{IsTraceBefore}
 use Rattle.nm_command.specs.declared.status.Status.{Status}
 use Rattle.nm_command.specs.declared.status.Status.TheVariants.{Differs, Done, File, Memory}
-use Rattle.nm_files.specs.Checked.{DiffersAt, DiffersIn, GoesOn}
+use Rattle.nm_files.specs.Checked.{DiffersIn, GoesOn, TextDiffers}
 use Rattle.nm_files.specs.declared.checked_file.CheckCause.{CheckCause}
 use Rattle.nm_files.specs.declared.checked_file.CheckCause.TheVariants.{Failed}
 use Rattle.nm_files.specs.declared.checked_file.CheckCause.TheVariants as cause
@@ -68,7 +67,7 @@ module _ (t : TopologyValue) (names : List (List ℕ)) (texts : ℕ → Option (
   -- none before it
   abbrev pub FileDiffers : (n : ℕ) → (octets : List ℕ) → (octet : ℕ) → Type 0
   FileDiffers n octets octet =
-      IfSome (texts n) (λ text. (k : ℕ) × (octet ≡ saturated k) × DiffersAt text octets k)
+      IfSome (texts n) (λ text. TextDiffers text octets octet)
 
   -- The file of interface `own` is the first that differs, at this octet: in its header, and the
   -- headers of those before it are right.

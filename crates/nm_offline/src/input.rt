@@ -1,7 +1,7 @@
 //! Inputs, which are opened by their names and read to their end.
 
-ghost use Rattle.std.specs.Prelude.{◌≡◌, ◌+◌, ◌<◌, ◌≤◌, Err, IfOk, IfSome, Some, codes, false};
-ghost use Rattle.std.specs.Prelude.{length};
+ghost use Rattle.std.specs.Prelude.{◌≡◌, ◌+◌, ◌<◌, ◌≤◌, Err, IfOk, IfSome, None, Some, codes};
+ghost use Rattle.std.specs.Prelude.{false, length};
 ghost use Rattle.std.specs.Io.Buffered.{reader_remaining};
 ghost use Rattle.std.specs.Str.{bytes_eq};
 ghost use Rattle.std.specs.IoError.{error_kind};
@@ -120,8 +120,27 @@ impl<I: Inputs> NamedInputs<I> {
         ensures { IfOk result (λ reader. IfSome ((inputs_seen I.seen self.now).text name.now)
             (λ text. reader_remaining I.File.remaining reader ≡ Some text)) }
     {
-        let file = self.inputs.open(name)?;
-        BufReader::with_capacity(alloc, HELD_OCTETS, file)
+        BufReader::with_capacity(alloc, HELD_OCTETS, self.inputs.open(name)?)
+    }
+
+    /// The same, where the file is there.
+    ///
+    /// # Errors
+    ///
+    /// Those of `open`, of a file that is there.
+    pub fn open_if_there(&self, alloc: Global, name: &str) -> io::Result<Option<BufReader<I::File>>>
+        requires { bytes_eq name.now (codes "-") ≡ false }
+        ensures there { IfOk result (λ found. IfSome found
+            (λ reader. IfSome ((inputs_seen I.seen self.now).text name.now)
+            (λ text. reader_remaining I.File.remaining reader ≡ Some text))) }
+        ensures missing { IfOk result (λ found. found ≡ None
+            → (inputs_seen I.seen self.now).text name.now ≡ None) }
+    {
+        match self.inputs.open(name) {
+            Ok(file) => Ok(Some(BufReader::with_capacity(alloc, HELD_OCTETS, file)?)),
+            Err(error) if error.kind() == ErrorKind::NotFound => Ok(None),
+            Err(error) => Err(error),
+        }
     }
 
     /// Counts that a file which was opened could not be, or that a read of it failed.

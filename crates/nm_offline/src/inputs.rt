@@ -1,6 +1,8 @@
 //! Where inputs come from.
 
-ghost use Rattle.std.specs.Prelude.{◌≡◌, IfOk};
+ghost use Rattle.std.specs.Prelude.{◌≡◌, IfErr, IfOk, None};
+ghost use Rattle.std.specs.IoError.{error_kind};
+ghost use Rattle.std.specs.declared.io.ErrorKind.TheVariants.{NotFound};
 ghost use Rattle.nm_offline.specs.Input.{InputTexts};
 
 use std::io;
@@ -24,7 +26,11 @@ pub trait Inputs {
     ///
     /// # Errors
     ///
-    /// The file could not be opened, or memory was refused.
+    /// The file could not be opened, or memory was refused. Of a file that is not there, which is
+    /// `NotFound`, nothing is told.
     fn open(&self, name: &str) -> io::Result<Self::File>
-        ensures { IfOk result (λ f. Self.File.remaining f ≡ (seen self.now).file name.now) };
+        ensures there { IfOk result
+            (λ f. Self.File.remaining f ≡ (seen self.now).file name.now) }
+        ensures missing { IfErr result
+            (λ e. error_kind e ≡ NotFound → (seen self.now).file name.now ≡ None) };
 }

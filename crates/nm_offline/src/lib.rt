@@ -3,13 +3,17 @@
 
 pub mod all;
 pub mod asked;
+pub mod certify;
 pub mod checking;
+mod finding;
 pub mod input;
 pub mod inputs;
 pub mod lines;
 pub mod mem_inputs;
+mod opening;
 pub mod output;
 pub mod packets;
+mod part_files;
 pub mod path;
 pub mod reading;
 pub mod rounds;

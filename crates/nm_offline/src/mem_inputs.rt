@@ -1,6 +1,6 @@
 //! Inputs in memory.
 
-ghost use Rattle.std.specs.Prelude.{find, option_map};
+ghost use Rattle.std.specs.Prelude.{◌≡◌, find, option_map, position};
 ghost use Rattle.std.specs.Str.{bytes_eq};
 
 use crate::inputs::Inputs;
@@ -12,6 +12,13 @@ use std::io::{self, ErrorKind, Read};
 pub struct MemInputs<'a, S> {
     pub standard: S,
     pub files: &'a [(&'a str, &'a [u8])],
+}
+
+/// Where the file of a name stands.
+fn place_of(files: &[(&str, &[u8])], name: &str) -> Option<usize>
+    ensures { result ≡ position (λ f. bytes_eq f.0.now name.now) files.now }
+{
+    files.iter().position(|file| file.0 == name)
 }
 
 impl<'a, S: Read + Drop + Copy> Inputs for MemInputs<'a, S> {
@@ -29,8 +36,8 @@ impl<'a, S: Read + Drop + Copy> Inputs for MemInputs<'a, S> {
     }
 
     fn open(&self, name: &str) -> io::Result<&'a [u8]> {
-        match self.files.iter().find(|file| file.0 == name) {
-            Some(file) => Ok(file.1),
+        match place_of(self.files, name) {
+            Some(number) => Ok(self.files[number].1),
             None => Err(io::Error::from(ErrorKind::NotFound)),
         }
     }

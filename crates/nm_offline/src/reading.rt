@@ -80,6 +80,7 @@ pub fn read_shared<I: Inputs>(
         name.now (arc_value network)) }
     ensures fault { IfErr result (λ status. FailsOfInput
         (inputs_seen I.seen inputs.old) (inputs_seen I.seen inputs.new) name.now IsRefused status) }
+    ensures kept { IfOk result (λ _. inputs.new ≡ inputs.old) }
 {
     share(alloc, read_topology(alloc, inputs, name)?)
 }

@@ -32,63 +32,21 @@ use crate::asked::{Asked, find_ifaces};
 use crate::input::NamedInputs;
 use crate::inputs::Inputs;
 use crate::lines::push_iface_line;
+use crate::opening::open_one;
 use crate::output::{Output, end};
 use crate::reading::read_topology;
 use crate::trace_file::go_on;
 use nm_base::{IfaceNo, Sink, push_text};
 use nm_command::status::IfaceName;
 use nm_command::{AllArguments, Status};
-use nm_files::checked_file::{check_fault, difference};
-use nm_files::names::name_of;
-use nm_files::{CheckFault, CheckedFiles, Choice, Folder};
+use nm_files::checked_file::difference;
+use nm_files::{CheckFault, CheckedFiles, Folder};
 use nm_progress::Progress;
 use nm_sim::Tracer;
 use nm_sim::trace::every_topology_has_a_trace;
 use nm_topology::Topology;
 use std::alloc::{AllocError, Global};
 use std::io::{BufRead, BufReader};
-
-/// Opens the trace file of an interface, if it is asked for, and reads its header.
-fn open_one<I: Inputs>(
-    alloc: Global,
-    folder: &Folder<'_, Asked<'_>>,
-    number: usize,
-    inputs: &NamedInputs<I>,
-    files: &mut CheckedFiles<BufReader<I::File>>,
-) -> Result<(), CheckFault>
-    // The interface is there, and comes next.
-    requires there { number < length folder.now.topology.now.ifaces }
-    requires next { number ≡ length files.old.files.items }
-
-    // Its file is looked at where it is asked for, and has its header then.
-    ensures looked { (iface : IfaceValue)
-        → slice_get folder.now.topology.now.ifaces number ≡ Some iface
-        → OnOk result (looked_at files.new.files.items ≡ looked_at files.old.files.items
-        ++ is_asked_for (map (λ n. string_bytes n) folder.now.choice.names.now) iface ∷ []) }
-    ensures read { HaveRead (texts_of (inputs_seen I.seen inputs.now) folder.now.name.now
-        folder.now.topology.now) (reader_remaining I.File.remaining) [] files.old.files.items
-        → OnOk result (HaveRead (texts_of (inputs_seen I.seen inputs.now) folder.now.name.now
-        folder.now.topology.now) (reader_remaining I.File.remaining) [] files.new.files.items) }
-
-    // Or it differs there.
-    ensures unlike { IfErr result (λ f. (iface octet : ℕ) → f ≡ Refused (Differs iface octet)
-        → (iface ≡ number)
-        × ((x : IfaceValue) → slice_get folder.now.topology.now.ifaces number ≡ Some x
-        → is_asked_for (map (λ n. string_bytes n) folder.now.choice.names.now) x ≡ true)
-        × DiffersIn (texts_of (inputs_seen I.seen inputs.now) folder.now.name.now
-        folder.now.topology.now) number [] file_header octet) }
-{
-    let iface = folder.topology.iface_number(number);
-    if !folder.choice.chooses(folder.topology, iface) {
-        files.skip()?;
-        return Ok(());
-    }
-    let name = name_of(alloc, folder.name, folder.topology.iface(iface))?;
-    match inputs.open(alloc, name.as_str()) {
-        Ok(reader) => files.open(iface, reader),
-        Err(error) => Err(check_fault(&error)),
-    }
-}
 
 /// Opens the trace files that are asked for, in the order of the topology's text, and reads their
 /// headers.
@@ -262,7 +220,7 @@ fn verified_text<B: Drop>(
 }
 
 /// The status with which the file of an interface differs at this octet.
-fn differs(network: &Topology, iface: IfaceNo, octet: u64) -> Status
+pub(crate) fn differs(network: &Topology, iface: IfaceNo, octet: u64) -> Status
     requires { iface < length network.now.ifaces }
     ensures { (x : IfaceValue) → slice_get network.now.ifaces iface ≡ Some x
         → (result ≡ Memory)

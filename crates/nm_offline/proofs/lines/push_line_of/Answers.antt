@@ -1,10 +1,11 @@
 use Rattle.std.proofs.Common.{◌≡◌, length, get_or, slice_get, Some, rules, refl, ap, ◌∙◌, subst, arith}
 use Rattle.std.proofs.lemmas.Option.{slice_get_read}
+use Rattle.std.proofs.lemmas.Result.{on_ok_weaker}
 use Rattle.nm_model.specs.Partition.{receiver_of}
 use Rattle.nm_sim.specs.Network.{net_of}
 use Rattle.nm_sim.specs.Totals.{totals_at}
 use Rattle.nm_book.specs.Book.{state_of}
-use Rattle.nm_offline.proofs.InterfaceLines.{book_there, line_is, on_ok}
+use Rattle.nm_offline.proofs.InterfaceLines.{book_there, line_is}
 use Rattle.nm_offline.proofs.lines.push_line_of.Goals as goal
 
 pub bounds-books-index : goal.bounds-books-index
@@ -29,7 +30,7 @@ returns c = λ totals are iface is.
     let at = slice_get_read books (length books) (receiver_of (net_of t) n) b refl there (subst (λ k. b ≡ get_or books k b) place c.index-books-index.is) in
     let found = c.totals-records.ensures ∙ ap (λ i. totals_at b.topology (state_of b).records i) same in
     let one = subst (λ i. slice_get t.ifaces i ≡ Some c.iface.result.now) same c.iface.ensures in
-    on_ok c.push_iface_line.result
+    on_ok_weaker c.push_iface_line.result
     (line_is totals t books n b c.iface.result.now iface c.totals-records.result c.args.text.now.items c.push_iface_line.new.text.items
     are c.requires.there at (c.requires.books.each (receiver_of (net_of t) n) b at).0 found one is)
     c.push_iface_line.ensures

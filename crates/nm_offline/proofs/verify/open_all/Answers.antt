@@ -5,7 +5,7 @@ use Rattle.std.proofs.lemmas.Result.{err_from_is_err_and}
 use Rattle.nm_files.specs.Checked.{HaveRead, looked_at}
 use Rattle.nm_offline.specs.All.{is_asked_for}
 use Rattle.nm_offline.specs.Input.{inputs_seen}
-use Rattle.nm_offline.specs.Verify.{texts_of}
+use Rattle.nm_offline.specs.Verify.{text_of_file, texts_of}
 use Rattle.nm_files.proofs.Folders.{element}
 use Rattle.nm_offline.proofs.Verifying.{header_first, looked_count, more_looked, none_read}
 use Rattle.nm_offline.proofs.verify.open_all.Goals as goal
@@ -33,12 +33,14 @@ loop-number-preserved g c =
     let t = c.args.folder.now.topology.now in
     let names = map (λ n. string_bytes n) c.args.folder.now.choice.names.now in
     let n = c.loop-number.number in
+    let folder = c.args.folder.now.name.now in
+    let inputs = inputs_seen g.I.Inputs.seen c.args.inputs.now in
     let low : n < length t.ifaces = search rules in
     let is = element t.ifaces n low in
     record {
       within = omega (arith, low);
       looked = more_looked names t.ifaces n is.0 c.loop-number.files.files.items c.open_one.new.files.files.items is.1 c.loop-number.invariant.looked (c.in_ok-open_one.ensures.looked is.0 is.1);
-      read = c.in_ok-open_one.ensures.read c.loop-number.invariant.read;
+      read = c.in_ok-open_one.ensures.read (texts_of inputs folder t) (λ x is asked. ap (text_of_file inputs.text folder) is) c.loop-number.invariant.read;
     }
 
 pub returns-clause-looked : goal.returns-clause-looked
@@ -57,5 +59,5 @@ returns-in_err-open_one-clause-first g c =
     let low : n < length t.ifaces = search rules in
     let at = element t.ifaces n low in
     rw (p.1, p.2) (λ own octet is.
-    let unlike = c.in_err-open_one.ensures.unlike own octet is in
+    let unlike = c.in_err-open_one.ensures.unlike texts (λ x is asked. ap (text_of_file (inputs_seen g.I.Inputs.seen c.args.inputs.now).text c.args.folder.now.name.now) is) own octet is in
     header_first t names texts (reader_remaining g.I.File.Read.remaining) c.loop-number.files.files.items n own octet at.0 unlike.0 at.1 c.loop-number.invariant.looked c.loop-number.invariant.read (unlike.1 at.0 at.1) unlike.2)

@@ -1,0 +1,418 @@
+-- Files that replicas left, found in folders and certified.
+use Rattle.std.proofs.Common.{◌≡◌, ◌⊎◌, inl, inr, ℕ, zero, suc, ◌+◌, ◌<◌, ◌≤◌, ◌==◌, ◌++◌, ◌∷◌, Bool, true, false, ◌&&◌, Contains, IfOk, IfSome, OnOk, List, [], codes, length, length-append, map, get_or, slice_get, Option, Some, None, is_some, option_map, Result, Ok, Err, refl, sym, ◌∙◌, ap, subst, arith}
+use Rattle.std.specs.Str.{bytes_eq}
+use Rattle.std.proofs.lemmas.Bool.{true≢false}
+use Rattle.std.proofs.lemmas.Option.{IfSome_then, none-some, same_Some, slice_get-get_or, slice_get-map, slice_get_within, get_or_from_slice_get}
+use Rattle.std.proofs.lemmas.List.{length-map}
+use Rattle.arrayvec.specs.ArrayString.{ArrayString}
+use Rattle.nm_base.specs.declared.fault.Fault.{Fault}
+use Rattle.nm_base.specs.declared.fault.Fault.TheVariants.{Refused, Memory as NoMemory}
+use Rattle.nm_base.specs.declared.limits.TheConstants.{MAX_REPLICA}
+use Rattle.nm_base.specs.declared.record.Record.{Record}
+use Rattle.nm_model.specs.Partition.{receiver_of}
+use Rattle.nm_model.proofs.ListLemmas.{below_or_at}
+use Rattle.nm_pcap.specs.declared.form.Form.TheVariants.{Octets}
+use Rattle.nm_pcap.specs.Format.{file_header}
+use Rattle.nm_topology.specs.PartValues.{IfaceValue}
+use Rattle.nm_topology.specs.Topology.{topology_of}
+use Rattle.nm_topology.specs.TopologyValue.{TopologyValue}
+use Rattle.nm_sim.specs.Network.{net_of}
+use Rattle.nm_sim.specs.Trace.{IsTraceBefore}
+use Rattle.nm_files.specs.Checked.{HaveRead, is_looked_at, looked_at}
+use Rattle.nm_files.specs.Names.{file_name}
+use Rattle.nm_files.specs.declared.checked_file.CheckedFile.{CheckedFile}
+use Rattle.std.proofs.Math.ListN.{get_or-append}
+use Rattle.std.proofs.Math.Seq.{get_or-append_seam}
+use Rattle.std.proofs.lemmas.Bool.Decides.{nat_tests}
+use Rattle.nm_files.specs.TraceFile.{trace_file, written_at}
+use Rattle.nm_files.specs.declared.checked_file.CheckCause.{CheckCause}
+use Rattle.nm_files.specs.declared.checked_file.CheckCause.TheVariants as check
+use Rattle.nm_files.proofs.Checked.{in_front, next_behind}
+use Rattle.nm_files.proofs.Folders.{element}
+use Rattle.nm_files.proofs.Records.{whole_file}
+use Rattle.nm_book.specs.Book.{BookValue}
+use Rattle.nm_rounds.specs.Certify.{AreCertified}
+use Rattle.nm_known.specs.Keeping.{known_name}
+use Rattle.nm_known.specs.Known.{IsNoFile, IsOfOther, known_octets}
+use Rattle.nm_known.specs.declared.known_fault.KnownCause.{KnownCause}
+use Rattle.nm_known.specs.declared.known_fault.KnownCause.TheVariants as known
+use Rattle.nm_certify.proofs.Certified.{mapped_at}
+use Rattle.nm_certify.specs.Certify.{AreBooksOf, AreTraceFiles, ExplainsFault, HaveTexts, IsBookOf, fresh_book}
+use Rattle.nm_certify.specs.Checking.{trace_fault}
+use Rattle.nm_certify.specs.declared.fault.CertifyCause.{CertifyCause}
+use Rattle.nm_certify.specs.declared.fault.CertifyCause.TheVariants as cause
+use Rattle.nm_certify.specs.declared.part_files.PartFiles.{PartFiles}
+use Rattle.nm_command.specs.declared.status.Status.{Status}
+use Rattle.nm_command.specs.declared.status.Status.TheVariants as status
+use Rattle.nm_offline.specs.Certify.{AreFilesCertified, AreNotCertified, ArePlaces, AreTheirBooks, AreTheirTraces, CertifyAsked, ExplainsFiles, HasNoFile, IsStatusOfFiles, FilePlace, known_text, trace_text, trace_texts}
+use Rattle.nm_offline.specs.Finding.{AllFound, AreCertifiedBooks, AreFound, AreOpened, AreOwnTexts, DiffersInHeader, IsOpened, NoneIsFound, found_place}
+use Rattle.nm_offline.specs.Input.{InputsSeen}
+use Rattle.nm_sim.specs.Totals.{totals_of}
+use Rattle.nm_offline.specs.Lines.{AreOfPartitions, AreTotals, iface_lines}
+use Rattle.nm_offline.specs.declared.finding.Found.{Found}
+use Rattle.nm_offline.proofs.InterfaceLines.{HaveTheirRecords, certified_totals}
+use Rattle.nm_offline.proofs.Verifying.{differs_in_piece}
+
+-- the name of a file of what is known is not that of standard input
+never : (b : Bool) → (b && false) ≡ false
+never true = refl
+never false = refl
+
+pub known_not_standard : (folder : List ℕ) (partition replica : ℕ) → bytes_eq (known_name folder partition replica) (codes "-") ≡ false
+known_not_standard [] partition replica = refl
+known_not_standard (x ∷ []) partition replica = never (x == 45)
+known_not_standard (x ∷ y ∷ folder) partition replica = never (x == 45)
+
+-- the folder of a number, by its name
+pub name_at : {X : Type 0} (f : X → List ℕ) (folders : List X) (n : ℕ) (item : X) (own : List ℕ) → n < length folders → item ≡ get_or folders n item → own ≡ f item → slice_get (map f folders) n ≡ Some own
+name_at f folders n item own low is called = slice_get-map f folders n ∙ ap (option_map f) (slice_get-get_or folders n item low ∙ ap (λ x. Some x) (sym is)) ∙ ap (λ l. Some l) (sym called)
+
+-- none of the first folders has a file of what is known of partition p
+abbrev pub HaveNoFile : InputsSeen → (folders : List (List ℕ)) → (n : ℕ) → (p : ℕ) → Type 0
+HaveNoFile inputs folders n p = (m : ℕ) (folder : List ℕ) (replica : ℕ) → m < n → slice_get folders m ≡ Some folder → replica ≤ MAX_REPLICA → inputs.text (known_name folder p replica) ≡ None
+
+pub one_has_none : (inputs : InputsSeen) (folders : List (List ℕ)) (n p : ℕ) (own : List ℕ) → HaveNoFile inputs folders n p → slice_get folders n ≡ Some own
+    → ((replica : ℕ) → replica ≤ MAX_REPLICA → inputs.text (known_name own p replica) ≡ None) → HaveNoFile inputs folders (n + 1) p
+one_has_none inputs folders n p own before is none m folder replica low at within = pick (below_or_at m n (omega (arith, low)))
+  where
+    pick : (m < n) ⊎ (m ≡ n) → inputs.text (known_name folder p replica) ≡ None
+    pick (inl less) = before m folder replica less at within
+    pick (inr here) = ap (λ f. inputs.text (known_name f p replica)) (sym (same_Some own folder (sym is ∙ ap (slice_get folders) (sym here) ∙ at))) ∙ none replica within
+
+pub all_have_none : (inputs : InputsSeen) (folders : List (List ℕ)) (n p : ℕ) → length folders ≤ n → HaveNoFile inputs folders n p → HasNoFile inputs folders p
+all_have_none inputs folders n p all none folder replica (i, low, at) within =
+    none i folder replica (omega (arith, low, all)) (slice_get-get_or folders i folder low ∙ ap (λ f. Some f) at) within
+
+-- what is true of each element by its number is true of one more
+one_more_at : {X : Type 0} (P : ℕ → X → Type 0) (xs : List X) (x : X) → ((n : ℕ) (y : X) → slice_get xs n ≡ Some y → P n y) → P (length xs) x → (n : ℕ) (y : X) → slice_get (xs ++ x ∷ []) n ≡ Some y → P n y
+one_more_at P xs x before here n y at =
+    let long = length-append xs (x ∷ []) in
+    pick (below_or_at n (length xs) (omega (arith, slice_get_within (xs ++ x ∷ []) n y at, long)))
+  where
+    pick : (n < length xs) ⊎ (n ≡ length xs) → P n y
+    pick (inl low) = before n y (sym (in_front xs (x ∷ []) n low) ∙ at)
+    pick (inr is) = subst (λ k. P k y) (sym is) (subst (P (length xs)) (same_Some x y (sym (next_behind xs (x ∷ [])) ∙ ap (slice_get (xs ++ x ∷ [])) (sym is) ∙ at)) here)
+
+module _ {B : Type 0} (left : B → Option (List ℕ)) (inputs : InputsSeen) (folders : List (List ℕ)) where
+  -- of no partition a file was found so far
+  pub none_found : (all : List (Found B)) → all ≡ [] → AllFound left inputs folders 0 all
+  none_found all none = record {
+    count = ap length none;
+    each = λ p f at. absurd (none-some f (sym (ap (λ l. slice_get l p) none) ∙ at));
+  }
+
+  -- one of one partition more was
+  pub one_found : (all new : List (Found B)) (f : Found B) (n : ℕ) → AllFound left inputs folders n all → AreFound left inputs folders n f → new ≡ all ++ f ∷ [] → AllFound left inputs folders (n + 1) new
+  one_found all new f n found one more = record {
+    count = let long = ap length more ∙ length-append all (f ∷ []) in let was = found.count in omega (arith, long, was);
+    each = λ p g at. one_more_at (AreFound left inputs folders) all f found.each (subst (λ k. AreFound left inputs folders k f) (sym found.count) one) p g (sym (ap (λ l. slice_get l p) more) ∙ at);
+  }
+
+  pub are_places : (t : TopologyValue) (all : List (Found B)) → AllFound left inputs folders t.partitions all → ArePlaces folders t (map found_place all)
+  are_places t all found = record {
+    count = length-map all found_place ∙ found.count;
+    each = λ p place at.
+        let f = mapped_at found_place all p place at in
+        let is = found.each p f.0 f.1 in
+        subst (λ (q : FilePlace). Contains folders q.folder × (q.replica ≤ MAX_REPLICA)) f.2 (is.folder, is.replica);
+  }
+
+-- the texts of a partition's trace files are those in its folder
+pub own_texts : (inputs : InputsSeen) (t : TopologyValue) (places : List FilePlace) (p : ℕ) (place : FilePlace) → slice_get places p ≡ Some place → AreOwnTexts inputs place.folder t p (trace_texts inputs t places)
+own_texts inputs t places p place at = λ n iface is own.
+    ap (λ k. trace_text inputs.text (slice_get places k) (slice_get t.ifaces n)) own
+    ∙ ap (λ o. trace_text inputs.text o (slice_get t.ifaces n)) at ∙ ap (trace_text inputs.text (Some place)) is
+
+pub place_at : {B : Type 0} (found : List (Found B)) (p : ℕ) (f : Found B) → slice_get found p ≡ Some f → slice_get (map found_place found) p ≡ Some (found_place f)
+place_at (g ∷ found) zero f at = ap (λ x. Some (found_place x)) (same_Some g f at)
+place_at (g ∷ found) (suc p) f at = place_at found p f at
+place_at [] p f at = absurd (none-some f at)
+
+module _ {B : Type 0} (left : B → Option (List ℕ)) (texts : ℕ → Option (List ℕ)) (t : TopologyValue) where
+  pub none_opened : (found : List (Found B)) (parts : List (PartFiles B)) → found ≡ [] → parts ≡ [] → AreOpened left texts t found parts
+  none_opened found parts nobody none = record {
+    count = ap length none ∙ sym (ap length nobody);
+    each = λ p f files at here. absurd (none-some files (sym (ap (λ l. slice_get l p) none) ∙ here));
+  }
+
+  -- the files of one partition more were opened
+  pub one_opened : (found : List (Found B)) (parts new : List (PartFiles B)) (f : Found B) (files : PartFiles B) (n : ℕ) → AreOpened left texts t found parts → n ≡ length parts
+      → IsOpened left texts t n f files → new ≡ parts ++ files ∷ [] → AreOpened left texts t (found ++ f ∷ []) new
+  one_opened found parts new f files n opened count one more = record {
+    count = let long = ap length more ∙ length-append parts (files ∷ []) in let others = length-append found (f ∷ []) in let was = opened.count in omega (arith, long, others, was);
+    each = λ p g own at here.
+        one_more_at (λ k x. (g : Found B) → slice_get (found ++ f ∷ []) k ≡ Some g → IsOpened left texts t k g x) parts files
+        (λ k x there g is. opened.each k g x (sym (in_front found (f ∷ []) k (let low = slice_get_within parts k x there in let was = opened.count in omega (arith, low, was))) ∙ is) there)
+        (λ g is. subst (λ k. IsOpened left texts t k g files) count (subst (λ h. IsOpened left texts t n h files)
+        (same_Some f g (sym (next_behind found (f ∷ [])) ∙ ap (slice_get (found ++ f ∷ [])) (sym opened.count) ∙ is)) one))
+        p own (sym (ap (λ l. slice_get l p) more) ∙ here) g at;
+  }
+
+-- why nothing was found
+pub not_found : (inputs : InputsSeen) (folders : List (List ℕ)) (t : TopologyValue) (fault : Fault CertifyCause) → NoneIsFound inputs folders t.partitions fault → ExplainsFiles inputs folders t fault
+not_found inputs folders t fault (p, low, inl memory) = subst (ExplainsFiles inputs folders t) (sym memory) tt
+not_found inputs folders t fault (p, low, inr (inl failed)) = subst (ExplainsFiles inputs folders t) (sym failed) tt
+not_found inputs folders t fault (p, low, inr (inr (missing, none))) = subst (ExplainsFiles inputs folders t) (sym missing) (inl (refl, p, low, none))
+
+module _ (inputs : InputsSeen) (folders : List (List ℕ)) (t : TopologyValue) (places : List FilePlace) (placed : ArePlaces folders t places)
+    (records : List (Record (List ℕ))) (trace : IsTraceBefore t t.stop records) where
+  -- a header differs
+  pub not_opened : (fault : Fault CheckCause) → ((own octet : ℕ) → fault ≡ Refused (check.Differs own octet) → DiffersInHeader (trace_texts inputs t places) t own octet)
+      → ExplainsFiles inputs folders t (trace_fault fault)
+  not_opened NoMemory differs = tt
+  not_opened (Refused check.Failed) differs = tt
+  not_opened (Refused (check.Differs own octet)) differs =
+      let at = differs own octet refl in
+      record {
+        there = at.0;
+        places = places;
+        placed = placed;
+        records = records;
+        trace = trace;
+        differs = differs_in_piece t [] (trace_texts inputs t places) own octet (trace_file Octets own records) [] file_header (written_at Octets own records) (whole_file own records) at.1;
+      }
+
+same_number : (a b : ℕ) → (a == b) ≡ true → a ≡ b
+same_number a b is = grind (arith, nat_tests, is)
+
+-- one interface more of a partition's is looked at, if it is one
+pub own_looked : {B : Type 0} (t : TopologyValue) (p n : ℕ) (old new : List (Option (CheckedFile B))) → length old ≡ n → looked_at new ≡ looked_at old ++ (receiver_of (net_of t) n == p) ∷ []
+    → ((m : ℕ) → m < n → receiver_of (net_of t) m ≡ p → is_looked_at old m ≡ true) → (m : ℕ) → m < n + 1 → receiver_of (net_of t) m ≡ p → is_looked_at new m ≡ true
+own_looked t p n old new count more before m low own = pick (below_or_at m n (omega (arith, low)))
+  where
+    pick : (m < n) ⊎ (m ≡ n) → is_looked_at new m ≡ true
+    pick (inl less) = ap (λ l. get_or l m false) more ∙ get_or-append (looked_at old) ((receiver_of (net_of t) n == p) ∷ []) false m (let long = length-map old (λ file. is_some file) in omega (arith, less, long, count)) ∙ before m less own
+    pick (inr is) =
+        let long : length (looked_at old) ≡ n = length-map old (λ file. is_some file) ∙ count in
+        let same : receiver_of (net_of t) n ≡ p = ap (receiver_of (net_of t)) (sym is) ∙ own in
+        ap (λ l. get_or l m false) more ∙ ap (λ k. get_or (looked_at old ++ (receiver_of (net_of t) n == p) ∷ []) k false) (is ∙ sym long)
+        ∙ get_or-append_seam (looked_at old) (receiver_of (net_of t) n == p) [] false ∙ grind (arith, nat_tests, same)
+
+pub own_count : {B : Type 0} (b : Bool) (n : ℕ) (old new : List (Option (CheckedFile B))) → length old ≡ n → looked_at new ≡ looked_at old ++ b ∷ [] → length new ≡ n + 1
+own_count b n old new count more =
+    let long = length-append (looked_at old) (b ∷ []) in
+    let was = length-map old (λ file. is_some file) in
+    let is = sym (length-map new (λ file. is_some file)) ∙ ap length more in omega (arith, long, was, is, count)
+
+-- the text of an interface that is of the partition
+pub chosen_text : (inputs : InputsSeen) (folder : List ℕ) (t : TopologyValue) (p : ℕ) (texts : ℕ → Option (List ℕ)) (n : ℕ) → AreOwnTexts inputs folder t p texts
+    → (iface : IfaceValue) → slice_get t.ifaces n ≡ Some iface → (receiver_of (net_of t) n == p) ≡ true → texts n ≡ inputs.text (file_name folder iface)
+chosen_text inputs folder t p texts n own iface is chosen = own n iface is (same_number (receiver_of (net_of t) n) p chosen)
+
+-- Of files that were found and opened.
+module _ {B : Type 0} (left : B → Option (List ℕ)) (inputs : InputsSeen) (folders : List (List ℕ)) (t : TopologyValue) (found : List (Found B)) (parts : List (PartFiles B))
+    (all : AllFound left inputs folders t.partitions found) (opened : AreOpened left (trace_texts inputs t (map found_place found)) t found parts) where
+  places : List FilePlace
+  places = map found_place found
+
+  placed : ArePlaces folders t places
+  unfolding places
+  placed = are_places left inputs folders t found all
+
+  -- what is found and opened at a place
+  at_place : (p : ℕ) (place : FilePlace) → slice_get places p ≡ Some place
+      → (f : Found B) × (slice_get found p ≡ Some f) × (found_place f ≡ place) × ((files : PartFiles B) × (slice_get parts p ≡ Some files) × IsOpened left (trace_texts inputs t (map found_place found)) t p f files)
+  unfolding places
+  at_place p place at =
+      let f = mapped_at found_place found p place at in
+      let low = slice_get_within found p f.0 f.1 in
+      let count = opened.count in
+      let files = element parts p (omega (arith, low, count)) in
+      (f.0, f.1, f.2, (files.0, files.1, opened.each p f.0 files.0 f.1 files.1))
+
+  -- what is told of a file holds of its text
+  of_text : (p : ℕ) (f : Found B) (files : PartFiles B) (P : List ℕ → Type 0) → AreFound left inputs folders p f → files.known ≡ f.known → IfSome (left files.known) P → IfSome (inputs.text (known_name f.folder.now p f.replica)) P
+  of_text p f files P is same told = IfSome_then (inputs.text (known_name f.folder.now p f.replica)) is.text (λ text at. subst (λ o. IfSome o P) (ap left same ∙ at) told)
+
+  have_texts : HaveTexts t left (trace_texts inputs t (map found_place found)) parts
+  have_texts = λ p d low.
+      let files = element parts p low in
+      let count = opened.count in
+      let f = element found p (omega (arith, low, count)) in
+      subst (λ (own : PartFiles B). HaveRead (trace_texts inputs t (map found_place found)) left [] own.traces.files.items) (sym (get_or_from_slice_get parts p files.0 d files.1)) (opened.each p f.0 files.0 f.1 files.1).read
+
+  their_books : (books : List BookValue) → AreBooksOf t left parts books → AreTheirBooks inputs t places books
+  unfolding places
+  their_books books are = record {
+    count = are.count ∙ opened.count ∙ sym (length-map found found_place);
+    each = λ p place b at here.
+        let there = at_place p place at in
+        let f = there.0 in
+        let files = there.3.0 in
+        let is = there.3.2 in
+        let own = are.each p files b there.3.1 here in
+        subst (λ (q : FilePlace). IsBookOf t p q.replica (known_text inputs t places p q) b) there.2 (record {
+          topology = own.topology;
+          partition = own.partition;
+          replica_is = own.replica_is ∙ is.replica_is;
+          told = of_text p f files (λ text. text ≡ known_octets b) (all.each p f there.1) is.known_is own.told;
+          ran = own.ran;
+        });
+  }
+
+  their_traces : (records : List (Record (List ℕ))) → AreTraceFiles t left (trace_texts inputs t (map found_place found)) records parts → AreTheirTraces inputs t places records
+  unfolding places
+  their_traces records are n iface at = pick (slice_get places (receiver_of (net_of t) n)) refl
+    where
+      low : n < length t.ifaces
+      low = slice_get_within t.ifaces n iface at
+
+      pick : (o : Option FilePlace) → slice_get places (receiver_of (net_of t) n) ≡ o → IfSome (trace_texts inputs t places n) (λ text. text ≡ trace_file Octets n records)
+      pick None is = subst (λ o. IfSome (trace_text inputs.text o (slice_get t.ifaces n)) (λ text. text ≡ trace_file Octets n records)) (sym is) tt
+      pick (Some place) is =
+          let there = at_place (receiver_of (net_of t) n) place is in
+          are n there.3.0 low there.3.1 (there.3.2.looked n low refl)
+
+  pub all_certified : (books : List BookValue) → AreBooksOf t left parts books → AreCertified t books
+      → ((texts : ℕ → Option (List ℕ)) (records : List (Record (List ℕ))) → IsTraceBefore t t.stop records → HaveTexts t left texts parts → AreTraceFiles t left texts records parts)
+      → AreCertifiedBooks inputs folders t books
+  all_certified books are certified files = record {
+    places = places;
+    placed = placed;
+    theirs = their_books books are;
+    certified = certified;
+    whole = λ records trace. their_traces records (files (trace_texts inputs t (map found_place found)) records trace have_texts);
+  }
+
+  looked_within : (files : PartFiles B) (n : ℕ) → length files.traces.files.items ≡ length t.ifaces → is_looked_at files.traces.files.items n ≡ true → n < length t.ifaces
+  looked_within files n count seen = subst (λ k. n < k) (length-map files.traces.files.items (λ file. is_some file) ∙ count) (within (map (λ file. is_some file) files.traces.files.items) n seen)
+    where
+      within : (bs : List Bool) (n : ℕ) → get_or bs n false ≡ true → n < length bs
+      within [] n seen = absurd (true≢false (sym seen))
+      within (b ∷ bs) zero seen = omega arith
+      within (b ∷ bs) (suc n) seen = let low = within bs n seen in omega (arith, low)
+
+  module _ (records : List (Record (List ℕ))) (trace : IsTraceBefore t t.stop records) where
+    refused : (p : ℕ) (c : KnownCause) → ExplainsFault t left parts (Refused (cause.Known p c)) → ExplainsFiles inputs folders t (Refused (cause.Known p c))
+    unfolding places
+    refused p known.Failed why = tt
+    refused p known.Form (files, at, why, before) =
+        let low = slice_get_within parts p files at in
+        let count = opened.count in
+        let f = element found p (omega (arith, low, count)) in
+        let is = opened.each p f.0 files f.1 at in
+        inr (inl (record {
+          places = places;
+          placed = placed;
+          partition = p;
+          place = found_place f.0;
+          there = place_at found p f.0 f.1;
+          cause = known.Form;
+          number = refl;
+          why = of_text p f.0 files (IsNoFile (fresh_book t p f.0.replica)) (all.each p f.0 f.1) is.known_is (subst (λ r. IfSome (left files.known) (IsNoFile (fresh_book t p r))) is.replica_is why);
+        }))
+    refused p known.Topology (files, at, why, before) =
+        let low = slice_get_within parts p files at in
+        let count = opened.count in
+        let f = element found p (omega (arith, low, count)) in
+        let is = opened.each p f.0 files f.1 at in
+        inr (inl (record {
+          places = places;
+          placed = placed;
+          partition = p;
+          place = found_place f.0;
+          there = place_at found p f.0 f.1;
+          cause = known.Topology;
+          number = refl;
+          why = of_text p f.0 files (IsOfOther (fresh_book t p f.0.replica)) (all.each p f.0 f.1) is.known_is (subst (λ r. IfSome (left files.known) (IsOfOther (fresh_book t p r))) is.replica_is why);
+        }))
+
+    pub not_all : (fault : Fault CertifyCause) → ExplainsFault t left parts fault → ExplainsFiles inputs folders t fault
+    unfolding places
+    not_all NoMemory why = tt
+    not_all (Refused cause.Failed) why = tt
+    not_all (Refused (cause.Known p c)) why = refused p c why
+    not_all (Refused (cause.NotCertified f)) (books, are, shows) = inr (inr (record {
+      places = places;
+      placed = placed;
+      books = books;
+      theirs = their_books books are;
+      fault = f;
+      shows = shows;
+      number = refl;
+    }))
+    not_all (Refused (cause.Differs own octet)) (books, are, certified, differs) =
+        let at = differs (trace_texts inputs t (map found_place found)) records trace have_texts in
+        let p = receiver_of (net_of t) own in
+        let low = slice_get_within parts p at.0 at.1 in
+        let count = opened.count in
+        let f = element found p (omega (arith, low, count)) in
+        record {
+          there = looked_within at.0 own (opened.each p f.0 at.0 f.1 at.1).count at.2;
+          places = places;
+          placed = placed;
+          records = records;
+          trace = trace;
+          differs = at.3;
+        }
+
+-- what is certified, where it is
+pub if_certified : {B V E : Type 0} (left : B → Option (List ℕ)) (inputs : InputsSeen) (folders : List (List ℕ)) (t : TopologyValue) (found : List (Found B)) (parts : List (PartFiles B))
+    → AllFound left inputs folders t.partitions found → AreOpened left (trace_texts inputs t (map found_place found)) t found parts → (items : V → List BookValue) (r : Result V E)
+    → IfOk r (λ v. AreCertified t (items v)) → IfOk r (λ v. AreBooksOf t left parts (items v))
+    → ((texts : ℕ → Option (List ℕ)) (records : List (Record (List ℕ))) → IsTraceBefore t t.stop records → HaveTexts t left texts parts → OnOk r (AreTraceFiles t left texts records parts))
+    → IfOk r (λ v. AreCertifiedBooks inputs folders t (items v))
+if_certified left inputs folders t found parts all opened items (Ok v) certified are files = all_certified left inputs folders t found parts all opened (items v) are certified files
+if_certified left inputs folders t found parts all opened items (Err e) certified are files = tt
+
+pub no_items : {X : Type 0} (xs : List X) → length xs ≡ 0 → xs ≡ []
+no_items [] none = refl
+no_items (x ∷ xs) none = absurd (omega (arith, none))
+
+-- the books are of their partitions
+pub books_of_partitions : (inputs : InputsSeen) (folders : List (List ℕ)) (t : TopologyValue) (books : List BookValue) → AreCertifiedBooks inputs folders t books → AreOfPartitions t books
+books_of_partitions inputs folders t books are = record {
+  count = are.theirs.count ∙ are.placed.count;
+  each = λ p b at.
+      let low = slice_get_within books p b at in
+      let count = are.theirs.count in
+      let place = element are.places p (omega (arith, low, count)) in
+      let own = are.theirs.each p place.0 b place.1 at in
+      (own.topology, own.partition);
+}
+
+-- why the files of a text are not certified
+pub not_certified : (before after : InputsSeen) (asked : CertifyAsked) (text : List ℕ) (t : TopologyValue) (fault : Fault CertifyCause) (s : Status) → topology_of text ≡ Ok t
+    → ExplainsFiles before asked.folders t fault → IsStatusOfFiles before after t.ifaces fault s → AreNotCertified before after asked text s
+not_certified before after asked text t NoMemory s read why is = subst (AreNotCertified before after asked text) (sym is) (inr refl)
+not_certified before after asked text t (Refused cause.Failed) s read why is = subst (AreNotCertified before after asked text) (sym is.0) (inl (refl, is.1))
+not_certified before after asked text t (Refused (cause.Known p known.Failed)) s read why is = subst (AreNotCertified before after asked text) (sym is.0) (inl (refl, is.1))
+not_certified before after asked text t (Refused (cause.Known p known.Form)) s read why is = subst (AreNotCertified before after asked text) (sym is) (t, read, why)
+not_certified before after asked text t (Refused (cause.Known p known.Topology)) s read why is = subst (AreNotCertified before after asked text) (sym is) (t, read, why)
+not_certified before after asked text t (Refused (cause.NotCertified f)) s read why is = subst (AreNotCertified before after asked text) (sym is) (t, read, why)
+not_certified before after asked text t (Refused (cause.Differs own octet)) s read why is = pick is
+  where
+    pick : (s ≡ status.Memory) ⊎ ((name : ArrayString) × (s ≡ status.Differs name octet) × ((iface : IfaceValue) → slice_get t.ifaces own ≡ Some iface → name.bytes ≡ iface.name)) → AreNotCertified before after asked text s
+    pick (inl memory) = subst (AreNotCertified before after asked text) (sym memory) (inr refl)
+    pick (inr (name, says, called)) =
+        let iface = element t.ifaces own why.there in
+        subst (AreNotCertified before after asked text) (sym says) (record {
+          network = t;
+          read = read;
+          own = own;
+          iface = iface.0;
+          there = iface.1;
+          called = called iface.0 iface.1;
+          unlike = why;
+        })
+
+-- what is said of certified files
+pub says_files : (inputs : InputsSeen) (asked : CertifyAsked) (t seen : TopologyValue) (books shown : List BookValue) (records : List (Record (List ℕ))) (text octets : List ℕ) → seen ≡ t → shown ≡ books
+    → HaveTheirRecords t → AreCertifiedBooks inputs asked.folders t books → IsTraceBefore t t.stop records → topology_of text ≡ Ok t
+    → ((totals : ℕ → ℕ × ℕ) → AreTotals seen shown totals → octets ≡ codes "certified\n" ++ iface_lines totals seen) → AreFilesCertified inputs asked text octets
+says_files inputs asked t seen books shown records text octets same is law are trace read said = record {
+  network = t;
+  read = read;
+  places = are.places;
+  placed = are.placed;
+  books = books;
+  theirs = are.theirs;
+  certified = are.certified;
+  records = records;
+  trace = trace;
+  whole = are.whole records trace;
+  said =
+      let totals = certified_totals t books records law (books_of_partitions inputs asked.folders t books are) are.certified trace in
+      subst (λ z. ((totals : ℕ → ℕ × ℕ) → AreTotals z books totals → octets ≡ codes "certified\n" ++ iface_lines totals z) → octets ≡ codes "certified\n" ++ iface_lines (λ i. totals_of i records) t) (sym same)
+      (λ h. h (λ i. totals_of i records) totals) (λ own are_totals. said own (subst (λ l. AreTotals seen l own) (sym is) are_totals));
+}

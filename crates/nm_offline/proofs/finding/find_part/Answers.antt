@@ -1,0 +1,24 @@
+use Rattle.std.proofs.Common.{◌<◌, ◌≤◌, inr, length, map, string_bytes, refl, arith, rules}
+use Rattle.std.proofs.lemmas.List.{length-map}
+use Rattle.nm_offline.specs.Input.{inputs_seen}
+use Rattle.nm_offline.proofs.Certifying.{all_have_none, name_at, one_has_none}
+use Rattle.nm_offline.proofs.finding.find_part.Goals as goal
+
+pub loop-number-preserved : goal.loop-number-preserved
+loop-number-preserved g c =
+    let n = c.loop-number.number in
+    let folders = c.args.folders.now in
+    let low : n < length folders = search rules in
+    record {
+      none = one_has_none (inputs_seen g.I.Inputs.seen c.args.inputs.now) (map (λ f. string_bytes f) folders) n c.args.partition c.as_str.result.now c.loop-number.invariant.none
+          (name_at (λ f. string_bytes f) folders n c.index-folders-number.result c.as_str.result.now low c.index-folders-number.is c.as_str.ensures.value)
+          (c.in-Ok-None.ensures.none c.in-Ok-None.field-0-is);
+    }
+
+pub returns-clause-none : goal.returns-clause-none
+returns-clause-none g c =
+    let n = c.loop-number.number in
+    let folders = c.args.folders.now in
+    let over : length folders ≤ n = search rules in
+    let long = length-map folders (λ f. string_bytes f) in
+    inr (inr (refl, all_have_none (inputs_seen g.I.Inputs.seen c.args.inputs.now) (map (λ f. string_bytes f) folders) n c.args.partition (omega (arith, over, long)) c.loop-number.invariant.none))

@@ -1,0 +1,96 @@
+-- Files of what replicas knew that were found in folders, and trace files that were opened there.
+use Rattle.std.specs.Prelude.{◌≡◌, ◌⊎◌, ℕ, ◌<◌, ◌≤◌, true, Contains, IfSome, List, [], length, slice_get, Option, Some}
+use Rattle.nm_base.specs.declared.fault.Fault.{Fault}
+use Rattle.nm_base.specs.declared.fault.Fault.TheVariants.{Refused, Memory}
+use Rattle.nm_base.specs.declared.limits.TheConstants.{MAX_REPLICA}
+use Rattle.nm_base.specs.declared.record.Record.{Record}
+use Rattle.nm_model.specs.Partition.{receiver_of}
+use Rattle.nm_pcap.specs.Format.{file_header}
+use Rattle.nm_topology.specs.PartValues.{IfaceValue}
+use Rattle.nm_topology.specs.TopologyValue.{TopologyValue}
+use Rattle.nm_sim.specs.Network.{net_of}
+use Rattle.nm_sim.specs.Trace.{IsTraceBefore}
+use Rattle.nm_book.specs.Book.{BookValue}
+use Rattle.nm_rounds.specs.Certify.{AreCertified}
+use Rattle.nm_files.specs.Checked.{DiffersIn, HaveRead, is_looked_at}
+use Rattle.nm_files.specs.Names.{file_name}
+use Rattle.nm_rounds.specs.declared.certify.CertFault.TheVariants.{Missing}
+use Rattle.nm_known.specs.Keeping.{known_name}
+use Rattle.nm_certify.specs.declared.part_files.PartFiles.{PartFiles}
+use Rattle.nm_certify.specs.declared.fault.CertifyCause.{CertifyCause}
+use Rattle.nm_certify.specs.declared.fault.CertifyCause.TheVariants as cause
+use Rattle.nm_offline.specs.Certify.{ArePlaces, AreTheirBooks, AreTheirTraces, HasNoFile, FilePlace}
+use Rattle.nm_offline.specs.Input.{InputsSeen}
+use Rattle.nm_offline.specs.declared.finding.Found.{Found}
+
+-- The octets that are left of a reader, where that is told.
+module _ {B : Type 0} (left : B → Option (List ℕ)) (inputs : InputsSeen) where
+  -- the file of this replica of partition p was found in this folder, and has its text
+  pub record IsFoundIn (folder : List ℕ) (p replica : ℕ) (f : Found B) : Type 0 where
+    pub folder_is : f.folder.now ≡ folder
+    pub replica_is : f.replica ≡ replica
+    pub text : IfSome (inputs.text (known_name folder p replica)) (λ text. left f.known ≡ Some text)
+
+  -- one of partition p was, in one of these
+  pub record AreFound (folders : List (List ℕ)) (p : ℕ) (f : Found B) : Type 0 where
+    pub folder : Contains folders f.folder.now
+    pub replica : f.replica ≤ MAX_REPLICA
+    pub text : IfSome (inputs.text (known_name f.folder.now p f.replica))
+        (λ text. left f.known ≡ Some text)
+
+  -- one of each of the first n partitions was
+  pub record AllFound (folders : List (List ℕ)) (n : ℕ) (all : List (Found B)) : Type 0 where
+    pub count : length all ≡ n
+    pub each : (p : ℕ) (f : Found B) → slice_get all p ≡ Some f → AreFound folders p f
+
+-- where a partition's files were found
+abbrev pub found_place : {B : Type 0} → Found B → FilePlace
+found_place f = record { folder = f.folder.now; replica = f.replica }
+
+-- the trace files of partition p's interfaces in a folder have these texts
+abbrev pub AreOwnTexts : InputsSeen → (folder : List ℕ) → TopologyValue → (p : ℕ)
+    → (ℕ → Option (List ℕ)) → Type 0
+AreOwnTexts inputs folder t p texts = (n : ℕ) (iface : IfaceValue)
+    → slice_get t.ifaces n ≡ Some iface → receiver_of (net_of t) n ≡ p
+    → texts n ≡ inputs.text (file_name folder iface)
+
+-- that of interface `own`, which is there, differs in its header
+abbrev pub DiffersInHeader : (ℕ → Option (List ℕ)) → TopologyValue → (own octet : ℕ) → Type 0
+DiffersInHeader texts t own octet =
+    (own < length t.ifaces) × DiffersIn texts own [] file_header octet
+
+-- The files of the partitions were opened: part p is what was found of partition p, and the trace
+-- files of its interfaces, of which the headers are read.
+module _ {B : Type 0} (left : B → Option (List ℕ)) (texts : ℕ → Option (List ℕ))
+    (t : TopologyValue) where
+  pub record IsOpened (p : ℕ) (f : Found B) (files : PartFiles B) : Type 0 where
+    pub replica_is : files.replica ≡ f.replica
+    pub known_is : files.known ≡ f.known
+    pub count : length files.traces.files.items ≡ length t.ifaces
+    pub read : HaveRead texts left [] files.traces.files.items
+    pub looked : (n : ℕ) → n < length t.ifaces → receiver_of (net_of t) n ≡ p
+        → is_looked_at files.traces.files.items n ≡ true
+
+  pub record AreOpened (found : List (Found B)) (parts : List (PartFiles B)) : Type 0 where
+    pub count : length parts ≡ length found
+    pub each : (p : ℕ) (f : Found B) (files : PartFiles B) → slice_get found p ≡ Some f
+        → slice_get parts p ≡ Some files → IsOpened p f files
+
+-- none of partition p was; or one could not be opened
+abbrev pub IsNotFound : InputsSeen → (folders : List (List ℕ)) → ℕ → Fault CertifyCause → Type 0
+IsNotFound inputs folders p fault = (fault ≡ Memory) ⊎ (fault ≡ Refused cause.Failed)
+    ⊎ ((fault ≡ Refused (cause.NotCertified (Missing p))) × HasNoFile inputs folders p)
+
+abbrev pub NoneIsFound : InputsSeen → (folders : List (List ℕ)) → ℕ → Fault CertifyCause → Type 0
+NoneIsFound inputs folders n fault = (p : ℕ) × (p < n) × IsNotFound inputs folders p fault
+
+-- Books that are certified, each by the file of what is known that one of these folders has, and
+-- the trace files beside those are the one event list's.
+pub record AreCertifiedBooks (inputs : InputsSeen) (folders : List (List ℕ)) (t : TopologyValue)
+    (books : List BookValue) : Type 0 where
+  pub places : List FilePlace
+  pub placed : ArePlaces folders t places
+  pub theirs : AreTheirBooks inputs t places books
+  pub certified : AreCertified t books
+  pub whole : (records : List (Record (List ℕ))) → IsTraceBefore t t.stop records
+      → AreTheirTraces inputs t places records
