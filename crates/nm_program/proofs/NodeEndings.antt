@@ -9,7 +9,7 @@ use Rattle.nm_peers.specs.Listeners.{AreListeners}
 use Rattle.nm_peers.specs.declared.listener.Listener.{Listener}
 use Rattle.nm_process.specs.Process.{IsDoneReplica}
 use Rattle.nm_files.specs.Outputs.{Files, HasMade}
-use Rattle.nm_program.specs.Node.{HasListeners, NodeAsked, SaysLines, SaysServed, StopsNode, own_files, own_lines}
+use Rattle.nm_program.specs.Node.{HasListeners, NodeAsked, SaysLines, SaysServed, StopsNode, node_files, own_lines}
 use Rattle.nm_offline.specs.Input.{InputsSeen}
 use Rattle.nm_offline.specs.Output.{SaysOfInputs}
 
@@ -22,12 +22,12 @@ module _ (t : TopologyValue) (asked : NodeAsked) (listeners : List Listener) (be
   -- its files have the trace of its book, and their lines are said, or nothing
   pub says_served : (seen : TopologyValue) (book : BookValue) (lines : List ℕ) (status : Status) (octets : List ℕ) → seen ≡ t
       → IsDoneReplica t asked.partition asked.replica book
-      → HasMade before after (own_files seen asked.partition asked.folder (state_of book).records)
+      → HasMade before after (node_files seen asked.partition asked.folder asked.keeps book)
       → lines ≡ own_lines seen asked.partition (state_of book).records
       → SaysLines lines status octets → SaysOfTexts t asked listeners before after status octets
   says_served seen book lines status octets same done made are says = λ text addresses read mean. (
     lines,
-    own_files t asked.partition asked.folder (state_of book).records,
+    node_files t asked.partition asked.folder asked.keeps book,
     record {
       network = t;
       read = read;
@@ -38,7 +38,7 @@ module _ (t : TopologyValue) (asked : NodeAsked) (listeners : List Listener) (be
       made = refl;
       lines_are = subst (λ z. lines ≡ own_lines z asked.partition (state_of book).records) same are;
     },
-    subst (λ z. HasMade before after (own_files z asked.partition asked.folder (state_of book).records)) same made,
+    subst (λ z. HasMade before after (node_files z asked.partition asked.folder asked.keeps book)) same made,
     says,
   )
 

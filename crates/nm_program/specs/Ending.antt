@@ -2,13 +2,14 @@
 use Rattle.std.specs.Prelude.{◌≡◌, Bool, false, Option, Some, None}
 use Rattle.nm_command.specs.declared.status.Status.{Status}
 use Rattle.nm_command.specs.declared.status.Status.TheVariants.{Done, Usage, File}
-use Rattle.nm_command.specs.Command.{CommandValue, Trace, All, Verify, Rounds, Script, Check, Show, Text, Series, Packets, Path, Run, Node}
+use Rattle.nm_command.specs.Command.{CommandValue, Trace, All, Verify, Certify, Rounds, Script, Check, Show, Text, Series, Packets, Path, Run, Node}
 use Rattle.nm_program.specs.Node.{EndsNode}
 use Rattle.nm_offline.specs.Output.{Exchange}
 use Rattle.nm_offline.specs.Rounds.{EndsRounds}
 use Rattle.nm_program.specs.Run.{EndsRun}
 use Rattle.nm_program.specs.Surroundings.{Surroundings, files_of}
 use Rattle.nm_offline.specs.All.{MakesAll}
+use Rattle.nm_offline.specs.Certify.{EndsCertify}
 use Rattle.nm_offline.specs.Check.{EndsCheck}
 use Rattle.nm_offline.specs.Packets.{EndsPackets}
 use Rattle.nm_offline.specs.Path.{EndsPath}
@@ -52,10 +53,17 @@ module _ {S : Type 0} (before after : Surroundings S) where
       MakesNone (λ old new. EndsPackets old new topology source status)
   ProgramEnds (Some (Path topology node address)) status =
       MakesNone (λ old new. EndsPath old new topology node address status)
-  ProgramEnds (Some (Run topology folder workers replicas)) status =
+  ProgramEnds (Some (Certify topology workers folders)) status =
+      MakesNone (λ old new. EndsCertify old new
+      (record { topology = topology; folders = folders }) status)
+  ProgramEnds (Some (Run topology folder workers replicas keeps)) status =
       EndsRun before after
-      (record { topology = topology; folder = folder; replicas = replicas }) status
-  ProgramEnds (Some (Node topology folder partition replica addresses)) status =
+      (record {
+        topology = topology;
+        leaving = record { folder = folder; replicas = replicas; keeps = keeps };
+      })
+      status
+  ProgramEnds (Some (Node topology folder partition replica addresses keeps)) status =
       EndsNode before after
       (record {
         topology = topology;
@@ -63,6 +71,7 @@ module _ {S : Type 0} (before after : Surroundings S) where
         partition = partition;
         replica = replica;
         addresses = addresses;
+        keeps = keeps;
       })
       status
 

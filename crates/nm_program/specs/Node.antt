@@ -1,5 +1,5 @@
 -- The word `node`: one replica of a partition.
-use Rattle.std.specs.Prelude.{◌≡◌, ◌⊎◌, ℕ, ◌==◌, if◌then◌else◌, List, [], ◌∷◌, Option, Some, None, Ok}
+use Rattle.std.specs.Prelude.{◌≡◌, ◌⊎◌, ℕ, ◌==◌, Bool, if◌then◌else◌, List, [], ◌∷◌, ◌++◌, Option, Some, None, Ok}
 use Rattle.std.specs.List.{enumerate_from, flat_map}
 use Rattle.nm_base.specs.declared.record.Record.{Record}
 use Rattle.nm_pcap.specs.declared.form.Form.TheVariants.{Octets}
@@ -14,6 +14,7 @@ use Rattle.nm_peers.specs.Listeners.{AreListeners}
 use Rattle.nm_peers.specs.declared.listener.Listener.{Listener}
 use Rattle.nm_base.specs.declared.fault.Fault.{Fault}
 use Rattle.nm_base.specs.declared.fault.Fault.TheVariants as fault
+use Rattle.nm_known.specs.Keeping.{known_file}
 use Rattle.nm_process.specs.Process.{IsDoneReplica}
 use Rattle.nm_process.specs.declared.fault.ProcessCause.{ProcessCause}
 use Rattle.nm_process.specs.declared.fault.ProcessCause.TheVariants as cause
@@ -37,7 +38,17 @@ own_files t partition folder records =
     chosen_files (λ n iface. receiver_of (net_of t) n == partition) folder
     (λ n. trace_file Octets n records) t.ifaces
 
--- and their lines
+-- the file of what a replica knows, if it is asked for
+abbrev pub asked_known : (keeps : Bool) → (folder : List ℕ) → BookValue → Files
+asked_known keeps folder b = if keeps then known_file folder b ∷ [] else []
+
+-- the files of a replica of this partition
+abbrev pub node_files : TopologyValue → (partition : ℕ) → (folder : List ℕ) → (keeps : Bool)
+    → BookValue → Files
+node_files t partition folder keeps b =
+    own_files t partition folder (state_of b).records ++ asked_known keeps folder b
+
+-- the lines of the partition's interfaces
 abbrev pub own_line : TopologyValue → ℕ → List (Record (List ℕ)) → ℕ × IfaceValue → List ℕ
 own_line t partition records i =
     if receiver_of (net_of t) i.0 == partition then iface_line i.1 (totals_of i.0 records) else []
@@ -45,18 +56,39 @@ own_line t partition records i =
 abbrev pub own_lines : TopologyValue → ℕ → List (Record (List ℕ)) → List ℕ
 own_lines t partition records = flat_map (own_line t partition records) (enumerate_from 0 t.ifaces)
 
+-- what `node` is asked for: the input with the topology, the folder, which replica, the input with
+-- the addresses, and whether the file of what it knows is made too
+pub record NodeAsked : Type 0 where
+  pub topology : List ℕ
+  pub folder : List ℕ
+  pub partition : ℕ
+  pub replica : ℕ
+  pub addresses : List ℕ
+  pub keeps : Bool
+
+abbrev pub node_asked : NodeArguments → NodeAsked
+node_asked w = record {
+  topology = w.topology.now;
+  folder = w.folder.now;
+  partition = w.partition;
+  replica = w.replica;
+  addresses = w.addresses.now;
+  keeps = w.keeps;
+}
+
 -- The replica of the partition is done. Its trace stands in the files of the partition's
--- interfaces, and these are their lines.
-pub record IsNodeDone (text addresses folder : List ℕ) (partition replica : ℕ) (lines : List ℕ)
-    (files : Files) : Type 0 where
-  pub network : TopologyValue
-  pub read : topology_of text ≡ Ok network
-  pub listeners : List Listener
-  pub mean : AreListeners addresses network.partitions partition replica listeners
-  pub book : BookValue
-  pub done : IsDoneReplica network partition replica book
-  pub made : files ≡ own_files network partition folder (state_of book).records
-  pub lines_are : lines ≡ own_lines network partition (state_of book).records
+-- interfaces, and these are their lines. What it knows stands in a file behind them, if that is
+-- asked for.
+pub record IsNodeDone (asked : NodeAsked) (text addresses lines : List ℕ) (files : Files) : Type 0
+  where
+    pub network : TopologyValue
+    pub read : topology_of text ≡ Ok network
+    pub listeners : List Listener
+    pub mean : AreListeners addresses network.partitions asked.partition asked.replica listeners
+    pub book : BookValue
+    pub done : IsDoneReplica network asked.partition asked.replica book
+    pub made : files ≡ node_files network asked.partition asked.folder asked.keeps book
+    pub lines_are : lines ≡ own_lines network asked.partition (state_of book).records
 
 -- the status of a replica that is done, where serving it ended otherwise than as done: it was
 -- stalled, the network or a file failed, or memory was refused
@@ -87,24 +119,6 @@ pub record HasNoAddresses (text addresses : List ℕ) (partition replica : ℕ) 
   pub none : (listeners : List Listener)
       → AreListeners addresses network.partitions partition replica listeners → ⊥
 
--- what `node` is asked for: the input with the topology, the folder, which replica, and the input
--- with the addresses
-pub record NodeAsked : Type 0 where
-  pub topology : List ℕ
-  pub folder : List ℕ
-  pub partition : ℕ
-  pub replica : ℕ
-  pub addresses : List ℕ
-
-abbrev pub node_asked : NodeArguments → NodeAsked
-node_asked w = record {
-  topology = w.topology.now;
-  folder = w.folder.now;
-  partition = w.partition;
-  replica = w.replica;
-  addresses = w.addresses.now;
-}
-
 -- this is the topology of the text that the one input has, and these are the listeners of that of
 -- the other
 abbrev pub HasListeners : InputsSeen → NodeAsked → TopologyValue → List Listener → Type 0
@@ -130,7 +144,7 @@ abbrev pub SaysServed : NodeAsked → (made : Option Files × Option Files) → 
     → Status → List ℕ → Type 0
 SaysServed asked made text addresses status octets =
     (lines : List ℕ) × (files : Files)
-    × IsNodeDone text addresses asked.folder asked.partition asked.replica lines files
+    × IsNodeDone asked text addresses lines files
     × HasMade made.0 made.1 files × SaysLines lines status octets
 
 -- Why nothing is said of two inputs: no replica was served, and no file was made; or they are a

@@ -4,11 +4,11 @@
 pub mod means;
 mod node;
 mod node_inputs;
+mod own_files;
 pub mod program;
 mod runs;
-mod trace_files;
 
-pub use means::Means;
+pub use means::{Means, Notes};
 pub use nm_offline::{Inputs, MemInputs, NamedInputs};
 pub use nm_run::Runtime;
 pub use program::{conclude, report, run};

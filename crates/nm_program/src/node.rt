@@ -11,7 +11,7 @@ ghost use Rattle.nm_offline.specs.Input.{inputs_seen};
 ghost use Rattle.nm_offline.specs.Output.{SaysOfInputs, files_seen};
 ghost use Rattle.nm_program.specs.Node.{EndsNode, FailsNode, SaysServed, StopsNode, node_asked};
 ghost use Rattle.nm_program.specs.Surroundings.{surroundings};
-ghost use Rattle.nm_program.specs.Node.{late_status, own_files, own_line, own_lines};
+ghost use Rattle.nm_program.specs.Node.{late_status, node_files, own_line, own_lines};
 ghost use Rattle.nm_program.specs.Node.{process_status};
 ghost use Rattle.nm_command.specs.declared.status.Status.TheVariants.{Done, File, Memory, Stalled};
 ghost use Rattle.nm_files.specs.Outputs.{HasMade};
@@ -20,13 +20,13 @@ ghost use Rattle.nm_topology.specs.Topology.{topology_of};
 
 use crate::means::Means;
 use crate::node_inputs::{NodeArguments, read_both};
-use crate::trace_files::make_files;
-use nm_base::{PartNo, Record, Sink};
+use crate::own_files::make_files;
+use nm_base::{PartNo, Sink};
 use nm_book::Book;
 use nm_book::channels::partition_of;
-use nm_book::laws::records_have_times_of_a_file;
 use nm_command::Status;
 use nm_files::{Folder, Outputs};
+use nm_known::OfPartition;
 use nm_offline::input::NamedInputs;
 use nm_offline::inputs::Inputs;
 use nm_offline::lines::push_iface_line;
@@ -35,22 +35,11 @@ use nm_peers::Listener;
 use nm_process::{Process, ProcessCause, ProcessEnd, ProcessFault, run_process};
 use nm_replica::Served;
 use nm_replica::limits::MAX_IDLE_PERIODS;
-use nm_run::OfPartition;
 use nm_topology::Topology;
 use std::alloc::{AllocError, Global};
 use std::net::Net;
 use std::sync::{Arc, Wait};
 use std::time::Clock;
-
-/// The trace of a book of which nothing was handed out. A trace file can say its times.
-fn trace_of(book: &Book) -> &[Record]
-    requires { book.now.handed ≡ 0 }
-    ensures value { result.now ≡ (state_of book.now).records }
-    ensures times { All (λ r. r.time ≤ MAX_TIME) result.now }
-{
-    records_have_times_of_a_file(book); // law: their times are before `stop`
-    book.trace()
-}
 
 /// Appends the line of an interface, if that is of the partition.
 fn push_own(
@@ -92,7 +81,7 @@ fn own_text(
     Ok(text)
 }
 
-/// Makes the trace files of a replica that is done: the lines of its interfaces.
+/// Makes the files of a replica that is done: the lines of its interfaces.
 fn write_book<F: Outputs>(
     alloc: Global,
     topology: &Topology,
@@ -103,8 +92,8 @@ fn write_book<F: Outputs>(
     requires of { book.now.topology ≡ topology.now }
     requires whole { book.now.handed ≡ 0 }
     ensures made { IfOk result (λ _. HasMade (F.made outputs.old) (F.made outputs.new)
-        (own_files topology.now words.now.partition words.now.folder.now
-        (state_of book.now).records)) }
+        (node_files topology.now words.now.partition words.now.folder.now words.now.keeps
+        book.now)) }
     ensures said { IfOk result (λ output. (output.status ≡ Done) × (output.text.items
         ≡ own_lines topology.now words.now.partition (state_of book.now).records)) }
     ensures fault { IfErr result (λ s. (s ≡ File) ⊎ (s ≡ Memory)) }
@@ -116,7 +105,7 @@ fn write_book<F: Outputs>(
             partition: words.partition,
         },
     };
-    make_files(alloc, &folder, trace_of(book), outputs)?;
+    make_files(alloc, &folder, book, words.keeps, outputs)?;
     Output::of(
         own_text(alloc, topology, words.partition, book),
         Status::Done,
@@ -194,7 +183,7 @@ fn late_status(served: Served) -> Option<Status>
     }
 }
 
-/// Serves a replica until it is done, and makes its trace files: the lines of its interfaces. Where
+/// Serves a replica until it is done, and makes its files: the lines of its interfaces. Where
 /// serving it ended otherwise and it is done, the files are made too, and nothing is said.
 fn serve<F: Outputs, R: Net + Wait + Clock + Drop + Copy>(
     means: &Means<'_, R>,
@@ -243,8 +232,8 @@ fn node_said<I: Inputs, F: Outputs, R: Net + Wait + Clock + Drop + Copy>(
     serve(means, &network, listeners.as_slice(), words, outputs)
 }
 
-/// Serves one replica of a partition over TCP until it is done. Then its trace files are made, and
-/// the lines of its interfaces are said.
+/// Serves one replica of a partition over TCP until it is done. Then its files are made, and the
+/// lines of its interfaces are said.
 pub(crate) fn say_node<I: Inputs, F: Outputs, O: Sink + Drop, R: Net + Wait + Clock + Drop + Copy>(
     means: &Means<'_, R>,
     words: &NodeArguments<'_>,

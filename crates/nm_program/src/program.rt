@@ -15,6 +15,7 @@ use nm_base::Sink;
 use nm_command::{Command, Status};
 use nm_files::Outputs;
 use nm_offline::all::write_all_traces;
+use nm_offline::certify::say_certify;
 use nm_offline::checking::say_check;
 use nm_offline::input::NamedInputs;
 use nm_offline::inputs::Inputs;
@@ -48,6 +49,7 @@ pub fn run<I: Inputs, F: Outputs, O: Sink + Drop, E: Sink, R>(
 ) -> (Status, O)
 where
     F::File: Send,
+    I::File: Send,
     R: Runtime,
     ensures ending { ProgramEnds
         (surroundings I.seen O.seen F.made inputs.old out outputs.old)
@@ -70,6 +72,7 @@ fn perform<I: Inputs, F: Outputs, O: Sink + Drop, R>(
 ) -> (Status, O)
 where
     F::File: Send,
+    I::File: Send,
     R: Runtime,
     ensures { ProgramEnds
         (surroundings I.seen O.seen F.made inputs.old out outputs.old)
@@ -79,6 +82,7 @@ where
     let Means {
         alloc,
         progress,
+        notes,
         ..
     } = *means;
     match Command::of(words) {
@@ -88,6 +92,9 @@ where
             (status, out)
         }
         Some(Command::Verify(words)) => say_verify(alloc, &words, inputs, out, progress),
+        Some(Command::Certify(words)) => {
+            say_certify(means.rt, alloc, &words, inputs, out, &notes.cert_fault)
+        }
         Some(Command::Rounds { topology, max }) => {
             say_rounds(alloc, topology, max, inputs, out, progress)
         }

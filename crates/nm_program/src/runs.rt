@@ -7,7 +7,7 @@ ghost use Rattle.nm_base.specs.declared.record.Record.{Record as TraceRecord};
 ghost use Rattle.nm_base.specs.declared.limits.TheConstants.{MAX_WORKERS};
 ghost use Rattle.nm_files.specs.Outputs.{Files};
 ghost use Rattle.nm_run.specs.Faults.{HasReason, IsOfFiles};
-ghost use Rattle.nm_run.specs.Files.{AreNamed};
+ghost use Rattle.nm_run.specs.Files.{AreNamed, HaveFiles};
 ghost use Rattle.nm_run.specs.Report.{AreTotals, IsCertifiedRun};
 ghost use Rattle.nm_sim.specs.Totals.{totals_of};
 ghost use Rattle.nm_sim.specs.Trace.{IsTraceBefore};
@@ -30,6 +30,7 @@ use nm_offline::inputs::Inputs;
 use nm_offline::lines::push_iface_line;
 use nm_offline::output::{Output, end};
 use nm_offline::reading::read_shared;
+use nm_rounds::CertFault;
 use nm_run::{IfaceTotals, Report, RunCause, RunFault, RunPlan, Runtime, run_all};
 use nm_shared::OpenGate;
 use nm_sim::trace::every_topology_has_a_trace;
@@ -82,17 +83,27 @@ fn is_own(fault: &RunFault) -> bool {
     matches!(fault, RunFault::Refused(RunCause::Broken))
 }
 
+/// What the certificate found in the books of a run.
+fn cert_fault_of(fault: &RunFault) -> Option<CertFault> {
+    match fault {
+        RunFault::Refused(RunCause::NotCertified(fault)) => Some(*fault),
+        _ => None,
+    }
+}
+
 /// What the fault of a run is to the program.
 fn status_of(fault: RunFault) -> Status
     ensures value { result ≡ run_status fault }
     ensures stops { (network : TopologyValue) (asked : RunAsked) (before after : Option Files)
-        → HasReason network asked.replicas fault → (IsOfFiles fault ⊎ (after ≡ before))
-        → AreNamed before after asked.folder network
+        → HasReason network asked.leaving.replicas fault → (IsOfFiles fault ⊎ (after ≡ before))
+        → AreNamed before after asked.leaving network
         → StopsRun network asked before after result }
 {
     match fault {
         RunFault::Memory => Status::Memory,
-        RunFault::Refused(RunCause::File { .. } | RunCause::Net | RunCause::Broken) => Status::File,
+        RunFault::Refused(
+            RunCause::File { .. } | RunCause::Known | RunCause::Net | RunCause::Broken,
+        ) => Status::File,
         RunFault::Refused(RunCause::NotCertified(fault)) => Status::NotCertified(fault.number()),
         RunFault::Refused(RunCause::Stalled { .. }) => Status::Stalled,
     }
@@ -105,8 +116,10 @@ fn report_text(
     report: &Report,
 ) -> Result<Vec<u8>, AllocError>
     requires { IsCertifiedRun (arc_value network.now) report.now.totals.items }
-    ensures { IfOk result (λ octets. (text : List ℕ)
-        → topology_of text ≡ Ok (arc_value network.now) → SaysCertified text octets.items) }
+    ensures { IfOk result (λ octets. (asked : RunAsked) (before after : Option Files)
+        (text : List ℕ) → topology_of text ≡ Ok (arc_value network.now)
+        → HaveFiles before after asked.leaving (arc_value network.now) report.now.totals.items
+        → SaysCertified asked before after text octets.items) }
 {
     every_topology_has_a_trace(network); // law: there is a trace of the whole run
     run_text(alloc, network, report.totals.as_slice())
@@ -123,17 +136,20 @@ fn report_of<'x, F: Outputs, R: Runtime>(
 where
     F::File: Send,
     requires asked { (plan.now.topology ≡ network) × (plan.now.folder ≡ words.now.folder)
-        × (plan.now.workers ≡ words.now.workers) × (plan.now.replicas ≡ words.now.replicas) }
+        × (plan.now.workers ≡ words.now.workers) × (plan.now.replicas ≡ words.now.replicas)
+        × (plan.now.keeps ≡ words.now.keeps) }
     requires workers { (1 ≤ words.now.workers) × (words.now.workers ≤ MAX_WORKERS) }
     requires folder { 0 < length words.now.folder.now } // else its files would stand at the root
     ensures certified { IfOk result (λ report. IsCertifiedRun (arc_value network.now)
         report.totals.items) }
+    ensures placed { IfOk result (λ report. HaveFiles (F.made outputs.old) (F.made outputs.new)
+        (run_asked words.now).leaving (arc_value network.now) report.totals.items) }
     ensures refused { IfErr result
         (HasReason (arc_value network.now) words.now.replicas) }
     ensures kept { IfErr result (λ fault. IsOfFiles fault
         ⊎ (F.made outputs.new ≡ F.made outputs.old)) }
-    ensures named { AreNamed (F.made outputs.old) (F.made outputs.new) words.now.folder.now
-        (arc_value network.now) }
+    ensures named { AreNamed (F.made outputs.old) (F.made outputs.new)
+        (run_asked words.now).leaving (arc_value network.now) }
 {
     means.progress.begin(network.stop());
     run_all(means.rt, means.alloc, plan, outputs, &OpenGate)
@@ -151,7 +167,8 @@ where
     requires { (1 ≤ words.now.workers) × (words.now.workers ≤ MAX_WORKERS) }
     ensures said { IfOk result (λ output. (text : List ℕ)
         → topology_of text ≡ Ok (arc_value network.now)
-        → SaysRun text output.status output.text.items) }
+        → SaysRun (run_asked words.now) (F.made outputs.old, F.made outputs.new) text
+        output.status output.text.items) }
     ensures fault { IfErr result (StopsRun (arc_value network.now) (run_asked words.now)
         (F.made outputs.old) (F.made outputs.new)) }
 {
@@ -163,12 +180,14 @@ where
         folder: words.folder,
         workers: words.workers as usize,
         replicas: words.replicas,
+        keeps: words.keeps,
         progress: means.progress,
     };
     match report_of(means, network, words, &plan, outputs) {
         Ok(report) => Output::of(report_text(means.alloc, network, &report), Status::Done),
         Err(fault) => {
             means.note(is_own(&fault));
+            means.notes.cert_fault.set(cert_fault_of(&fault));
             Err(status_of(fault))
         }
     }
@@ -186,7 +205,8 @@ where
     requires { (1 ≤ words.now.workers) × (words.now.workers ≤ MAX_WORKERS) }
     ensures said { IfOk result (λ output. SaysOfInput (inputs_seen I.seen inputs.old)
         words.now.topology.now
-        SaysRun output.status output.text.items) }
+        (SaysRun (run_asked words.now) (F.made outputs.old, F.made outputs.new))
+        output.status output.text.items) }
     ensures fault { IfErr result (FailsRun (files_seen I.seen F.made inputs.old outputs.old)
         (files_seen I.seen F.made inputs.new outputs.new) (run_asked words.now)) }
 {
