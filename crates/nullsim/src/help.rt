@@ -20,6 +20,8 @@ nullsim simulates an IPv4 network; its traces are proved to be those of one even
                                   all partitions at once, certified, with their trace files in DIR
   nullsim node TOPO DIR PARTITION REPLICA ADDRESSES
                                   one replica of a partition as a process of its own
+  nullsim certify TOPO WORKERS DIR..
+                                  whether what nodes left in folders is what one event list makes
   nullsim rounds TOPO MAX         all partitions in at most MAX rounds
   nullsim script TOPO STEPS       what replicas do step by step
   nullsim help [WORD]             this, or more of a word
@@ -135,20 +137,31 @@ coloured by use.
     (
         "run",
         "\
-nullsim run TOPO DIR WORKERS REPLICAS [stats]
+nullsim run TOPO DIR WORKERS REPLICAS [stats] [keep]
 Simulates all partitions at once, 1 or 2 REPLICAS of each, each in a thread; up to
 WORKERS (1 to 64) more threads do what these leave. Writes DIR/NAME.pcap for each
 interface, and prints certified where all came to the trace of the one event list. stats:
-then a table on standard error of what each did.
+then a table on standard error of what each did. keep: DIR/P-0.known too, for certify.
 ",
     ),
     (
         "node",
         "\
-nullsim node TOPO DIR PARTITION REPLICA ADDRESSES [stats]
+nullsim node TOPO DIR PARTITION REPLICA ADDRESSES [stats] [keep]
 Runs one replica (0 or 1) of a partition as a process. ADDRESSES is a file with a line P
 R A.B.C.D:PORT for each replica. It certifies nothing. stats: a line a second on standard
-error of how far it is.
+error of how far it is. keep: DIR/PARTITION-REPLICA.known too, for certify.
+",
+    ),
+    (
+        "certify",
+        "\
+nullsim certify TOPO WORKERS DIR..
+Takes of each partition P the first DIR/P-0.known or DIR/P-1.known, as run and node leave
+it with keep, simulates the partition by it, WORKERS (1 to 64) at a time, and compares the
+trace files beside it, octet for octet. Prints certified, and a line for each interface,
+where all came to the trace of the one event list. Where they did not: status 6, and why.
+Where a trace file differs: status 8, its name, and the first octet, counted from 0.
 ",
     ),
     (

@@ -27,7 +27,7 @@ pub fn say_more<E: Sink>(status: Status, noted: &Noted, errors: &mut E) {
     if status != Status::File {
         return;
     }
-    if noted.is_broken.get() {
+    if noted.notes.is_broken.get() {
         let _ = write_all(errors, BROKEN.as_bytes());
     }
     if let Some(text) = noted.take_file() {

@@ -6,14 +6,17 @@
 ghost use Rattle.std.specs.Prelude.{◌≡◌, ◌⊎◌, IfSome, None, length, map, string_bytes};
 ghost use Rattle.nm_command.specs.Command.{command_of};
 
+mod differing;
 mod help;
 mod hints;
 mod noted;
 mod parts;
 mod stats;
 mod system;
+mod uncertified;
 mod watching;
 
+use differing::say_difference;
 use help::{HELP, asked};
 use hints::say_more;
 use nm_base::sink::write_all;
@@ -22,7 +25,7 @@ use nm_command::{Command, Status};
 use nm_program::{Means, NamedInputs, Runtime, conclude, report, run};
 use nm_progress::Progress;
 use noted::{Noted, NotedWriter};
-use stats::{tell_figures, told_words};
+use stats::{take_stats, tell_figures};
 use std::env::Env;
 use std::io::{BufWriter, ErrorKind, IsTerminal, Stderr, Write};
 use std::net::Net;
@@ -32,6 +35,7 @@ use std::thread::Threads;
 use std::time::Clock;
 use std::{env, io, net, thread};
 use system::{SystemInputs, SystemOutputs};
+use uncertified::say_fault;
 use watching::{Over, watch};
 
 /// The octets of the lines that are said of errors, at most.
@@ -58,6 +62,23 @@ struct Ended {
     is_silent: bool,
 }
 
+/// Says where a fault is, if it is of a file that differs or of books that are not certified. What
+/// cannot be read again is not said.
+fn say_where<E: Sink>(
+    rt: &HostRuntime,
+    words: &[String],
+    status: Status,
+    noted: &Noted,
+    errors: &mut E,
+) {
+    if let Status::Differs { iface, octet } = status {
+        let _ = say_difference(rt, words, iface.as_str(), octet, errors);
+    }
+    if let Some(fault) = noted.notes.cert_fault.get() {
+        let _ = say_fault(rt, words, fault, errors);
+    }
+}
+
 /// The program up to its exit status. On a terminal more is said of a fault.
 fn with_hint<N: Runtime, E: Sink>(
     rt: &HostRuntime,
@@ -70,6 +91,7 @@ fn with_hint<N: Runtime, E: Sink>(
     let status = over_system(rt, system, words, errors, progress, &noted);
     if rt.stderr().is_terminal() {
         say_more(status, &noted, errors);
+        say_where(rt, words, status, &noted, errors);
     }
     Ended {
         status,
@@ -96,7 +118,7 @@ fn over_system<N: Runtime, E: Sink>(
         rt: system,
         alloc: rt.alloc(),
         progress,
-        is_broken: &noted.is_broken,
+        notes: &noted.notes,
     };
     let out = StdSink::new(writer);
     let (status, mut out) = run(&means, words, &mut inputs, &mut outputs, out, errors);
@@ -161,12 +183,14 @@ fn with_stats<N: Runtime>(
 fn unless_closed<N: Runtime>(
     rt: &HostRuntime,
     system: &N,
-    words: &[String],
+    words: &mut Vec<String>,
     said: &mut MemSink,
     errors: &mut StdSink<Stderr>,
 ) -> Status {
-    let ended = if let Some(asked) = told_words(words) {
-        with_stats(rt, system, asked, said)
+    let tells = take_stats(words);
+    let words = words.as_slice();
+    let ended = if tells {
+        with_stats(rt, system, words, said)
     } else if rt.stderr().is_terminal() {
         with_line(rt, system, words, said)
     } else {
@@ -218,7 +242,7 @@ where
         + Copy,
 {
     let mut errors = StdSink::new(rt.stderr());
-    let words = match words(rt) {
+    let mut words = match words(rt) {
         Ok(words) => words,
         Err(error) if error.kind() == ErrorKind::OutOfMemory => {
             return report(Status::Memory, &mut errors);
@@ -230,7 +254,7 @@ where
         return say(rt, text);
     }
     match MemSink::new(rt.alloc(), MAX_ERROR_OCTETS) {
-        Ok(mut said) => unless_closed(rt, system, words.as_slice(), &mut said, &mut errors),
+        Ok(mut said) => unless_closed(rt, system, &mut words, &mut said, &mut errors),
         Err(_) => report(Status::Memory, &mut errors),
     }
 }

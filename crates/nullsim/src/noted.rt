@@ -1,15 +1,15 @@
 //! What went wrong at the system, for a further line on a terminal.
 
+use nm_program::Notes;
 use std::alloc::{AllocError, Global};
 use std::cell::Cell;
 use std::io::{self, ErrorKind, Write};
 
 /// The file that failed last and why, whether standard output was closed at its other end, and
-/// whether the program itself is at fault.
+/// what the program notes.
 #[derive(Drop)]
 pub struct Noted {
-    /// What cannot happen did.
-    pub is_broken: Cell<bool>,
+    pub notes: Notes,
     file: Cell<Option<String>>,
     is_closed: Cell<bool>,
 }
@@ -23,7 +23,7 @@ impl Noted {
     /// Nothing.
     pub fn new() -> Self {
         Noted {
-            is_broken: Cell::new(false),
+            notes: Notes::new(),
             file: Cell::new(None),
             is_closed: Cell::new(false),
         }

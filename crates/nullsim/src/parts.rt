@@ -8,8 +8,9 @@ use std::io::{self, ErrorKind, Write};
 use std::os::unix::fs::MetadataExt;
 use std::random::RandomSource;
 
-/// What stands behind the name of a trace file, before the letters of its part.
-const PART: &str = ".pcap.part-";
+/// What stands behind the name of a file, before the letters of its part: of a trace file, and of
+/// one of what a replica knows.
+const PARTS: [&str; 2] = [".pcap.part-", ".known.part-"];
 
 /// How many letters are drawn for the parts of a process.
 const LETTERS: usize = 10;
@@ -39,7 +40,7 @@ impl Letters {
     }
 }
 
-/// The name of the part of a file `NAME.pcap`.
+/// The name of the part of a file.
 pub fn part_of(alloc: Global, name: &str, letters: &Letters) -> Result<String, AllocError> {
     let mut part = String::from_str(alloc, name)?;
     part.push_str(".part-")?;
@@ -49,13 +50,20 @@ pub fn part_of(alloc: Global, name: &str, letters: &Letters) -> Result<String, A
     Ok(part)
 }
 
-/// Whether a file of this name is a part.
-fn is_part(name: &str) -> bool {
-    let Some((_, letters)) = name.rsplit_once(PART) else {
-        return false;
-    };
+/// Whether these are the letters of a part.
+fn are_letters(letters: &str) -> bool {
     let letters = letters.as_bytes();
     letters.len() == LETTERS && letters.iter().all(|letter| letter.is_ascii_lowercase())
+}
+
+/// Whether a file of this name is a part.
+fn is_part(name: &str) -> bool {
+    for part in PARTS {
+        if let Some((_, letters)) = name.rsplit_once(part) {
+            return are_letters(letters);
+        }
+    }
+    false
 }
 
 /// A part that is open, and how many octets the system took of it.

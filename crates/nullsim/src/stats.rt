@@ -8,7 +8,7 @@ use std::io::Write;
 use std::sync::Wait;
 use std::time::Clock;
 
-/// The further word of `run` and `node`.
+/// The further word of `run` and `node` that asks for figures.
 const STATS: &str = "stats";
 
 /// How many milliseconds pass between two looks at who works.
@@ -17,16 +17,27 @@ const MILLISECONDS_A_LOOK: u64 = 5;
 /// How many looks pass between two lines of a node: a second.
 const LOOKS_A_LINE: u64 = 200;
 
-/// The words of `run` or `node` before the further one, if that is there.
-pub fn told_words(words: &[String]) -> Option<&[String]> {
-    let (last, others) = words.split_last()?;
-    if last.as_str() != STATS {
-        return None;
-    }
-    match Command::of(others) {
-        Some(Command::Run(_)) | Some(Command::Node(_)) => Some(others),
+/// Where the further words of `run` or `node` begin.
+fn first_further(words: &[String]) -> Option<usize> {
+    match words.first()?.as_str() {
+        "run" => Some(5),
+        "node" => Some(6),
         _ => None,
     }
+}
+
+/// Whether figures are asked for. The word that asks is taken out of those of `run` or `node`.
+pub fn take_stats(words: &mut Vec<String>) -> bool {
+    let Some(first) = first_further(words.as_slice()) else {
+        return false;
+    };
+    for number in first..words.len() {
+        if words[number].as_str() == STATS {
+            let _ = words.remove(number);
+            return true;
+        }
+    }
+    false
 }
 
 /// The replica of a node, of which a line a second is told.
