@@ -3,10 +3,9 @@
 use nm_base::MemSink;
 use nm_files::MemOutputs;
 use nm_files::mem_outputs::MemFile;
-use nm_program::{Means, MemInputs, NamedInputs, Runtime, run};
+use nm_program::{Means, MemInputs, NamedInputs, Notes, Runtime, run};
 use nm_progress::Progress;
 use std::alloc::Global;
-use std::cell::Cell;
 use std::rt::Files;
 use std::{fs, io};
 
@@ -71,12 +70,12 @@ fn run_program<R: Runtime + AllocGlobal>(
         standard: given.standard,
         files: given.files,
     });
-    let (progress, is_broken) = (Progress::new(), Cell::new(false));
+    let (progress, notes) = (Progress::new(), Notes::new());
     let means = Means {
         rt,
         alloc: rt.alloc(),
         progress: &progress,
-        is_broken: &is_broken,
+        notes: &notes,
     };
     let (status, out) = run(&means, words, &mut inputs, outputs, out, errors);
     (status.code(), out)

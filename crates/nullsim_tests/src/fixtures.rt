@@ -4,10 +4,9 @@ use nm_base::MemSink;
 use nm_command::Status;
 use nm_files::MemOutputs;
 use nm_files::mem_outputs::MemFile;
-use nm_program::{Inputs, Means, NamedInputs, Runtime, run};
+use nm_program::{Inputs, Means, NamedInputs, Notes, Runtime, run};
 use nm_progress::Progress;
 use std::alloc::{AllocError, Global};
-use std::cell::Cell;
 use std::io;
 
 /// The words of a line.
@@ -29,13 +28,39 @@ pub struct Ended {
     pub files: Vec<MemFile>,
 }
 
+impl Ended {
+    /// The octets of a file that it made; none where it made less.
+    pub fn file(&self, number: usize) -> &[u8] {
+        match self.files.get(number) {
+            Some(file) => file.octets.as_slice(),
+            None => &[],
+        }
+    }
+}
+
+/// The first octets of a list.
+pub fn front(octets: &[u8], count: usize) -> &[u8] {
+    let count = count.min(octets.len());
+    &octets[..count]
+}
+
+/// Changes one octet of a list.
+pub fn change(octets: &mut Vec<u8>, at: usize) {
+    if let Some(octet) = octets.get_mut(at) {
+        *octet ^= 1;
+    }
+}
+
 /// Runs the program on the words of a line and inputs. So many files can be made.
 pub fn run_line<I: Inputs + Drop, R: AllocGlobal + Runtime>(
     rt: &R,
     line: &str,
     inputs: I,
     room: usize,
-) -> io::Result<Ended> {
+) -> io::Result<Ended>
+where
+    I::File: Send,
+{
     let alloc = rt.alloc();
     let words = words_of(alloc, line)?;
     let mut inputs = NamedInputs::new(inputs);
@@ -48,12 +73,12 @@ pub fn run_line<I: Inputs + Drop, R: AllocGlobal + Runtime>(
     };
     let out = MemSink::new(alloc, 1_000)?;
     let mut errors = MemSink::new(alloc, 64)?;
-    let (progress, is_broken) = (Progress::new(), Cell::new(false));
+    let (progress, notes) = (Progress::new(), Notes::new());
     let means = Means {
         rt,
         alloc,
         progress: &progress,
-        is_broken: &is_broken,
+        notes: &notes,
     };
     let (status, out) = run(
         &means,

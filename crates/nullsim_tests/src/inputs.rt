@@ -25,7 +25,10 @@ fn ends<
         + Sync
         + Drop
         + Copy,
->(rt: &R, line: &str, inputs: I, status: Status) -> Result<(), Fail> {
+>(rt: &R, line: &str, inputs: I, status: Status) -> Result<(), Fail>
+where
+    I::File: Send,
+{
     let ended = run_line(rt, line, inputs, 0)?;
     assert!(rt; ended.status == status, "{line}");
     assert!(rt; ended.out.octets().is_empty(), "{line}");

@@ -2,6 +2,8 @@
 #![tactic(auto)]
 
 #[cfg(test)]
+mod certifying;
+#[cfg(test)]
 mod fixtures;
 #[cfg(test)]
 mod gates;
@@ -15,3 +17,5 @@ mod progress;
 mod rings;
 #[cfg(test)]
 mod statuses;
+#[cfg(test)]
+mod verifying;

@@ -57,6 +57,7 @@ where
         folder: "out",
         workers: 2,
         replicas,
+        keeps: false,
         progress,
     };
     Ok(run_all(rt, alloc, &plan, outputs, gate))
