@@ -53,7 +53,7 @@ class Run:
                     if (key, other) in ports:
                         host, port = self.places.proxy_host, ports[key, other]
                     file.write(f"{other[0]} {other[1]} {host}:{port}\n")
-            words = [self.program, "node", self.network.path, folder, str(key[0]), str(key[1]), os.path.join(folder, "addresses"), "stats"]
+            words = [self.program, "node", self.network.path, folder, str(key[0]), str(key[1]), os.path.join(folder, "addresses"), "stats", "keep"]
             self.processes[key] = Process(key, words, folder, self.network.stop, self.places.entrance(key))
 
     def name(self, key):
@@ -114,6 +114,14 @@ class Run:
             count += ended.stdout.count("\niface ")
         return count
 
+    def certify(self):
+        """Has the program certify what replica 0 of each partition left, and what replica 1 did."""
+        for replica in (0, 1):
+            folders = [os.path.join(self.folder, f"{partition}-{own}") for partition, own in sorted(self.processes) if own == replica]
+            ended = subprocess.run([self.program, "certify", self.network.path, "4", *folders], capture_output=True, text=True, check=False)
+            if ended.returncode or not ended.stdout.startswith("certified\n"):
+                raise Failed(f"what the replicas {replica} left is not certified: {ended.stderr.strip()}")
+
     def check_counts(self):
         """What the proxy saw: no message was lost, some Byes were, and each connection broke several times."""
         if self.counts.faults:
@@ -146,6 +154,7 @@ class Run:
             self.is_over = True
             view.show(self, self.seconds(), at_once=True)
             lines = self.last_lines(self.verify(), self.check_counts())
+            self.certify()
         finally:
             await self.proxy.close()
             for process in self.processes.values():
