@@ -4,8 +4,12 @@ use crate::fixtures::{Ended, change, front, run_line};
 use nm_fixtures::SPLIT;
 use nm_program::{MemInputs, Runtime};
 use std::io;
+use std::net::{self, Net};
 use std::process::Abort;
+use std::sync::Wait;
 use std::test::Fail;
+use std::thread::Threads;
+use std::time::Clock;
 
 /// What a run leaves, in the order in which it is made.
 const NAMES: [&str; 4] = ["d/a0.pcap", "d/b0.pcap", "d/0-0.known", "d/1-0.known"];
@@ -87,15 +91,14 @@ fn differs<R: Runtime + AllocGlobal + Abort>(
 }
 
 /// So many partitions at a time, and folders in any order.
-#[test]
-fn files_that_are_whole(rt: HostRuntime) -> Result<(), Fail> {
-    let left = left(&rt)?;
+fn whole<R: Runtime + AllocGlobal + Abort>(rt: &R) -> Result<(), Fail> {
+    let left = left(rt)?;
     assert!(rt; left.files.len() == NAMES.len());
     for number in 0..NAMES.len() {
         assert!(rt; left.files[number].name.as_str() == NAMES[number]);
     }
     for line in ["certify - 1 d", "certify - 2 d", "certify - 64 e d d"] {
-        let ended = certified(&rt, line, &left, 0, left.file(0))?;
+        let ended = certified(rt, line, &left, 0, left.file(0))?;
         assert!(rt; ended.status.code() == 0, "{line}");
         assert!(rt; ended.out.octets() == CERTIFIED, "{line}");
     }
@@ -103,58 +106,55 @@ fn files_that_are_whole(rt: HostRuntime) -> Result<(), Fail> {
 }
 
 /// Each octet of a trace file is changed in turn; it ends there; it goes on.
-#[test]
-fn trace_files_that_differ(rt: HostRuntime) -> Result<(), Fail> {
-    let left = left(&rt)?;
+fn traces<R: Runtime + AllocGlobal + Abort>(rt: &R) -> Result<(), Fail> {
+    let left = left(rt)?;
     for number in 0..2 {
         let mut octets = left.file(number).to_vec(rt.alloc())?;
         for octet in 0..TRACE_OCTETS {
-            differs(&rt, &left, number, front(octets.as_slice(), octet), octet)?;
+            differs(rt, &left, number, front(octets.as_slice(), octet), octet)?;
             change(&mut octets, octet);
-            differs(&rt, &left, number, octets.as_slice(), octet)?;
+            differs(rt, &left, number, octets.as_slice(), octet)?;
             change(&mut octets, octet);
         }
         octets.push(0)?;
-        differs(&rt, &left, number, octets.as_slice(), TRACE_OCTETS)?;
+        differs(rt, &left, number, octets.as_slice(), TRACE_OCTETS)?;
     }
     Ok(())
 }
 
 /// A file of what is known ends at each octet, or goes on, or is that of another partition.
-#[test]
-fn files_of_no_replica(rt: HostRuntime) -> Result<(), Fail> {
-    let left = left(&rt)?;
+fn no_replica<R: Runtime + AllocGlobal + Abort>(rt: &R) -> Result<(), Fail> {
+    let left = left(rt)?;
     let line = "nullsim: not certified 4\n";
     for number in 2..4 {
         let octets = left.file(number);
         for count in 0..octets.len() {
-            refused(&rt, &left, number, front(octets, count), line)?;
+            refused(rt, &left, number, front(octets, count), line)?;
         }
         let mut longer = octets.to_vec(rt.alloc())?;
         longer.push(0)?;
-        refused(&rt, &left, number, longer.as_slice(), line)?;
-        refused(&rt, &left, number, left.file(5 - number), line)?;
+        refused(rt, &left, number, longer.as_slice(), line)?;
+        refused(rt, &left, number, left.file(5 - number), line)?;
     }
     Ok(())
 }
 
 /// A file of what is known is forged at an octet: of another topology, of no replica, a packet that
 /// was not sent, a clock that was not promised, and one that is before the end.
-#[test]
-fn files_that_are_forged(rt: HostRuntime) -> Result<(), Fail> {
-    let left = left(&rt)?;
+fn forged<R: Runtime + AllocGlobal + Abort>(rt: &R) -> Result<(), Fail> {
+    let left = left(rt)?;
     let mut octets = left.file(3).to_vec(rt.alloc())?;
     for at in 0..HELLO {
         let number = if at < DIGEST { 4 } else { 6 };
         let line = format!(in rt.alloc(); "nullsim: not certified {number}\n")?;
         change(&mut octets, at);
-        refused(&rt, &left, 3, octets.as_slice(), line.as_str())?;
+        refused(rt, &left, 3, octets.as_slice(), line.as_str())?;
         change(&mut octets, at);
     }
     for at in PACKET..NULL {
         change(&mut octets, at);
         refused(
-            &rt,
+            rt,
             &left,
             3,
             octets.as_slice(),
@@ -166,18 +166,41 @@ fn files_that_are_forged(rt: HostRuntime) -> Result<(), Fail> {
 }
 
 /// A folder has no file of what is known, or not all trace files.
-#[test]
-fn files_that_are_missing(rt: HostRuntime) -> Result<(), Fail> {
-    let left = left(&rt)?;
+fn missing<R: Runtime + AllocGlobal + Abort>(rt: &R) -> Result<(), Fail> {
+    let left = left(rt)?;
     let none: &[u8] = &[];
-    let ended = certified(&rt, "certify - 2 e", &left, 0, none)?;
+    let ended = certified(rt, "certify - 2 e", &left, 0, none)?;
     assert!(rt; ended.errors.octets() == b"nullsim: not certified 4\n".as_slice());
     let known = [("d/0-1.known", left.file(2)), ("d/1-0.known", left.file(3))];
     let inputs = MemInputs {
         standard: SPLIT.as_bytes(),
         files: &known,
     };
-    let ended = run_line(&rt, "certify - 2 d", inputs, 0)?;
+    let ended = run_line(rt, "certify - 2 d", inputs, 0)?;
     assert!(rt; ended.errors.octets() == b"nullsim: file\n".as_slice());
     Ok(())
+}
+
+/// All of these, one after another.
+fn all<
+    R: Abort
+        + AllocGlobal
+        + Net<Stream = net::TcpStream, Listener = net::TcpListener>
+        + Threads
+        + Wait
+        + Clock
+        + Sync
+        + Drop
+        + Copy,
+>(rt: &R) -> Result<(), Fail> {
+    whole(rt)?;
+    traces(rt)?;
+    no_replica(rt)?;
+    forged(rt)?;
+    missing(rt)
+}
+
+#[test]
+fn files_that_replicas_left(rt: HostRuntime) -> Result<(), Fail> {
+    all(&rt)
 }

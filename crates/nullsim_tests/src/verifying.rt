@@ -4,8 +4,12 @@ use crate::fixtures::{Ended, change, front, run_line};
 use nm_fixtures::DUO;
 use nm_program::{Inputs, MemInputs, Runtime};
 use std::io::{self, ErrorKind, Read};
+use std::net::{self, Net};
 use std::process::Abort;
+use std::sync::Wait;
 use std::test::Fail;
+use std::thread::Threads;
+use std::time::Clock;
 
 /// The octets of each file: its header, and one record with a packet of 100.
 const OCTETS: usize = 140;
@@ -55,84 +59,79 @@ fn differs<R: Runtime + AllocGlobal + Abort>(
     Ok(())
 }
 
-#[test]
-fn files_that_are_whole(rt: HostRuntime) -> Result<(), Fail> {
-    let made = made(&rt)?;
+fn whole<R: Runtime + AllocGlobal + Abort>(rt: &R) -> Result<(), Fail> {
+    let made = made(rt)?;
     let (a0, b0) = (made.file(0), made.file(1));
     assert!(rt; a0.len() == OCTETS && b0.len() == OCTETS);
-    let ended = verified(&rt, "verify - d", a0, b0)?;
+    let ended = verified(rt, "verify - d", a0, b0)?;
     assert!(rt; ended.status.code() == 0);
     assert!(rt; ended.out.octets() == VERIFIED);
     Ok(())
 }
 
 /// Each octet of both is changed in turn.
-#[test]
-fn an_octet_that_differs(rt: HostRuntime) -> Result<(), Fail> {
-    let made = made(&rt)?;
+fn octets_changed<R: Runtime + AllocGlobal + Abort>(rt: &R) -> Result<(), Fail> {
+    let made = made(rt)?;
     let mut a0 = made.file(0).to_vec(rt.alloc())?;
     let mut b0 = made.file(1).to_vec(rt.alloc())?;
     for octet in 0..OCTETS {
         change(&mut a0, octet);
-        differs(&rt, a0.as_slice(), b0.as_slice(), "a0", octet)?;
+        differs(rt, a0.as_slice(), b0.as_slice(), "a0", octet)?;
         change(&mut a0, octet);
         change(&mut b0, octet);
-        differs(&rt, a0.as_slice(), b0.as_slice(), "b0", octet)?;
+        differs(rt, a0.as_slice(), b0.as_slice(), "b0", octet)?;
         change(&mut b0, octet);
     }
     Ok(())
 }
 
 /// Each ends at every octet in turn, and goes on by one.
-#[test]
-fn files_of_another_length(rt: HostRuntime) -> Result<(), Fail> {
-    let made = made(&rt)?;
+fn lengths<R: Runtime + AllocGlobal + Abort>(rt: &R) -> Result<(), Fail> {
+    let made = made(rt)?;
     let mut a0 = made.file(0).to_vec(rt.alloc())?;
     let mut b0 = made.file(1).to_vec(rt.alloc())?;
     for octet in 0..OCTETS {
         let (a0, b0) = (a0.as_slice(), b0.as_slice());
-        differs(&rt, front(a0, octet), b0, "a0", octet)?;
-        differs(&rt, a0, front(b0, octet), "b0", octet)?;
+        differs(rt, front(a0, octet), b0, "a0", octet)?;
+        differs(rt, a0, front(b0, octet), "b0", octet)?;
     }
     b0.push(0)?;
-    differs(&rt, a0.as_slice(), b0.as_slice(), "b0", OCTETS)?;
+    differs(rt, a0.as_slice(), b0.as_slice(), "b0", OCTETS)?;
     a0.push(0)?;
-    differs(&rt, a0.as_slice(), b0.as_slice(), "a0", OCTETS)
+    differs(rt, a0.as_slice(), b0.as_slice(), "a0", OCTETS)
 }
 
 /// Headers come before records, these in the order of events, and ends after them. Two files that
 /// are exchanged differ in the first record, by its time.
-#[test]
-fn the_first_that_differs(rt: HostRuntime) -> Result<(), Fail> {
-    let made = made(&rt)?;
+fn order<R: Runtime + AllocGlobal + Abort>(rt: &R) -> Result<(), Fail> {
+    let made = made(rt)?;
     let mut a0 = made.file(0).to_vec(rt.alloc())?;
     let mut b0 = made.file(1).to_vec(rt.alloc())?;
     let second = HEADER_OCTETS + 4;
-    differs(&rt, b0.as_slice(), a0.as_slice(), "a0", second)?;
+    differs(rt, b0.as_slice(), a0.as_slice(), "a0", second)?;
     change(&mut a0, OCTETS - 1);
     change(&mut b0, OCTETS - 1);
-    differs(&rt, a0.as_slice(), b0.as_slice(), "a0", OCTETS - 1)?;
+    differs(rt, a0.as_slice(), b0.as_slice(), "a0", OCTETS - 1)?;
     change(&mut b0, HEADER_OCTETS - 1);
-    differs(&rt, a0.as_slice(), b0.as_slice(), "b0", HEADER_OCTETS - 1)?;
+    differs(rt, a0.as_slice(), b0.as_slice(), "b0", HEADER_OCTETS - 1)?;
     change(&mut a0, OCTETS - 1);
     a0.push(0)?;
     change(&mut b0, HEADER_OCTETS - 1);
-    differs(&rt, a0.as_slice(), b0.as_slice(), "b0", OCTETS - 1)
+    differs(rt, a0.as_slice(), b0.as_slice(), "b0", OCTETS - 1)
 }
 
 /// Files that are not asked for are not looked at.
-#[test]
-fn files_of_some_interfaces(rt: HostRuntime) -> Result<(), Fail> {
-    let made = made(&rt)?;
+fn some<R: Runtime + AllocGlobal + Abort>(rt: &R) -> Result<(), Fail> {
+    let made = made(rt)?;
     let (a0, b0) = (made.file(0), made.file(1));
-    let ended = verified(&rt, "verify - d b0", front(a0, 1), b0)?;
+    let ended = verified(rt, "verify - d b0", front(a0, 1), b0)?;
     assert!(rt; ended.status.code() == 0);
     assert!(rt; ended.out.octets() == b"verified\niface b0 records 1 octets 140\n".as_slice());
-    let ended = verified(&rt, "verify - d a0 b0 b0", a0, b0)?;
+    let ended = verified(rt, "verify - d a0 b0 b0", a0, b0)?;
     assert!(rt; ended.out.octets() == VERIFIED);
-    let ended = verified(&rt, "verify - d c0", a0, b0)?;
+    let ended = verified(rt, "verify - d c0", a0, b0)?;
     assert!(rt; ended.errors.octets() == b"nullsim: no interface\n".as_slice());
-    let ended = verified(&rt, "verify - e", a0, b0)?;
+    let ended = verified(rt, "verify - e", a0, b0)?;
     assert!(rt; ended.errors.octets() == b"nullsim: file\n".as_slice());
     Ok(())
 }
@@ -184,16 +183,40 @@ impl<'a> Inputs for OneFile<'a> {
 }
 
 /// A read fails after so many octets, also where only the end is left to be seen.
-#[test]
-fn a_file_that_cannot_be_read(rt: HostRuntime) -> Result<(), Fail> {
-    let made = made(&rt)?;
+fn unreadable<R: Runtime + AllocGlobal + Abort>(rt: &R) -> Result<(), Fail> {
+    let made = made(rt)?;
     for count in [0, 1, HEADER_OCTETS, OCTETS - 1, OCTETS] {
         let octets = front(made.file(0), count);
-        let ended = run_line(&rt, "verify - d a0", OneFile { octets }, 0)?;
+        let ended = run_line(rt, "verify - d a0", OneFile { octets }, 0)?;
         assert!(rt;
             ended.errors.octets() == b"nullsim: file\n".as_slice(),
             "{count}"
         );
     }
     Ok(())
+}
+
+/// All of these, one after another.
+fn all<
+    R: Abort
+        + AllocGlobal
+        + Net<Stream = net::TcpStream, Listener = net::TcpListener>
+        + Threads
+        + Wait
+        + Clock
+        + Sync
+        + Drop
+        + Copy,
+>(rt: &R) -> Result<(), Fail> {
+    whole(rt)?;
+    octets_changed(rt)?;
+    lengths(rt)?;
+    order(rt)?;
+    some(rt)?;
+    unreadable(rt)
+}
+
+#[test]
+fn files_that_are_there(rt: HostRuntime) -> Result<(), Fail> {
+    all(&rt)
 }
