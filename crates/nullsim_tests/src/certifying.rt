@@ -1,6 +1,6 @@
 //! What replicas left in a folder, with one file forged at a time.
 
-use crate::fixtures::{Ended, change, front, run_line};
+use crate::fixtures::{Ended, behind, change, front, run_line};
 use nm_fixtures::SPLIT;
 use nm_program::{MemInputs, Runtime};
 use std::io;
@@ -140,7 +140,7 @@ fn no_replica<R: Runtime + AllocGlobal + Abort>(rt: &R) -> Result<(), Fail> {
 }
 
 /// A file of what is known is forged at an octet: of another topology, of no replica, a packet that
-/// was not sent, a clock that was not promised, and one that is before the end.
+/// was not sent.
 fn forged<R: Runtime + AllocGlobal + Abort>(rt: &R) -> Result<(), Fail> {
     let left = left(rt)?;
     let mut octets = left.file(3).to_vec(rt.alloc())?;
@@ -163,6 +163,31 @@ fn forged<R: Runtime + AllocGlobal + Abort>(rt: &R) -> Result<(), Fail> {
         change(&mut octets, at);
     }
     Ok(())
+}
+
+/// A clock that was not promised; one that is earlier, and still past the end, which changes nothing;
+/// a message that is left out.
+fn clocks<R: Runtime + AllocGlobal + Abort>(rt: &R) -> Result<(), Fail> {
+    let left = left(rt)?;
+    let mut octets = left.file(3).to_vec(rt.alloc())?;
+    let end = octets.len().max(9);
+    change(&mut octets, end - 1);
+    refused(
+        rt,
+        &left,
+        3,
+        octets.as_slice(),
+        "nullsim: not certified 3\n",
+    )?;
+    change(&mut octets, end - 1);
+    change(&mut octets, end - 3);
+    let ended = certified(rt, "certify - 2 d", &left, 3, octets.as_slice())?;
+    assert!(rt; ended.out.octets() == CERTIFIED);
+    change(&mut octets, end - 3);
+    change(&mut octets, end - 9);
+    let mut fewer = front(octets.as_slice(), HELLO).to_vec(rt.alloc())?;
+    fewer.extend_from_slice(behind(octets.as_slice(), NULL))?;
+    refused(rt, &left, 3, fewer.as_slice(), "nullsim: not certified 2\n")
 }
 
 /// A folder has no file of what is known, or not all trace files.
@@ -197,6 +222,7 @@ fn all<
     traces(rt)?;
     no_replica(rt)?;
     forged(rt)?;
+    clocks(rt)?;
     missing(rt)
 }
 

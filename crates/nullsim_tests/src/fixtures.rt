@@ -44,6 +44,12 @@ pub fn front(octets: &[u8], count: usize) -> &[u8] {
     &octets[..count]
 }
 
+/// Those behind them.
+pub fn behind(octets: &[u8], count: usize) -> &[u8] {
+    let count = count.min(octets.len());
+    &octets[count..]
+}
+
 /// Changes one octet of a list.
 pub fn change(octets: &mut Vec<u8>, at: usize) {
     if let Some(octet) = octets.get_mut(at) {
