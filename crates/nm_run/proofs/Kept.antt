@@ -8,7 +8,7 @@ use Rattle.nm_book.specs.Book.{BookValue}
 use Rattle.nm_files.specs.Outputs.{AreWhole, Files, HasMade, HasMadeSome}
 use Rattle.nm_files.specs.declared.closed_files.ClosedFile.{ClosedFile}
 use Rattle.nm_files.proofs.Made.{made_more, made_some_more, made_some_of}
-use Rattle.nm_run.specs.Files.{AreClosed, AreKept, AreRunFiles, HaveFiles, HaveSomeFiles, Leaving, kept_file, kept_files, run_files}
+use Rattle.nm_run.specs.Files.{AreClosed, AreKeptBooks, AreRunFiles, HaveFiles, HaveSomeFiles, Leaving, kept_file, kept_files, run_files}
 use Rattle.nm_run.specs.declared.report.IfaceTotals.{IfaceTotals}
 
 -- those of some books
@@ -29,7 +29,7 @@ pub no_books : (run : Leaving) (books : List BookValue) (made : Option Files) (c
 no_books run books made closed keeps none = subst (λ k. AreWhole made closed (cond k (firsts run.folder books) [])) (sym keeps) (λ first told. none)
 
 module _ {C : Type 0} (closed : C → Option (List ℕ × List ℕ)) (before mid : Option Files) (run : Leaving) (t : TopologyValue) (totals : List IfaceTotals) (traces : List (ClosedFile C)) (known : List C)
-    (are_closed : AreClosed closed before run.folder t totals traces) (are_kept : AreKept closed before run t known) where
+    (are_closed : AreClosed closed before run.folder t totals traces) (are_kept : AreKeptBooks closed before run t known) where
   first_files : Files
   first_files = run_files run.folder t are_closed.0
 

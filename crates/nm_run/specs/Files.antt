@@ -71,9 +71,9 @@ abbrev pub kept_files : Leaving → List BookValue → Files
 kept_files run books = if run.keeps then flat_map (kept_file run.folder) books else []
 
 -- such files were closed, of books that are certified
-abbrev pub AreKept : {C : Type 0} → (C → Option (List ℕ × List ℕ)) → Option Files → Leaving
+abbrev pub AreKeptBooks : {C : Type 0} → (C → Option (List ℕ × List ℕ)) → Option Files → Leaving
     → TopologyValue → List C → Type 0
-AreKept closed made run t all =
+AreKeptBooks closed made run t all =
     (books : List BookValue) × (AreOfRun t run.replicas books × AreCertified t books)
     × AreWhole made (map closed all) (kept_files run books)
 

@@ -7,7 +7,7 @@ ghost use Rattle.nm_run.specs.Faults.{HasReason, IsOfFiles};
 ghost use Rattle.nm_replica.specs.Seats.{board_of};
 ghost use Rattle.nm_peers.specs.Peers.{ArePeers};
 ghost use Rattle.nm_rounds.specs.Certify.{AreCertified};
-ghost use Rattle.nm_run.specs.Files.{AreClosed, AreKept, AreNamed, AreOwnFiles, HaveFiles};
+ghost use Rattle.nm_run.specs.Files.{AreClosed, AreKeptBooks, AreNamed, AreOwnFiles, HaveFiles};
 ghost use Rattle.nm_run.specs.Leaving.{leaving};
 ghost use Rattle.nm_run.specs.Replicas.{AreAllReplicas};
 ghost use Rattle.nm_shared.specs.Board.{AreFirstOwners};
@@ -304,7 +304,7 @@ where
     ensures closed { IfOk result (λ run. AreClosed F.closed (F.made outputs.old)
         plan.now.folder.now (arc_value plan.now.topology.now) run.report.totals.items
         run.traces.files.items) }
-    ensures kept { IfOk result (λ run. AreKept F.closed (F.made outputs.old) (leaving plan.now)
+    ensures kept { IfOk result (λ run. AreKeptBooks F.closed (F.made outputs.old) (leaving plan.now)
         (arc_value plan.now.topology.now) run.known.items) }
     ensures refused { IfErr result
         (HasReason (arc_value plan.now.topology.now) plan.now.replicas) }
