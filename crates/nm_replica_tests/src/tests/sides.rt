@@ -50,7 +50,19 @@ pub struct Company {
     pub idle_limit: u64,
 }
 
+/// A network, and a replica of it.
+#[derive(Clone, Copy)]
+struct Side<'a> {
+    topology: &'a Arc<Topology>,
+    company: Company,
+}
+
 impl Company {
+    /// Its partition.
+    fn partition(self) -> PartNo {
+        PartNo::new(if self.is_called { 1 } else { 0 })
+    }
+
     /// How many partitions it calls, and how many replicas call it.
     fn counts(self) -> (usize, usize)
         ensures { (result.0 ≤ 1) × (result.1 ≤ 2) }
@@ -121,82 +133,73 @@ pub fn books_of<R: Abort>(
     ]
 }
 
-/// Serves a replica with what it holds. It does its events itself.
-fn serve_held<'x, N: Transport, R: Wait>(
-    rt: &R,
-    alloc: Global,
-    topology: &'x Arc<Topology>,
+/// A replica of these that does its events itself.
+fn service_of<'x>(
+    side: Side<'x>,
     book: &'x SharedBook<Plain>,
     peers: &'x [PartNo],
     callers: &'x [ReplicaName],
     lending: &'x Lending,
-    holdings: &mut Holdings<'_, Plain, MemSink>,
-    company: Company,
-    transport: &mut N,
-    gate: &Noting,
     progress: &'x Progress,
-) -> Served {
-    let replica = Service {
-        topology,
+) -> Service<'x, Plain> {
+    Service {
+        topology: side.topology,
         book,
         peers,
         callers,
         books: &[],
-        idle_limit: company.idle_limit,
+        idle_limit: side.company.idle_limit,
         run_limit: 4_096,
         lending,
         progress: Some(progress),
         notes_progress: false,
         keeps_records: true,
-    };
-    run_replica(rt, alloc, &replica, holdings, transport, gate)
+    }
 }
 
-/// Serves a replica with this pass of its book: what that came to, the pass, and how many messages
-/// it wrote again.
+/// How many messages a replica wrote again, by what was noted.
+fn resent_of(progress: &Progress, partition: PartNo) -> u64 {
+    match progress.figures() {
+        Some(figures) => figures.of(partition, 0).get(Figure::Resent),
+        None => 0,
+    }
+}
+
+/// Serves a replica with a pass of its book: what that came to, the pass, and how many messages it
+/// wrote again.
 fn serve_with<N: Transport, R: Wait + Abort>(
     rt: &R,
     alloc: Global,
-    topology: &Arc<Topology>,
+    side: Side<'_>,
     book: &SharedBook<Plain>,
-    pass: Pass<Plain>,
-    company: Company,
     transport: &mut N,
     gate: &Noting,
 ) -> (Served, Pass<Plain>, u64) {
-    let partition = PartNo::new(if company.is_called { 1 } else { 0 });
-    let (board, owners, _) = ClockBoard::new(alloc, topology).expect(rt, "memory");
-    let seats = OwnSeats::of_replica(alloc, topology, &board, partition, 0, owners).expect(
+    let partition = side.company.partition();
+    let (board, owners, _) = ClockBoard::new(alloc, side.topology).expect(rt, "memory");
+    let seats = OwnSeats::of_replica(alloc, side.topology, &board, partition, 0, owners).expect(
         rt, "memory",
     );
     let mut holdings = Holdings {
-        pass,
+        pass: book.pass(rt).expect(rt, "memory"),
         passes: Vec::new(alloc),
         seats,
         files: TraceFiles::new(alloc),
     };
+    let lending = Lending::alone();
     let progress = Progress::with_figures(alloc).expect(rt, "memory");
     let (peers, callers) = ([PartNo::new(1)], [caller(0), caller(1)]);
-    let (peer_count, caller_count) = company.counts();
-    let served = serve_held(
-        rt,
-        alloc,
-        topology,
+    let (peer_count, caller_count) = side.company.counts();
+    let service = service_of(
+        side,
         book,
         &peers[..peer_count],
         &callers[..caller_count],
-        &Lending::alone(),
-        &mut holdings,
-        company,
-        transport,
-        gate,
+        &lending,
         &progress,
     );
-    let resent = match progress.figures() {
-        Some(figures) => figures.of(partition, 0).get(Figure::Resent),
-        None => 0,
-    };
-    (served, holdings.pass, resent)
+    let served = run_replica(rt, alloc, &service, &mut holdings, transport, gate);
+    (served, holdings.pass, resent_of(&progress, partition))
 }
 
 /// The book that has no pass but this one.
@@ -223,12 +226,9 @@ pub fn serve<N: Transport, R: Wait + Abort>(
     transport: &mut N,
     gate: &Noting,
 ) -> Closed {
-    let partition = if company.is_called { 1 } else { 0 };
-    let book = book_of(rt, alloc, topology, partition, 0);
-    let pass = book.pass(rt).expect(rt, "memory");
-    let (served, pass, resent) = serve_with(
-        rt, alloc, topology, &book, pass, company, transport, gate,
-    );
+    let book = book_of(rt, alloc, topology, company.partition().number(), 0);
+    let side = Side { topology, company };
+    let (served, pass, resent) = serve_with(rt, alloc, side, &book, transport, gate);
     let book = close(rt, alloc, book, pass).book;
     Closed {
         served,

@@ -27,19 +27,15 @@ fn finish<R: Wait + Abort>(rt: &R, alloc: Global, book: &SharedBook<Plain>) -> P
     pass
 }
 
-/// Serves replica 1, to which nobody speaks, beside its sister.
-fn serve_sister<'x, R: Wait>(
-    rt: &R,
-    alloc: Global,
+/// Replica 1 beside its sister.
+fn sister_of<'x>(
     topology: &'x Arc<Topology>,
     books: &'x [SharedBook<Plain>],
     own: &'x SharedBook<Plain>,
     callers: &'x [ReplicaName],
     lending: &'x Lending,
-    holdings: &mut Holdings<'_, Plain, MemSink>,
-) -> Served {
-    let mut transport = Scripted::new(alloc, Vec::new(alloc), true, NEVER);
-    let replica = Service {
+) -> Service<'x, Plain> {
+    Service {
         topology,
         book: own,
         peers: &[],
@@ -51,18 +47,10 @@ fn serve_sister<'x, R: Wait>(
         progress: None,
         notes_progress: false,
         keeps_records: false,
-    };
-    run_replica(
-        rt,
-        alloc,
-        &replica,
-        holdings,
-        &mut transport,
-        &Noting::new(),
-    )
+    }
 }
 
-/// Serves replica 1 with a pass of each of both books.
+/// Serves replica 1, to which nobody speaks, with a pass of each of both books.
 fn serve_beside<R: Wait + Abort>(
     rt: &R,
     alloc: Global,
@@ -83,15 +71,16 @@ fn serve_beside<R: Wait + Abort>(
         files: TraceFiles::new(alloc),
     };
     let callers = [caller(0)];
-    serve_sister(
+    let lending = Lending::alone();
+    let service = sister_of(topology, books, own, &callers, &lending);
+    let mut transport = Scripted::new(alloc, Vec::new(alloc), true, NEVER);
+    run_replica(
         rt,
         alloc,
-        topology,
-        books,
-        own,
-        &callers,
-        &Lending::alone(),
+        &service,
         &mut holdings,
+        &mut transport,
+        &Noting::new(),
     )
 }
 
