@@ -1,5 +1,5 @@
 -- Files that replicas left, found in folders and certified.
-use Rattle.std.proofs.Common.{◌≡◌, ◌⊎◌, inl, inr, ℕ, zero, suc, ◌+◌, ◌<◌, ◌≤◌, ◌==◌, ◌++◌, ◌∷◌, Bool, true, false, ◌&&◌, Contains, IfOk, IfSome, OnOk, List, [], codes, length, length-append, map, get_or, slice_get, Option, Some, None, is_some, option_map, Result, Ok, Err, refl, sym, ◌∙◌, ap, subst, arith}
+use Rattle.std.proofs.Common.{◌≡◌, ◌⊎◌, inl, inr, ℕ, zero, suc, ◌+◌, ◌<◌, ◌≤◌, ◌==◌, ◌++◌, ◌∷◌, Bool, true, false, ◌&&◌, IfOk, IfSome, OnOk, List, [], codes, length, length-append, map, get_or, slice_get, Option, Some, None, is_some, option_map, Result, Ok, Err, refl, sym, ◌∙◌, ap, subst, arith}
 use Rattle.std.specs.Str.{bytes_eq}
 use Rattle.std.proofs.lemmas.Bool.{true≢false}
 use Rattle.std.proofs.lemmas.Option.{IfSome_then, none-some, same_Some, slice_get-get_or, slice_get-map, slice_get_within, get_or_from_slice_get}
@@ -33,7 +33,7 @@ use Rattle.nm_files.proofs.Records.{whole_file}
 use Rattle.nm_book.specs.Book.{BookValue}
 use Rattle.nm_rounds.specs.Certify.{AreCertified}
 use Rattle.nm_known.specs.Keeping.{known_name}
-use Rattle.nm_known.specs.Known.{IsNoFile, IsOfOther, known_octets}
+use Rattle.nm_known.specs.Known.{ExplainsText, IsNoFile, IsOfOther, known_octets}
 use Rattle.nm_known.specs.declared.known_fault.KnownCause.{KnownCause}
 use Rattle.nm_known.specs.declared.known_fault.KnownCause.TheVariants as known
 use Rattle.nm_certify.proofs.Certified.{mapped_at}
@@ -44,8 +44,8 @@ use Rattle.nm_certify.specs.declared.fault.CertifyCause.TheVariants as cause
 use Rattle.nm_certify.specs.declared.part_files.PartFiles.{PartFiles}
 use Rattle.nm_command.specs.declared.status.Status.{Status}
 use Rattle.nm_command.specs.declared.status.Status.TheVariants as status
-use Rattle.nm_offline.specs.Certify.{AreFilesCertified, AreNotCertified, ArePlaces, AreTheirBooks, AreTheirTraces, CertifyAsked, ExplainsFiles, HasNoFile, IsStatusOfFiles, FilePlace, known_text, trace_text, trace_texts}
-use Rattle.nm_offline.specs.Finding.{AllFound, AreCertifiedBooks, AreFound, AreOpened, AreOwnTexts, DiffersInHeader, IsOpened, NoneIsFound, found_place}
+use Rattle.nm_offline.specs.Certify.{AreFilesCertified, AreNotCertified, ArePlaces, AreTheirBooks, AreTheirTraces, CertifyAsked, ExplainsFiles, HasNoFile, HaveNoFile, IsFilePlace, IsNotCertified, IsStatusOfFiles, FilePlace, known_text, refused_number, trace_text, trace_texts}
+use Rattle.nm_offline.specs.Finding.{AllFound, AreCertifiedBooks, AreOpened, AreOwnTexts, DiffersInHeader, IsFound, IsLeastIn, IsOpened, NoneIsFound, found_place}
 use Rattle.nm_offline.specs.Input.{InputsSeen}
 use Rattle.nm_sim.specs.Totals.{totals_of}
 use Rattle.nm_offline.specs.Lines.{AreOfPartitions, AreTotals, iface_lines}
@@ -66,10 +66,6 @@ known_not_standard (x ∷ y ∷ folder) partition replica = never (x == 45)
 -- the folder of a number, by its name
 pub name_at : {X : Type 0} (f : X → List ℕ) (folders : List X) (n : ℕ) (item : X) (own : List ℕ) → n < length folders → item ≡ get_or folders n item → own ≡ f item → slice_get (map f folders) n ≡ Some own
 name_at f folders n item own low is called = slice_get-map f folders n ∙ ap (option_map f) (slice_get-get_or folders n item low ∙ ap (λ x. Some x) (sym is)) ∙ ap (λ l. Some l) (sym called)
-
--- none of the first folders has a file of what is known of partition p
-abbrev pub HaveNoFile : InputsSeen → (folders : List (List ℕ)) → (n : ℕ) → (p : ℕ) → Type 0
-HaveNoFile inputs folders n p = (m : ℕ) (folder : List ℕ) (replica : ℕ) → m < n → slice_get folders m ≡ Some folder → replica ≤ MAX_REPLICA → inputs.text (known_name folder p replica) ≡ None
 
 pub one_has_none : (inputs : InputsSeen) (folders : List (List ℕ)) (n p : ℕ) (own : List ℕ) → HaveNoFile inputs folders n p → slice_get folders n ≡ Some own
     → ((replica : ℕ) → replica ≤ MAX_REPLICA → inputs.text (known_name own p replica) ≡ None) → HaveNoFile inputs folders (n + 1) p
@@ -94,6 +90,19 @@ one_more_at P xs x before here n y at =
     pick (inr is) = subst (λ k. P k y) (sym is) (subst (P (length xs)) (same_Some x y (sym (next_behind xs (x ∷ [])) ∙ ap (slice_get (xs ++ x ∷ [])) (sym is) ∙ at)) here)
 
 module _ {B : Type 0} (left : B → Option (List ℕ)) (inputs : InputsSeen) (folders : List (List ℕ)) where
+  -- no folder before had one, and this folder has this one
+  pub first_found : (n p : ℕ) (own : List ℕ) (f : Found B) → HaveNoFile inputs folders n p → slice_get folders n ≡ Some own → IsLeastIn left inputs own p f → IsFound left inputs folders p f
+  first_found n p own f before at least = record {
+    first = record {
+      number = n;
+      there = at ∙ ap (λ l. Some l) (sym least.found.folder_is);
+      within = least.within;
+      before = before;
+      beside = λ replica low. ap (λ l. inputs.text (known_name l p replica)) least.found.folder_is ∙ least.beside replica low;
+    };
+    text = subst (λ l. IfSome (inputs.text (known_name l p f.replica)) (λ text. left f.known ≡ Some text)) (sym least.found.folder_is) least.found.text;
+  }
+
   -- of no partition a file was found so far
   pub none_found : (all : List (Found B)) → all ≡ [] → AllFound left inputs folders 0 all
   none_found all none = record {
@@ -102,31 +111,36 @@ module _ {B : Type 0} (left : B → Option (List ℕ)) (inputs : InputsSeen) (fo
   }
 
   -- one of one partition more was
-  pub one_found : (all new : List (Found B)) (f : Found B) (n : ℕ) → AllFound left inputs folders n all → AreFound left inputs folders n f → new ≡ all ++ f ∷ [] → AllFound left inputs folders (n + 1) new
+  pub one_found : (all new : List (Found B)) (f : Found B) (n : ℕ) → AllFound left inputs folders n all → IsFound left inputs folders n f → new ≡ all ++ f ∷ [] → AllFound left inputs folders (n + 1) new
   one_found all new f n found one more = record {
     count = let long = ap length more ∙ length-append all (f ∷ []) in let was = found.count in omega (arith, long, was);
-    each = λ p g at. one_more_at (AreFound left inputs folders) all f found.each (subst (λ k. AreFound left inputs folders k f) (sym found.count) one) p g (sym (ap (λ l. slice_get l p) more) ∙ at);
+    each = λ p g at. one_more_at (IsFound left inputs folders) all f found.each (subst (λ k. IsFound left inputs folders k f) (sym found.count) one) p g (sym (ap (λ l. slice_get l p) more) ∙ at);
   }
 
-  pub are_places : (t : TopologyValue) (all : List (Found B)) → AllFound left inputs folders t.partitions all → ArePlaces folders t (map found_place all)
+  pub are_places : (t : TopologyValue) (all : List (Found B)) → AllFound left inputs folders t.partitions all → ArePlaces inputs folders t (map found_place all)
   are_places t all found = record {
     count = length-map all found_place ∙ found.count;
     each = λ p place at.
         let f = mapped_at found_place all p place at in
-        let is = found.each p f.0 f.1 in
-        subst (λ (q : FilePlace). Contains folders q.folder × (q.replica ≤ MAX_REPLICA)) f.2 (is.folder, is.replica);
+        subst (IsFilePlace inputs folders p) f.2 (found.each p f.0 f.1).first;
   }
 
 -- the texts of a partition's trace files are those in its folder
-pub own_texts : (inputs : InputsSeen) (t : TopologyValue) (places : List FilePlace) (p : ℕ) (place : FilePlace) → slice_get places p ≡ Some place → AreOwnTexts inputs place.folder t p (trace_texts inputs t places)
+own_texts : (inputs : InputsSeen) (t : TopologyValue) (places : List FilePlace) (p : ℕ) (place : FilePlace) → slice_get places p ≡ Some place → AreOwnTexts inputs place.folder t p (trace_texts inputs t places)
 own_texts inputs t places p place at = λ n iface is own.
     ap (λ k. trace_text inputs.text (slice_get places k) (slice_get t.ifaces n)) own
     ∙ ap (λ o. trace_text inputs.text o (slice_get t.ifaces n)) at ∙ ap (trace_text inputs.text (Some place)) is
 
-pub place_at : {B : Type 0} (found : List (Found B)) (p : ℕ) (f : Found B) → slice_get found p ≡ Some f → slice_get (map found_place found) p ≡ Some (found_place f)
+place_at : {B : Type 0} (found : List (Found B)) (p : ℕ) (f : Found B) → slice_get found p ≡ Some f → slice_get (map found_place found) p ≡ Some (found_place f)
 place_at (g ∷ found) zero f at = ap (λ x. Some (found_place x)) (same_Some g f at)
 place_at (g ∷ found) (suc p) f at = place_at found p f at
 place_at [] p f at = absurd (none-some f at)
+
+-- those of the next that was found
+pub next_texts : {B : Type 0} (inputs : InputsSeen) (t : TopologyValue) (found done rest : List (Found B)) (f : Found B) (p : ℕ) → found ≡ done ++ f ∷ rest → p ≡ length done
+    → AreOwnTexts inputs f.folder.now t p (trace_texts inputs t (map found_place found))
+next_texts inputs t found done rest f p all is =
+    own_texts inputs t (map found_place found) p (found_place f) (place_at found p f (ap (λ l. slice_get l p) all ∙ ap (slice_get (done ++ f ∷ rest)) is ∙ next_behind done (f ∷ rest)))
 
 module _ {B : Type 0} (left : B → Option (List ℕ)) (texts : ℕ → Option (List ℕ)) (t : TopologyValue) where
   pub none_opened : (found : List (Found B)) (parts : List (PartFiles B)) → found ≡ [] → parts ≡ [] → AreOpened left texts t found parts
@@ -154,7 +168,7 @@ not_found inputs folders t fault (p, low, inl memory) = subst (ExplainsFiles inp
 not_found inputs folders t fault (p, low, inr (inl failed)) = subst (ExplainsFiles inputs folders t) (sym failed) tt
 not_found inputs folders t fault (p, low, inr (inr (missing, none))) = subst (ExplainsFiles inputs folders t) (sym missing) (inl (refl, p, low, none))
 
-module _ (inputs : InputsSeen) (folders : List (List ℕ)) (t : TopologyValue) (places : List FilePlace) (placed : ArePlaces folders t places)
+module _ (inputs : InputsSeen) (folders : List (List ℕ)) (t : TopologyValue) (places : List FilePlace) (placed : ArePlaces inputs folders t places)
     (records : List (Record (List ℕ))) (trace : IsTraceBefore t t.stop records) where
   -- a header differs
   pub not_opened : (fault : Fault CheckCause) → ((own octet : ℕ) → fault ≡ Refused (check.Differs own octet) → DiffersInHeader (trace_texts inputs t places) t own octet)
@@ -205,7 +219,7 @@ module _ {B : Type 0} (left : B → Option (List ℕ)) (inputs : InputsSeen) (fo
   places : List FilePlace
   places = map found_place found
 
-  placed : ArePlaces folders t places
+  placed : ArePlaces inputs folders t places
   unfolding places
   placed = are_places left inputs folders t found all
 
@@ -221,7 +235,7 @@ module _ {B : Type 0} (left : B → Option (List ℕ)) (inputs : InputsSeen) (fo
       (f.0, f.1, f.2, (files.0, files.1, opened.each p f.0 files.0 f.1 files.1))
 
   -- what is told of a file holds of its text
-  of_text : (p : ℕ) (f : Found B) (files : PartFiles B) (P : List ℕ → Type 0) → AreFound left inputs folders p f → files.known ≡ f.known → IfSome (left files.known) P → IfSome (inputs.text (known_name f.folder.now p f.replica)) P
+  of_text : (p : ℕ) (f : Found B) (files : PartFiles B) (P : List ℕ → Type 0) → IsFound left inputs folders p f → files.known ≡ f.known → IfSome (left files.known) P → IfSome (inputs.text (known_name f.folder.now p f.replica)) P
   of_text p f files P is same told = IfSome_then (inputs.text (known_name f.folder.now p f.replica)) is.text (λ text at. subst (λ o. IfSome o P) (ap left same ∙ at) told)
 
   have_texts : HaveTexts t left (trace_texts inputs t (map found_place found)) parts
@@ -283,39 +297,31 @@ module _ {B : Type 0} (left : B → Option (List ℕ)) (inputs : InputsSeen) (fo
       within (b ∷ bs) (suc n) seen = let low = within bs n seen in omega (arith, low)
 
   module _ (records : List (Record (List ℕ))) (trace : IsTraceBefore t t.stop records) where
-    refused : (p : ℕ) (c : KnownCause) → ExplainsFault t left parts (Refused (cause.Known p c)) → ExplainsFiles inputs folders t (Refused (cause.Known p c))
+    -- one that is refused, of whose text this holds
+    file_refused : (p n : ℕ) (c : KnownCause) (P : ℕ → List ℕ → Type 0) (files : PartFiles B) → slice_get parts p ≡ Some files → refused_number c ≡ Some n
+        → ((r : ℕ) (text : Option (List ℕ)) → IfSome text (P r) → ExplainsText (fresh_book t p r) text (Refused c)) → IfSome (left files.known) (P files.replica) → IsNotCertified inputs folders t n
     unfolding places
+    file_refused p n c P files at number explains why =
+        let low = slice_get_within parts p files at in
+        let count = opened.count in
+        let f = element found p (omega (arith, low, count)) in
+        let is = opened.each p f.0 files f.1 at in
+        inr (inl (record {
+          places = places;
+          placed = placed;
+          partition = p;
+          place = found_place f.0;
+          there = place_at found p f.0 f.1;
+          cause = c;
+          number = number;
+          why = explains f.0.replica (known_text inputs t places p (found_place f.0))
+              (of_text p f.0 files (P f.0.replica) (all.each p f.0 f.1) is.known_is (subst (λ r. IfSome (left files.known) (P r)) is.replica_is why));
+        }))
+
+    refused : (p : ℕ) (c : KnownCause) → ExplainsFault t left parts (Refused (cause.Known p c)) → ExplainsFiles inputs folders t (Refused (cause.Known p c))
     refused p known.Failed why = tt
-    refused p known.Form (files, at, why, before) =
-        let low = slice_get_within parts p files at in
-        let count = opened.count in
-        let f = element found p (omega (arith, low, count)) in
-        let is = opened.each p f.0 files f.1 at in
-        inr (inl (record {
-          places = places;
-          placed = placed;
-          partition = p;
-          place = found_place f.0;
-          there = place_at found p f.0 f.1;
-          cause = known.Form;
-          number = refl;
-          why = of_text p f.0 files (IsNoFile (fresh_book t p f.0.replica)) (all.each p f.0 f.1) is.known_is (subst (λ r. IfSome (left files.known) (IsNoFile (fresh_book t p r))) is.replica_is why);
-        }))
-    refused p known.Topology (files, at, why, before) =
-        let low = slice_get_within parts p files at in
-        let count = opened.count in
-        let f = element found p (omega (arith, low, count)) in
-        let is = opened.each p f.0 files f.1 at in
-        inr (inl (record {
-          places = places;
-          placed = placed;
-          partition = p;
-          place = found_place f.0;
-          there = place_at found p f.0 f.1;
-          cause = known.Topology;
-          number = refl;
-          why = of_text p f.0 files (IsOfOther (fresh_book t p f.0.replica)) (all.each p f.0 f.1) is.known_is (subst (λ r. IfSome (left files.known) (IsOfOther (fresh_book t p r))) is.replica_is why);
-        }))
+    refused p known.Form (files, at, why, before) = file_refused p 4 known.Form (λ r. IsNoFile (fresh_book t p r)) files at refl (λ r text is. is) why
+    refused p known.Topology (files, at, why, before) = file_refused p 6 known.Topology (λ r. IsOfOther (fresh_book t p r)) files at refl (λ r text is. is) why
 
     pub not_all : (fault : Fault CertifyCause) → ExplainsFault t left parts fault → ExplainsFiles inputs folders t fault
     unfolding places

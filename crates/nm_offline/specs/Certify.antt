@@ -49,12 +49,29 @@ pub record FilePlace : Type 0 where
   pub folder : List ℕ
   pub replica : ℕ
 
--- one of each partition, in one of these folders
-pub record ArePlaces (folders : List (List ℕ)) (t : TopologyValue) (places : List FilePlace) : Type 0
-  where
-    pub count : length places ≡ t.partitions
-    pub each : (p : ℕ) (place : FilePlace) → slice_get places p ≡ Some place
-        → Contains folders place.folder × (place.replica ≤ MAX_REPLICA)
+-- none of the first n folders has a file of what is known of partition p
+abbrev pub HaveNoFile : InputsSeen → (folders : List (List ℕ)) → (n p : ℕ) → Type 0
+HaveNoFile inputs folders n p = (m : ℕ) (folder : List ℕ) (replica : ℕ) → m < n
+    → slice_get folders m ≡ Some folder → replica ≤ MAX_REPLICA
+    → inputs.text (known_name folder p replica) ≡ None
+
+-- The first place that has such a file: no folder before this one has one, and here no lesser
+-- replica has.
+pub record IsFilePlace (inputs : InputsSeen) (folders : List (List ℕ)) (p : ℕ)
+    (place : FilePlace) : Type 0 where
+  pub number : ℕ
+  pub there : slice_get folders number ≡ Some place.folder
+  pub within : place.replica ≤ MAX_REPLICA
+  pub before : HaveNoFile inputs folders number p
+  pub beside : (replica : ℕ) → replica < place.replica
+      → inputs.text (known_name place.folder p replica) ≡ None
+
+-- the first of each partition
+pub record ArePlaces (inputs : InputsSeen) (folders : List (List ℕ)) (t : TopologyValue)
+    (places : List FilePlace) : Type 0 where
+  pub count : length places ≡ t.partitions
+  pub each : (p : ℕ) (place : FilePlace) → slice_get places p ≡ Some place
+      → IsFilePlace inputs folders p place
 
 -- the text of an interface's trace file in the folder of its partition, where it is told
 abbrev pub trace_text : (text : List ℕ → Option (List ℕ)) → Option FilePlace → Option IfaceValue
@@ -84,7 +101,7 @@ module _ (inputs : InputsSeen) (t : TopologyValue) (places : List FilePlace) whe
   AreTheirTraces records = (n : ℕ) (iface : IfaceValue) → slice_get t.ifaces n ≡ Some iface
       → IfSome (trace_texts n) (λ text. text ≡ trace_file Octets n records)
 
--- Of each partition one of the folders has a file of what is known. The books by these files are
+-- Of each partition a folder has a file of what is known. The books by the first of each are
 -- certified: each interface has what it has in the trace of the one event list, over the whole run.
 -- And each trace file beside them is that of its interface, octet for octet.
 pub record AreFilesCertified (inputs : InputsSeen) (asked : CertifyAsked) (text octets : List ℕ)
@@ -92,7 +109,7 @@ pub record AreFilesCertified (inputs : InputsSeen) (asked : CertifyAsked) (text 
   pub network : TopologyValue
   pub read : topology_of text ≡ Ok network
   pub places : List FilePlace
-  pub placed : ArePlaces asked.folders network places
+  pub placed : ArePlaces inputs asked.folders network places
   pub books : List BookValue
   pub theirs : AreTheirBooks inputs network places books
   pub certified : AreCertified network books
@@ -117,7 +134,7 @@ refused_number known.Failed = None
 pub record IsFileRefused (inputs : InputsSeen) (folders : List (List ℕ)) (t : TopologyValue)
     (n : ℕ) : Type 0 where
   pub places : List FilePlace
-  pub placed : ArePlaces folders t places
+  pub placed : ArePlaces inputs folders t places
   pub partition : ℕ
   pub place : FilePlace
   pub there : slice_get places partition ≡ Some place
@@ -130,7 +147,7 @@ pub record IsFileRefused (inputs : InputsSeen) (folders : List (List ℕ)) (t : 
 pub record AreBooksAtFault (inputs : InputsSeen) (folders : List (List ℕ)) (t : TopologyValue)
     (n : ℕ) : Type 0 where
   pub places : List FilePlace
-  pub placed : ArePlaces folders t places
+  pub placed : ArePlaces inputs folders t places
   pub books : List BookValue
   pub theirs : AreTheirBooks inputs t places books
   pub fault : CertFault
@@ -150,7 +167,7 @@ pub record IsOneUnlike (inputs : InputsSeen) (folders : List (List ℕ)) (t : To
     (own octet : ℕ) : Type 0 where
   pub there : own < length t.ifaces
   pub places : List FilePlace
-  pub placed : ArePlaces folders t places
+  pub placed : ArePlaces inputs folders t places
   pub records : List (Record (List ℕ))
   pub trace : IsTraceBefore t t.stop records
   pub differs : IfSome (trace_texts inputs t places own)

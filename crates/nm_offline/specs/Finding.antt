@@ -1,5 +1,5 @@
 -- Files of what replicas knew that were found in folders, and trace files that were opened there.
-use Rattle.std.specs.Prelude.{◌≡◌, ◌⊎◌, ℕ, ◌<◌, ◌≤◌, true, Contains, IfSome, List, [], length, slice_get, Option, Some}
+use Rattle.std.specs.Prelude.{◌≡◌, ◌⊎◌, ℕ, ◌<◌, ◌≤◌, true, None, IfSome, List, [], length, slice_get, Option, Some}
 use Rattle.nm_base.specs.declared.fault.Fault.{Fault}
 use Rattle.nm_base.specs.declared.fault.Fault.TheVariants.{Refused, Memory}
 use Rattle.nm_base.specs.declared.limits.TheConstants.{MAX_REPLICA}
@@ -19,9 +19,13 @@ use Rattle.nm_known.specs.Keeping.{known_name}
 use Rattle.nm_certify.specs.declared.part_files.PartFiles.{PartFiles}
 use Rattle.nm_certify.specs.declared.fault.CertifyCause.{CertifyCause}
 use Rattle.nm_certify.specs.declared.fault.CertifyCause.TheVariants as cause
-use Rattle.nm_offline.specs.Certify.{ArePlaces, AreTheirBooks, AreTheirTraces, HasNoFile, FilePlace}
+use Rattle.nm_offline.specs.Certify.{ArePlaces, AreTheirBooks, AreTheirTraces, HasNoFile, FilePlace, IsFilePlace}
 use Rattle.nm_offline.specs.Input.{InputsSeen}
 use Rattle.nm_offline.specs.declared.finding.Found.{Found}
+
+-- where a partition's files were found
+abbrev pub found_place : {B : Type 0} → Found B → FilePlace
+found_place f = record { folder = f.folder.now; replica = f.replica }
 
 -- The octets that are left of a reader, where that is told.
 module _ {B : Type 0} (left : B → Option (List ℕ)) (inputs : InputsSeen) where
@@ -31,21 +35,23 @@ module _ {B : Type 0} (left : B → Option (List ℕ)) (inputs : InputsSeen) whe
     pub replica_is : f.replica ≡ replica
     pub text : IfSome (inputs.text (known_name folder p replica)) (λ text. left f.known ≡ Some text)
 
-  -- one of partition p was, in one of these
-  pub record AreFound (folders : List (List ℕ)) (p : ℕ) (f : Found B) : Type 0 where
-    pub folder : Contains folders f.folder.now
-    pub replica : f.replica ≤ MAX_REPLICA
+  -- that of the least replica of which this folder has one
+  pub record IsLeastIn (folder : List ℕ) (p : ℕ) (f : Found B) : Type 0 where
+    pub found : IsFoundIn folder p f.replica f
+    pub within : f.replica ≤ MAX_REPLICA
+    pub beside : (replica : ℕ) → replica < f.replica
+        → inputs.text (known_name folder p replica) ≡ None
+
+  -- the first of partition p in these folders
+  pub record IsFound (folders : List (List ℕ)) (p : ℕ) (f : Found B) : Type 0 where
+    pub first : IsFilePlace inputs folders p (found_place f)
     pub text : IfSome (inputs.text (known_name f.folder.now p f.replica))
         (λ text. left f.known ≡ Some text)
 
-  -- one of each of the first n partitions was
+  -- that of each of the first n partitions
   pub record AllFound (folders : List (List ℕ)) (n : ℕ) (all : List (Found B)) : Type 0 where
     pub count : length all ≡ n
-    pub each : (p : ℕ) (f : Found B) → slice_get all p ≡ Some f → AreFound folders p f
-
--- where a partition's files were found
-abbrev pub found_place : {B : Type 0} → Found B → FilePlace
-found_place f = record { folder = f.folder.now; replica = f.replica }
+    pub each : (p : ℕ) (f : Found B) → slice_get all p ≡ Some f → IsFound folders p f
 
 -- the trace files of partition p's interfaces in a folder have these texts
 abbrev pub AreOwnTexts : InputsSeen → (folder : List ℕ) → TopologyValue → (p : ℕ)
@@ -84,12 +90,12 @@ IsNotFound inputs folders p fault = (fault ≡ Memory) ⊎ (fault ≡ Refused ca
 abbrev pub NoneIsFound : InputsSeen → (folders : List (List ℕ)) → ℕ → Fault CertifyCause → Type 0
 NoneIsFound inputs folders n fault = (p : ℕ) × (p < n) × IsNotFound inputs folders p fault
 
--- Books that are certified, each by the file of what is known that one of these folders has, and
+-- Books that are certified, each by the first file of what is known that these folders have, and
 -- the trace files beside those are the one event list's.
 pub record AreCertifiedBooks (inputs : InputsSeen) (folders : List (List ℕ)) (t : TopologyValue)
     (books : List BookValue) : Type 0 where
   pub places : List FilePlace
-  pub placed : ArePlaces folders t places
+  pub placed : ArePlaces inputs folders t places
   pub theirs : AreTheirBooks inputs t places books
   pub certified : AreCertified t books
   pub whole : (records : List (Record (List ℕ))) → IsTraceBefore t t.stop records

@@ -4,8 +4,8 @@ ghost use Rattle.std.specs.Prelude.{◌≡◌, ◌≤◌, ℕ, None, IfErr, IfOk
 ghost use Rattle.std.specs.Io.Buffered.{reader_remaining};
 ghost use Rattle.nm_base.specs.declared.limits.TheConstants.{MAX_REPLICA};
 ghost use Rattle.nm_known.specs.Keeping.{known_name};
-ghost use Rattle.nm_offline.specs.Finding.{AllFound, AreFound, IsFoundIn, IsNotFound};
-ghost use Rattle.nm_offline.specs.Finding.{NoneIsFound};
+ghost use Rattle.nm_offline.specs.Finding.{AllFound, IsFound, IsFoundIn, IsLeastIn};
+ghost use Rattle.nm_offline.specs.Finding.{IsNotFound, NoneIsFound};
 ghost use Rattle.nm_offline.specs.Input.{inputs_seen};
 
 use crate::input::NamedInputs;
@@ -61,9 +61,9 @@ fn find_in<'a, I: Inputs>(
     folder: &'a str,
     partition: PartNo,
 ) -> io::Result<Option<Found<'a, BufReader<I::File>>>>
-    ensures found { IfOk result (λ found. IfSome found (λ f. (f.replica ≤ MAX_REPLICA)
-        × IsFoundIn (reader_remaining I.File.remaining) (inputs_seen I.seen inputs.now)
-        folder.entry.now partition f.replica f)) }
+    ensures found { IfOk result (λ found. IfSome found (IsLeastIn
+        (reader_remaining I.File.remaining) (inputs_seen I.seen inputs.now) folder.entry.now
+        partition)) }
     ensures none { IfOk result (λ found. found ≡ None → (replica : ℕ) → replica ≤ MAX_REPLICA
         → (inputs_seen I.seen inputs.now).text (known_name folder.entry.now partition replica)
         ≡ None) }
@@ -86,7 +86,7 @@ fn find_part<'a, I: Inputs>(
     folders: &'a [String],
     partition: PartNo,
 ) -> Result<Found<'a, BufReader<I::File>>, CertifyFault>
-    ensures found { IfOk result (AreFound (reader_remaining I.File.remaining)
+    ensures found { IfOk result (IsFound (reader_remaining I.File.remaining)
         (inputs_seen I.seen inputs.now) (map (λ f. string_bytes f) folders.entry.now)
         partition) }
     ensures none { IfErr result (IsNotFound (inputs_seen I.seen inputs.now)

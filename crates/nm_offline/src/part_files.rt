@@ -72,8 +72,8 @@ pub(crate) fn open_parts<I: Inputs>(
 ) -> Result<Vec<PartFiles<BufReader<I::File>>>, CheckFault>
     requires { length found.items ≡ topology.now.partitions }
     ensures opened { IfOk result (λ parts. AreOpened (reader_remaining I.File.remaining)
-        (trace_texts (inputs_seen I.seen inputs.now) topology.now (map found_place found.entry.items))
-        topology.now found.entry.items parts.items) }
+        (trace_texts (inputs_seen I.seen inputs.now) topology.now
+        (map found_place found.entry.items)) topology.now found.entry.items parts.items) }
     ensures unlike { IfErr result (λ f. (own octet : ℕ) → f ≡ Refused (Differs own octet)
         → DiffersInHeader (trace_texts (inputs_seen I.seen inputs.now) topology.now
         (map found_place found.entry.items)) topology.now own octet) }

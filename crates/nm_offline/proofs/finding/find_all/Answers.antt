@@ -1,6 +1,6 @@
 use Rattle.std.proofs.Common.{◌<◌, map, string_bytes, subst, arith, rules}
 use Rattle.std.specs.Io.Buffered.{reader_remaining}
-use Rattle.nm_offline.specs.Finding.{AreFound}
+use Rattle.nm_offline.specs.Finding.{IsFound}
 use Rattle.nm_offline.specs.Input.{inputs_seen}
 use Rattle.nm_offline.proofs.Certifying.{one_found}
 use Rattle.nm_offline.proofs.finding.find_all.Goals as goal
@@ -15,5 +15,5 @@ loop-partition-preserved g c =
     record {
       within = omega (arith, low);
       found = one_found left inputs names c.loop-partition.all.items c.push.new.self.items c.in_ok-find_part.field-0 n c.loop-partition.invariant.found
-          (subst (λ k. AreFound left inputs names k c.in_ok-find_part.field-0) c.new.ensures c.in_ok-find_part.ensures.found) c.in_ok-push.ensures.items;
+          (subst (λ k. IsFound left inputs names k c.in_ok-find_part.field-0) c.new.ensures c.in_ok-find_part.ensures.found) c.in_ok-push.ensures.items;
     }

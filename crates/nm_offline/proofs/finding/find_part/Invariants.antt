@@ -1,6 +1,6 @@
 use Rattle.std.proofs.Common.{map, string_bytes}
 use Rattle.nm_offline.specs.Input.{inputs_seen}
-use Rattle.nm_offline.proofs.Certifying.{HaveNoFile}
+use Rattle.nm_offline.specs.Certify.{HaveNoFile}
 use Rattle.nm_offline.proofs.finding.find_part.Given as goal
 
 abbrev pub invariant-loop-number : goal.invariant-loop-number

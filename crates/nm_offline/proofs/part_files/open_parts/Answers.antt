@@ -1,14 +1,13 @@
-use Rattle.std.proofs.Common.{◌≡◌, ◌∷◌, [], ◌++◌, append-nil, length, length-append, map, slice_get, Some, refl, sym, ◌∙◌, ap, subst, arith, rules}
+use Rattle.std.proofs.Common.{◌≡◌, ◌∷◌, [], ◌++◌, append-nil, length, length-append, map, refl, sym, ◌∙◌, ap, subst, arith, rules}
 use Rattle.std.specs.Io.Buffered.{reader_remaining}
 use Rattle.std.specs.Vec.Iter.{into_iter_items}
 use Rattle.std.proofs.lemmas.List.{append_assoc}
 use Rattle.std.proofs.lemmas.Result.{err_from_is_err_and}
-use Rattle.nm_files.proofs.Checked.{next_behind}
 use Rattle.nm_certify.specs.declared.part_files.PartFiles.{PartFiles}
 use Rattle.nm_offline.specs.Certify.{trace_texts}
 use Rattle.nm_offline.specs.Finding.{AreOpened, AreOwnTexts, found_place}
 use Rattle.nm_offline.specs.Input.{inputs_seen}
-use Rattle.nm_offline.proofs.Certifying.{no_items, one_opened, own_texts, place_at}
+use Rattle.nm_offline.proofs.Certifying.{next_texts, no_items, one_opened}
 use Rattle.nm_offline.proofs.part_files.open_parts.Goals as goal
 
 pub loop-folder-preserved : goal.loop-folder-preserved
@@ -28,10 +27,9 @@ loop-folder-preserved g c =
     let count = c.loop-folder.invariant.opened.count in
     let number = c.loop-folder.invariant.number in
     let here : n ≡ length done = number ∙ count in
-    let at : slice_get found n ≡ Some one = ap (λ l. slice_get l n) all ∙ ap (slice_get (done ++ one ∷ rest)) here ∙ next_behind done (one ∷ rest) in
     let files : PartFiles _ = record { replica = one.replica; known = one.known; traces = c.in_ok-traces.traces } in
     let own : AreOwnTexts inputs one.folder.now t c.new.result texts =
-    subst (λ k. AreOwnTexts inputs one.folder.now t k texts) (sym c.new.ensures) (own_texts inputs t (map found_place found) n (found_place one) (place_at found n one at)) in
+    next_texts inputs t found done rest one c.new.result all (c.new.ensures ∙ here) in
     let long = ap length c.in_ok-push.ensures.items ∙ length-append parts (files ∷ []) in
     record {
       number = omega (arith, number, long);
@@ -60,9 +58,8 @@ returns-in_err-traces-clause-unlike g c =
     let rest = into_iter_items c.next.new.self in
     let all = c.loop-folder.invariant.all ∙ ap (λ l. done ++ l) c.in-Some.ensures.steps.0 in
     let here : n ≡ length done = c.loop-folder.invariant.number ∙ c.loop-folder.invariant.opened.count in
-    let at : slice_get found n ≡ Some one = ap (λ l. slice_get l n) all ∙ ap (slice_get (done ++ one ∷ rest)) here ∙ next_behind done (one ∷ rest) in
     let own : AreOwnTexts inputs one.folder.now t c.new.result texts =
-    subst (λ k. AreOwnTexts inputs one.folder.now t k texts) (sym c.new.ensures) (own_texts inputs t (map found_place found) n (found_place one) (place_at found n one at)) in
+    next_texts inputs t found done rest one c.new.result all (c.new.ensures ∙ here) in
     rw (e.1, e.2) (c.in_err-traces.ensures.unlike texts own)
 
 pub returns-clause-opened : goal.returns-clause-opened
