@@ -4,7 +4,9 @@
 pub mod acceptor;
 pub mod acts;
 pub mod answer;
+pub mod counted_wire;
 pub mod given;
+pub mod given_before;
 mod giving;
 pub mod laws;
 pub mod link;
@@ -17,6 +19,8 @@ mod writing;
 
 pub use acceptor::Acceptor;
 pub use answer::{Cause, Turn};
+pub use counted_wire::CountingWire;
 pub use given::{Given, GivenCounts, GivenMessages};
+pub use given_before::GivenBefore;
 pub use link::Link;
 pub use reading::ReadBuffer;

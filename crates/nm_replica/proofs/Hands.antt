@@ -11,7 +11,7 @@ use Rattle.nm_policy.specs.Contacts.{ContactsValue, contact_at, is_slot}
 use Rattle.nm_policy.specs.Decisions.{is_due_at}
 use Rattle.nm_policy.specs.Peers.{is_due, new_peer}
 use Rattle.nm_policy.proofs.Changes.{as_long, as_many, gone, kept, no_more, others}
-use Rattle.nm_replica.specs.Connections.{Admits, Dials, Keeps, LetGoStale, LetsGo, MakesRoom}
+use Rattle.nm_replica.specs.Connections.{Admits, CallsSome, Dials, Keeps, LetGoStale, LetsGo, MakesRoom}
 use Rattle.nm_replica.specs.declared.connection.Connection.{Connection}
 
 -- nobody below this number is to be called
@@ -32,6 +32,10 @@ module _ {W : Type 0} (leads_to : W → Option ℕ) (sessions : List (Option Ses
 
   pub dialed_as_many : length new.peers ≡ length old.peers
   dialed_as_many = ⊎_elim (λ is. as_many 0 n old new (inl is)) (λ d. as_many d.0 n old new (inr d.2)) did
+
+  -- one more was called
+  pub one_more_called : (first : ContactsValue) → is_due_at old.peers n ≡ true → (k : ℕ) × CallsSome k first old → (k : ℕ) × CallsSome k first new
+  one_more_called first due so_far = (suc so_far.0, (old, so_far.1, (n, due, ⊎_elim inl (λ d. inr (d.0, d.1, d.2)) did)))
 
 -- nobody is to be called, where that is so below their number
 pub none_wanted : (s : ContactsValue) (n : ℕ) → length s.peers ≤ n → NoneWanted s n → (peer : ℕ) → is_due_at s.peers peer ≡ false

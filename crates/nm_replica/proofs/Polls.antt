@@ -4,10 +4,11 @@ use Rattle.std.proofs.lemmas.Bool.Decides.{nat_tests}
 use Rattle.std.specs.Prelude.{nat_le}
 use Rattle.nm_base.specs.Count.{saturated}
 use Rattle.nm_shared.specs.Home.{Home}
-use Rattle.nm_replica.specs.Polls.{ending_of, idle_after}
+use Rattle.nm_replica.specs.Polls.{ending_of, idle_after, is_active}
 use Rattle.nm_transport.specs.Transport.{elapsed_after}
 use Rattle.nm_replica.specs.Served.{EndsWith, PolledOnce, WasFinished}
 use Rattle.nm_replica.specs.declared.served.Served.{Served}
+use Rattle.nm_replica.specs.declared.serving.Polled.{Polled}
 use Rattle.nm_replica.specs.declared.served.Served.TheVariants.{Ended, Stalled}
 
 -- there are no more idle periods in a row than waits that ran out
@@ -34,10 +35,10 @@ ends_after exact own keeps limit before after idle polls false served finished i
     by_test false is f = let none : None ≡ Some served = f in absurd cc
 
 -- one poll, from what it came to
-pub polled_once : (finished : Type 0) (limit polls idle idle' before after : ℕ) (end : Option Served) (was_active ran_out is_done : Bool)
-    → idle' ≡ idle_after idle was_active ran_out → after ≡ elapsed_after before ran_out → end ≡ ending_of is_done idle' limit polls
-    → (is_done ≡ true → finished) → PolledOnce finished limit polls (idle, idle') (before, after) end
-polled_once finished limit polls idle idle' before after end was_active ran_out is_done a b c d = (was_active, ran_out, is_done, a, b, c, d)
+pub polled_once : (Happened : Polled → Type 0) (limit polls idle idle' before after : ℕ) (end : Option Served) (p : Polled)
+    → idle' ≡ idle_after idle (is_active p.octets p.written p.was_run) p.ran_out → after ≡ elapsed_after before p.ran_out → end ≡ ending_of p.is_done idle' limit polls
+    → Happened p → PolledOnce Happened limit polls (idle, idle') (before, after) end
+polled_once Happened limit polls idle idle' before after end p a b c d = (p, a, b, c, d)
 
 -- what moved in two rounds of turns
 pub saturated_twice : (m h s : ℕ) → saturated (saturated (m + h) + s) ≡ saturated (m + saturated (h + s))

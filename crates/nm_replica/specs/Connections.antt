@@ -1,8 +1,9 @@
 -- What connections are told of by events, and which of them are begun and let go.
-use Rattle.std.specs.Prelude.{◌≡◌, ◌⊎◌, ℕ, suc, zero, Bool, true, false, List, slice_index_or, slice_set, Option, Some, None, IsSomeAnd}
+use Rattle.std.specs.Prelude.{◌≡◌, ◌⊎◌, ℕ, suc, zero, Bool, true, false, ◌||◌, List, slice_index_or, slice_set, Option, Some, None, IsSomeAnd}
 use Rattle.slab.specs.Slab.{Slab, get}
 use Rattle.nm_engine.specs.Acceptor.{AcceptorValue}
 use Rattle.nm_engine.specs.Link.{greeted_by}
+use Rattle.nm_engine.specs.declared.answer.Cause.TheVariants as cause
 use Rattle.nm_engine.specs.declared.answer.Turn.{Turn}
 use Rattle.nm_engine.specs.declared.answer.Turn.TheVariants as turn
 use Rattle.nm_frames.specs.Session.{SessionValue, broken}
@@ -13,6 +14,7 @@ use Rattle.nm_policy.specs.Decisions.{IsFirstStranger, IsToDrop, is_due_at}
 use Rattle.nm_policy.specs.Laws.{MayCome}
 use Rattle.nm_policy.specs.declared.contact.Contact.{Contact}
 use Rattle.nm_policy.specs.declared.contact_event.ContactEvent.TheVariants.{Called, NotCalled, Accepted, Heard, Greeted, Ended, Broke, Polled}
+use Rattle.nm_replica.specs.Moved.{sends_no_more, was_there}
 use Rattle.nm_replica.specs.declared.connection.Connection.{Connection}
 
 -- a connection is let go, at whose other side somebody was or nobody
@@ -41,6 +43,23 @@ Dials leads_to sessions peer old new slab =
     ⊎ ((key : ℕ) × MayCome old (Called key peer) × (new ≡ after old (Called key peer))
     × IsSomeAnd (get slab key) (λ c. (leads_to c.link.wire.wire ≡ Some peer)
     × (c.link.session ≡ slice_index_or sessions peer None)))
+
+-- a peer that is due is called, or no connection to it could be begun
+abbrev pub CallsOne : (old new : ContactsValue) → Type 0
+CallsOne old new =
+    (peer : ℕ) × (is_due_at old.peers peer ≡ true)
+    × ((new ≡ after old (NotCalled peer))
+    ⊎ ((key : ℕ) × MayCome old (Called key peer) × (new ≡ after old (Called key peer))))
+
+-- so many are, one after another
+abbrev pub CallsSome : ℕ → (old new : ContactsValue) → Type 0
+CallsSome zero old new = new ≡ old
+CallsSome (suc n) old new = (mid : ContactsValue) × CallsSome n old mid × CallsOne mid new
+
+-- those that are due are called, and nobody is due any more
+abbrev pub CallsAll : (old new : ContactsValue) → Type 0
+CallsAll old new =
+    ((n : ℕ) × CallsSome n old new) × ((peer : ℕ) → is_due_at new.peers peer ≡ false)
 
 -- the stranger that came first is let go, if there is one
 abbrev pub DropsFirst : Option ℕ → (old new : ContactsValue) → Type 0
@@ -80,14 +99,13 @@ Admits (suc n) old new =
 abbrev pub DropsSome : (old new : ContactsValue) → Type 0
 DropsSome old new = (new ≡ old) ⊎ DropsStranger old new
 
--- One wait: nobody was left to be called before it; then a poll is noted, at which a period was
--- over or not, and those go that are stale; then others are admitted; and at last a stranger may be
--- let go, where the system has too little.
-abbrev pub WaitsOnce : (ran_out : Bool) → ContactsValue → Type 0
-WaitsOnce ran_out new =
-    (before : ContactsValue) × (passed : ContactsValue) × (admitted : ContactsValue)
-    × ((peer : ℕ) → is_due_at before.peers peer ≡ false)
-    × LetsStaleGo (after before (Polled ran_out)) passed
+-- One wait: before it all are called that are due; then a poll is noted, at which a period was over
+-- or not, and those go that are stale; then others are admitted; and at last a stranger may be let
+-- go, where the system has too little.
+abbrev pub WaitsOnce : (ran_out : Bool) → (old new : ContactsValue) → Type 0
+WaitsOnce ran_out old new =
+    (called : ContactsValue) × (passed : ContactsValue) × (admitted : ContactsValue)
+    × CallsAll old called × LetsStaleGo (after called (Polled ran_out)) passed
     × ((n : ℕ) × Admits n passed admitted)
     × DropsSome admitted new
 
@@ -105,24 +123,33 @@ abbrev pub heard_at : ℕ → (has_heard : Bool) → ContactsValue → ContactsV
 heard_at key false s = s
 heard_at key true s = after s (Heard key)
 
--- What a turn of a connection comes to, once it is known who is there: the end of its link is
--- noted; a broken one is let go; any other stays, or is let go where the other side sends no more,
--- and always where that has begun another.
-abbrev pub SettlesAs : ℕ → Turn → (old new : ContactsValue) → Type 0
-SettlesAs key turn.Progress old new =
-    (is_slot (λ c. c.is_replaced) (contact_at old.connections key) ≡ true → LetsGo key old new)
-    × ((new ≡ old) ⊎ LetsGo key old new)
-SettlesAs key turn.Idle old new =
-    (is_slot (λ c. c.is_replaced) (contact_at old.connections key) ≡ true → LetsGo key old new)
-    × ((new ≡ old) ⊎ LetsGo key old new)
-SettlesAs key turn.Ended old new = new ≡ after old (Ended key)
-SettlesAs key (turn.Broken cause) old new = LetsGo key old new
-SettlesAs key turn.Failed old new = ⊥
+-- what is known of a connection after its last turn, in which octets came or did not
+abbrev pub known_after : {W : Type 0} → ℕ → (has_heard : Bool) → Option (Connection W)
+    → ContactsValue → ContactsValue
+known_after key has_heard connection s = learned key connection (heard_at key has_heard s)
 
-abbrev pub Settles : {W : Type 0} → ℕ → Turn → (has_heard : Bool) → Option (Connection W)
-    → (old new : ContactsValue) → Type 0
-Settles key turn has_heard connection old new =
-    SettlesAs key turn (learned key connection (heard_at key has_heard old)) new
+-- the other side sends no more on a connection, or has begun another
+abbrev pub is_abandoned : {W : Type 0} → Option Contact → Option (Connection W) → Bool
+is_abandoned contact connection = sends_no_more connection || is_slot (λ c. c.is_replaced) contact
+
+-- what is noted of one that is, or is not
+abbrev pub broken_if : {W : Type 0} → (abandoned : Bool) → ℕ → Option (Connection W) → ContactsValue
+    → ContactsValue
+broken_if true key connection s = after s (Broke key (was_there cause.End connection))
+broken_if false key connection s = s
+
+-- What a turn of a connection comes to, once it is known who is there: the end of its link is
+-- noted; a broken one is let go; any other is let go where it is abandoned, and else stays.
+abbrev pub SettlesAs : {W : Type 0} → ℕ → Turn → Option (Connection W) → (old new : ContactsValue)
+    → Type 0
+SettlesAs key turn.Progress connection old new =
+    new ≡ broken_if (is_abandoned (contact_at old.connections key) connection) key connection old
+SettlesAs key turn.Idle connection old new =
+    new ≡ broken_if (is_abandoned (contact_at old.connections key) connection) key connection old
+SettlesAs key turn.Ended connection old new = new ≡ after old (Ended key)
+SettlesAs key (turn.Broken cause) connection old new =
+    new ≡ after old (Broke key (was_there cause connection))
+SettlesAs key turn.Failed connection old new = ⊥
 
 -- the session of a connection to a peer comes back to that peer, at its greeting
 abbrev pub with_session_of : Option ℕ → Option SessionValue → List (Option SessionValue)

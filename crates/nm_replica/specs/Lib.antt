@@ -1,6 +1,5 @@
 pub mod Breaks
 pub mod Connections
-pub mod CountedWire
 pub mod Finished
 pub mod Moved
 pub mod Polls
@@ -9,3 +8,4 @@ pub mod Seats
 pub mod Served
 pub mod Sessions
 pub mod Turns
+pub mod Words

@@ -1,10 +1,10 @@
 -- Octets that moved on a connection, and what its turns count of them.
 use Rattle.std.specs.Prelude.{◌≡◌, ℕ, ◌+◌, ◌-◌, Bool, true, false, nat_lt, ◌&&◌, ◌||◌, Option, Some, None, IsSomeAnd, if◌then◌else◌}
 use Rattle.nm_base.specs.Count.{saturated}
+use Rattle.nm_engine.specs.CountedWire.{CountedWire}
 use Rattle.nm_engine.specs.Link.{has_greeted}
 use Rattle.nm_engine.specs.declared.answer.Cause.{Cause}
 use Rattle.nm_engine.specs.declared.answer.Cause.TheVariants as cause
-use Rattle.nm_replica.specs.CountedWire.{CountedWire}
 use Rattle.nm_replica.specs.declared.connection.Connection.{Connection}
 use Rattle.nm_replica.specs.declared.turning.Moves.{Moves}
 
@@ -16,6 +16,11 @@ moved_on wire = saturated (wire.came + wire.written)
 abbrev pub has_written : {W : Type 0} → Option (Connection W) → Bool
 has_written None = false
 has_written (Some c) = nat_lt 0 c.link.wire.written
+
+-- a read of it found the end
+abbrev pub sends_no_more : {W : Type 0} → Option (Connection W) → Bool
+sends_no_more None = false
+sends_no_more (Some c) = c.link.wire.has_ended
 
 -- the other side ended it: who ends a connection is there, though nothing could be written
 abbrev pub is_end : Cause → Bool

@@ -1,5 +1,5 @@
 -- Seats that own words of a board.
-use Rattle.std.specs.Prelude.{◌≡◌, ℕ, ◌/◌, ◌≤◌, All, Bool, true, length}
+use Rattle.std.specs.Prelude.{◌≡◌, ℕ, ◌/◌, ◌≤◌, All, Bool, true, List, length, map}
 use Rattle.nm_book.specs.Book.{BookValue, is_outgoing, promise_on}
 use Rattle.nm_model.specs.Promise.{Tight}
 use Rattle.nm_shared.specs.Board.{owned_word, raised_to}
@@ -14,6 +14,10 @@ board_of own = own.board.now
 
 abbrev pub seat_count : OwnSeats → ℕ
 seat_count own = length own.seats.items
+
+-- the words that they own, in order
+abbrev pub words_of : OwnSeats → List ℕ
+words_of own = map owned_word own.seats.items
 
 -- they are of the same board, and as many
 abbrev pub AreKept : (old new : OwnSeats) → Type 0

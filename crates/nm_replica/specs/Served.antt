@@ -12,9 +12,10 @@ use Rattle.nm_sim.specs.Network.{net_of}
 use Rattle.nm_transport.specs.Transport.{elapsed_after}
 use Rattle.nm_replica.specs.declared.acts.Standing.{Standing}
 use Rattle.nm_replica.specs.declared.served.Served.{Served}
+use Rattle.nm_replica.specs.declared.serving.Polled.{Polled}
 use Rattle.nm_replica.specs.declared.served.Served.TheVariants.{Ended, Net, Memory, File, Stalled}
 use Rattle.nm_replica.specs.Finished.{IsFinished}
-use Rattle.nm_replica.specs.Polls.{ending_of, idle_after}
+use Rattle.nm_replica.specs.Polls.{ending_of, idle_after, is_active}
 use Rattle.nm_replica.specs.declared.limits.TheConstants.{MAX_POLLS}
 
 -- how serving ends because a link broke: not, where its wire did, or where who said no Hello spoke
@@ -83,16 +84,15 @@ EndsWith exact own keeps limit waits (File iface written) = Unit {0}
 EndsWith exact own keeps limit waits (Stalled polls) =
     (waits.0 + limit ≤ waits.1) ⊎ (MAX_POLLS ≤ polls)
 
--- What one poll comes to, the last of so many: it was active or not, a period was over or not, and
--- the replica was found done or not. Idle periods and waits that ran out, as before and after it,
--- and whether serving ends, follow from these three.
-abbrev pub PolledOnce : (finished : Type 0) → (limit polls : ℕ) → (idle waits : ℕ × ℕ) → Option Served → Type 0
-PolledOnce finished limit polls idle waits end =
-    (was_active : Bool) × (ran_out : Bool) × (is_done : Bool)
-    × (idle.1 ≡ idle_after idle.0 was_active ran_out)
-    × (waits.1 ≡ elapsed_after waits.0 ran_out)
-    × (end ≡ ending_of is_done idle.1 limit polls)
-    × (is_done ≡ true → finished)
+-- What one poll comes to, the last of so many, in which this happened. Idle periods and waits that
+-- ran out, as before and after it, and whether serving ends, follow from what it came to: it was
+-- active or not, a period was over or not, and the replica was found done or not.
+abbrev pub PolledOnce : (Happened : Polled → Type 0) → (limit polls : ℕ) → (idle waits : ℕ × ℕ)
+    → Option Served → Type 0
+PolledOnce Happened limit polls idle waits end =
+    (p : Polled) × (idle.1 ≡ idle_after idle.0 (is_active p.octets p.written p.was_run) p.ran_out)
+    × (waits.1 ≡ elapsed_after waits.0 p.ran_out)
+    × (end ≡ ending_of p.is_done idle.1 limit polls) × Happened p
 
 -- how serving ends where it is interrupted: the network failed, or memory was refused
 abbrev pub IsInterrupted : Served → Type 0

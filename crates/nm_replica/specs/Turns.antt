@@ -1,34 +1,76 @@
 -- Connections that have their turns, one key after another.
-use Rattle.std.specs.Prelude.{◌≡◌, ◌≢◌, ◌⊎◌, ℕ, suc, zero, ◌+◌, ◌≤◌, length, Bool, Option, None}
+use Rattle.std.specs.Prelude.{◌≡◌, ◌≢◌, ◌⊎◌, ℕ, suc, zero, ◌+◌, ◌<◌, ◌≤◌, length, Bool, true, false, Option, Some, None, IsSomeAnd, if◌then◌else◌}
 use Rattle.nm_base.specs.Count.{saturated}
+use Rattle.nm_base.specs.Wire.{WireSeen}
+use Rattle.nm_engine.specs.Link.{LinkValue}
+use Rattle.nm_engine.specs.Turn.{Hears, Turns}
 use Rattle.nm_engine.specs.declared.answer.Turn.{Turn}
 use Rattle.nm_engine.specs.declared.answer.Turn.TheVariants as turn
 use Rattle.nm_policy.specs.Contact.{does_count}
 use Rattle.nm_policy.specs.Contacts.{contact_at, is_slot}
 use Rattle.slab.specs.Slab.{Slab, get}
-use Rattle.nm_replica.specs.Connections.{Settles, WaitsOnce}
+use Rattle.nm_replica.specs.Connections.{SettlesAs, WaitsOnce, is_abandoned, known_after}
 use Rattle.nm_replica.specs.Moved.{CountsMovesAt}
 use Rattle.nm_replica.specs.declared.connection.Connection.{Connection}
 use Rattle.nm_replica.specs.declared.connections.Connections.{Connections}
+use Rattle.nm_replica.specs.declared.limits.TheConstants.{MAX_TURNS}
+use Rattle.nm_replica.specs.declared.turning.Does.{Does}
+use Rattle.nm_replica.specs.declared.turning.Does.TheVariants.{Hear, Speak}
 use Rattle.nm_replica.specs.declared.turning.Moves.{Moves}
+
+-- whether something moved in a turn, and the link goes on
+abbrev pub has_moved : Turn → Bool
+has_moved turn.Progress = true
+has_moved turn.Idle = false
+has_moved turn.Ended = false
+has_moved (turn.Broken cause) = false
+has_moved turn.Failed = false
+
+-- The turns of one link, in each of which it only hears, or speaks too.
+module _ {W : Type 0} (seen : W → WireSeen) where
+  abbrev pub TurnsAs : Does → (old new : LinkValue W) → Turn → Type 0
+  TurnsAs Hear old new turn = Hears seen old new turn
+  TurnsAs Speak old new turn = Turns seen old new turn
+
+  -- so many, in each of which something moved
+  abbrev pub Progresses : Does → ℕ → (old new : LinkValue W) → Type 0
+  Progresses does zero old new = new ≡ old
+  Progresses does (suc n) old new =
+      (mid : LinkValue W) × Progresses does n old mid × TurnsAs does mid new turn.Progress
+
+  -- as many as it may have, or up to the first in which nothing moved or which was the last
+  abbrev pub HasTurns : Does → (most : ℕ) → (old new : LinkValue W) → Turn → Type 0
+  HasTurns does most old new last =
+      ((n : ℕ) × (n ≡ most) × Progresses does n old new × (last ≡ turn.Progress))
+      ⊎ ((n : ℕ) × (mid : LinkValue W) × (n < most) × Progresses does n old mid
+      × TurnsAs does mid new last × (has_moved last ≡ false))
+
+-- the same under a key: no turn where no connection has it
+abbrev pub HasTurnsAt : {W : Type 0} → (W → WireSeen) → Does → (old new : Option (Connection W))
+    → Turn → Type 0
+HasTurnsAt seen does None new last = last ≡ turn.Idle
+HasTurnsAt seen does (Some old) new last =
+    IsSomeAnd new (λ c. HasTurns (λ w. seen w.wire) does MAX_TURNS old.link c.link last)
 
 -- no other key has another connection than before
 abbrev pub KeepsOthers : {W : Type 0} → ℕ → (old new : Slab (Connection W)) → Type 0
 KeepsOthers key old new = (other : ℕ) → other ≢ key → get new other ≡ get old other
 
--- a key keeps its connection after its last turn, or loses it, as it always does where the link
--- ended or broke
-abbrev pub KeepsOrLoses : {W : Type 0} → Turn → (old new : Option (Connection W)) → Type 0
-KeepsOrLoses turn.Progress old new = (new ≡ old) ⊎ (new ≡ None)
-KeepsOrLoses turn.Idle old new = (new ≡ old) ⊎ (new ≡ None)
-KeepsOrLoses turn.Ended old new = new ≡ None
-KeepsOrLoses (turn.Broken cause) old new = new ≡ None
-KeepsOrLoses turn.Failed old new = ⊥
+-- a key keeps its connection after its last turn where that is not abandoned, and loses it where
+-- the link ended or broke
+abbrev pub kept_after : {W : Type 0} → Turn → (abandoned : Bool) → Option (Connection W)
+    → Option (Connection W)
+kept_after turn.Progress abandoned connection = if abandoned then None else connection
+kept_after turn.Idle abandoned connection = if abandoned then None else connection
+kept_after turn.Ended abandoned connection = None
+kept_after (turn.Broken cause) abandoned connection = None
+kept_after turn.Failed abandoned connection = connection
 
 module _ {W : Type 0} (key : ℕ) (old new : Connections W) where
-  -- the connection with the key, if there is one, has its turns, and its octets count once its
-  -- greeting is over; nothing else changes
-  pub record GivesTurns (m : Moves) : Type 0 where
+  -- the connection with the key, if there is one, has its turns, of which this was the last, and its
+  -- octets count once its greeting is over; nothing else changes
+  pub record GivesTurns (seen : W → WireSeen) (does : Does) (last : Turn) (m : Moves) : Type 0 where
+    pub talked : HasTurnsAt seen does (get old.open key) (get new.open key) last
     pub moved : CountsMovesAt (is_slot does_count (contact_at old.contacts.connections key))
         (get old.open key) (get new.open key) m
     pub others : KeepsOthers key old.open new.open
@@ -36,42 +78,46 @@ module _ {W : Type 0} (key : ℕ) (old new : Connections W) where
     pub sessions : new.sessions ≡ old.sessions
 
   -- what its last turn asks for is done, in which octets came or did not, and nothing else
-  pub record SettlesKey (turn : Turn) (has_heard : Bool) : Type 0 where
-    pub contacts : Settles key turn has_heard (get old.open key) old.contacts new.contacts
-    pub own : KeepsOrLoses turn (get old.open key) (get new.open key)
+  pub record SettlesKey (last : Turn) (has_heard : Bool) : Type 0 where
+    pub contacts : SettlesAs key last (get old.open key)
+        (known_after key has_heard (get old.open key) old.contacts) new.contacts
+    pub own : get new.open key ≡ kept_after last
+        (is_abandoned (contact_at
+        (known_after key has_heard (get old.open key) old.contacts).connections key)
+        (get old.open key)) (get old.open key)
     pub others : KeepsOthers key old.open new.open
 
--- a key is served: its connection has its turns, and what the last of them asks for is done
-abbrev pub ServesKey : {W : Type 0} → ℕ → (old new : Connections W) → Moves → Type 0
-ServesKey {W} key old new m =
-    (turned : Connections W) × (turn : Turn)
-    × GivesTurns key old turned m × SettlesKey key turned new turn m.has_heard
+module _ {W : Type 0} (seen : W → WireSeen) where
+  -- a key is served: its connection has its turns, and what the last of them asks for is done
+  abbrev pub ServesKey : Does → ℕ → (old new : Connections W) → Moves → Type 0
+  ServesKey does key old new m =
+      (turned : Connections W) × (last : Turn)
+      × GivesTurns key old turned seen does last m × SettlesKey key turned new last m.has_heard
 
--- So many keys are served, one after another. So many octets moved with peers in all, and so many
--- of them count as activity.
-abbrev pub ServesKeys : {W : Type 0} → ℕ → (old new : Connections W) → (moved octets : ℕ)
-    → Type 0
-ServesKeys zero old new moved octets = (new ≡ old) × (moved ≡ 0) × (octets ≡ 0)
-ServesKeys {W} (suc n) old new moved octets =
-    (mid : Connections W) × (told : ℕ) × (counted : ℕ) × (m : Moves)
-    × ServesKeys n old mid told counted × ServesKey n mid new m
-    × (moved ≡ saturated (told + m.moved)) × (octets ≡ saturated (counted + m.octets))
+  -- So many keys are served, one after another. So many octets moved with peers in all, and so many
+  -- of them count as activity.
+  abbrev pub ServesKeys : Does → ℕ → (old new : Connections W) → (moved octets : ℕ) → Type 0
+  ServesKeys does zero old new moved octets = (new ≡ old) × (moved ≡ 0) × (octets ≡ 0)
+  ServesKeys does (suc n) old new moved octets =
+      (mid : Connections W) × (told : ℕ) × (counted : ℕ) × (m : Moves)
+      × ServesKeys does n old mid told counted × ServesKey does n mid new m
+      × (moved ≡ saturated (told + m.moved)) × (octets ≡ saturated (counted + m.octets))
 
--- all keys are served: no connection has a greater one
-abbrev pub ServesAll : {W : Type 0} → (old new : Connections W) → (moved octets : ℕ) → Type 0
-ServesAll old new moved octets =
-    (n : ℕ) × (length old.open.slots ≤ n) × ServesKeys n old new moved octets
+  -- all keys are served: no connection has a greater one
+  abbrev pub ServesAll : Does → (old new : Connections W) → (moved octets : ℕ) → Type 0
+  ServesAll does old new moved octets =
+      (n : ℕ) × (length old.open.slots ≤ n) × ServesKeys does n old new moved octets
 
--- all keys are served twice: connections first hear, and then they speak
-abbrev pub ServesTwice : {W : Type 0} → (old new : Connections W) → (moved octets : ℕ) → Type 0
-ServesTwice {W} old new moved octets =
-    (heard : Connections W) × (told : ℕ) × (counted : ℕ) × (told' : ℕ) × (counted' : ℕ)
-    × ServesAll old heard told counted × ServesAll heard new told' counted'
-    × (moved ≡ saturated (told + told')) × (octets ≡ saturated (counted + counted'))
+  -- all keys are served twice: connections first hear, and then they speak
+  abbrev pub ServesTwice : (old new : Connections W) → (moved octets : ℕ) → Type 0
+  ServesTwice old new moved octets =
+      (heard : Connections W) × (told : ℕ) × (counted : ℕ) × (told' : ℕ) × (counted' : ℕ)
+      × ServesAll Hear old heard told counted × ServesAll Speak heard new told' counted'
+      × (moved ≡ saturated (told + told')) × (octets ≡ saturated (counted + counted'))
 
--- a wait, after which all keys are served twice
-abbrev pub WaitsAndServes : {W : Type 0} → (ran_out : Bool) → (new : Connections W)
-    → (moved octets : ℕ) → Type 0
-WaitsAndServes {W} ran_out new moved octets =
-    (waited : Connections W) × WaitsOnce ran_out waited.contacts
-    × ServesTwice waited new moved octets
+  -- a wait, after which all keys are served twice
+  abbrev pub WaitsAndServes : (ran_out : Bool) → (old new : Connections W) → (moved octets : ℕ)
+      → Type 0
+  WaitsAndServes ran_out old new moved octets =
+      (waited : Connections W) × WaitsOnce ran_out old.contacts waited.contacts
+      × ServesTwice waited new moved octets

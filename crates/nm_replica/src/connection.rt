@@ -4,9 +4,7 @@ ghost use Rattle.std.specs.Prelude.{◌&&◌, ◌-◌, ◌≡◌, if◌then◌el
 ghost use Rattle.nm_engine.specs.Link.{has_greeted};
 ghost use Rattle.nm_replica.specs.Moved.{moved_on};
 
-use crate::given_before::GivenBefore;
-use crate::moved::CountingWire;
-use nm_engine::{GivenCounts, Link};
+use nm_engine::{CountingWire, GivenBefore, GivenCounts, Link};
 use nm_frames::Session;
 
 /// How many octets moved on a connection whose peer greeted, and how many of them count as

@@ -9,22 +9,21 @@ ghost use Rattle.nm_policy.specs.Decisions.{is_due_at};
 ghost use Rattle.nm_policy.specs.Laws.{at_first};
 ghost use Rattle.nm_policy.specs.declared.contact_event.ContactEvent.TheVariants as event;
 ghost use Rattle.nm_replica.specs.Breaks.{fault_in, is_peer};
-ghost use Rattle.nm_replica.specs.Connections.{Admits, Awaits, Dials, DropsStranger, Keeps, LetsGo};
+ghost use Rattle.nm_replica.specs.Connections.{Admits, Awaits, CallsAll, Dials, DropsStranger};
+ghost use Rattle.nm_replica.specs.Connections.{Keeps, LetsGo};
 ghost use Rattle.nm_replica.specs.Connections.{LetsStaleGo, MakesRoom, heard_at};
-ghost use Rattle.nm_replica.specs.Connections.{learned, with_session_back};
+ghost use Rattle.nm_replica.specs.Connections.{is_abandoned, learned, with_session_back};
 ghost use Rattle.nm_replica.specs.Moved.{has_written, is_end, was_there};
 ghost use Rattle.nm_replica.specs.Served.{IsInterrupted, break_served};
 ghost use Rattle.nm_replica.specs.Sessions.{first_sessions};
 ghost use Rattle.nm_replica.specs.Turns.{SettlesKey};
 
 use crate::connection::Connection;
-use crate::given_before::GivenBefore;
 use crate::limits::MAX_ACCEPTED;
-use crate::moved::CountingWire;
 use crate::neighbours::Neighbours;
 use crate::served::{Served, break_served};
 use crate::sessions::Sessions;
-use nm_engine::{Acceptor, Cause, Link, Turn};
+use nm_engine::{Acceptor, Cause, CountingWire, GivenBefore, Link, Turn};
 use nm_policy::{ContactEvent, Contacts};
 use nm_transport::Transport;
 use slab::Slab;
@@ -193,8 +192,7 @@ impl<W> Connections<W> {
         transport: &mut T,
     ) -> Result<(), AllocError>
         ensures idle { T.elapsed_periods transport.new ≡ T.elapsed_periods transport.old }
-        ensures all { OnOk result
-            ((peer : ℕ) → is_due_at self.new.contacts.peers peer ≡ false) }
+        ensures all { OnOk result (CallsAll self.old.contacts self.new.contacts) }
     {
         for peer in 0..self.contacts.peer_count() {
             if self.contacts.is_due(peer) {
@@ -347,7 +345,7 @@ impl<W> Connections<W> {
         self.learn(key);
         match turn {
             Turn::Progress | Turn::Idle => {
-                if self.is_cut(key) {
+                if self.is_abandoned(key) {
                     self.let_go(transport, key, Cause::End)?;
                 }
                 Ok(())
@@ -362,9 +360,9 @@ impl<W> Connections<W> {
     }
 
     /// Whether the other side sends no more on the connection with this key, or has begun another.
-    fn is_cut(&self, key: usize) -> bool
-        ensures { is_slot (λ c. c.is_replaced) (contact_at self.now.contacts.connections key) ≡ true
-            → result ≡ true }
+    fn is_abandoned(&self, key: usize) -> bool
+        ensures { result ≡ is_abandoned (contact_at self.now.contacts.connections key)
+            (get self.now.open key) }
     {
         let has_ended = match self.open.get(key) {
             Some(connection) => connection.link.wire().has_ended(),

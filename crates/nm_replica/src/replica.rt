@@ -1,11 +1,12 @@
 //! A replica over a transport, until it ends.
 
-ghost use Rattle.std.specs.Prelude.{◌≡◌, ◌+◌, IfErr, IfOk, OnOk, length};
+ghost use Rattle.std.specs.Prelude.{◌≡◌, ◌==◌, ◌+◌, IfErr, IfOk, OnOk, length, not, true};
 ghost use Rattle.nm_base.specs.Count.{saturated};
 ghost use Rattle.nm_replica.specs.Polls.{ending_of, idle_after, is_active};
-ghost use Rattle.nm_replica.specs.Recording.{Streamed, Streams};
+ghost use Rattle.nm_replica.specs.Recording.{Streamed, Streams, WroteAsCounted};
 ghost use Rattle.nm_replica.specs.Seats.{AreKept, StandOnBoard};
 ghost use Rattle.nm_replica.specs.Served.{EndsEarly, EndsWith, PolledOnce, WasFinished};
+ghost use Rattle.nm_replica.specs.Turns.{WaitsAndServes};
 ghost use Rattle.nm_replica.specs.declared.served.Served.TheVariants.{Ended};
 
 use crate::lending::Lending;
@@ -165,8 +166,15 @@ pub fn poll_replica<C: Counts, S: Sink, T: Transport, R: Wait>(
     ensures so_far { IfErr result (λ _. Streamed S.seen C.exact C.home
         holdings.old.files.files.items holdings.new.files.files.items) }
 
-    // What is counted of idle periods, and whether serving ends by it, are what they are to be.
-    ensures exact { IfOk result (PolledOnce (WasFinished C.exact C.home service.now.keeps_records)
+    // Connections waited and had their turns, records were written, and the book did events or not.
+    // What is counted of idle periods, and whether serving ends by it, follow from that.
+    ensures exact { IfOk result (PolledOnce (λ p.
+        WaitsAndServes T.Connection.seen p.ran_out running.old.serving.connections
+        running.new.serving.connections p.moved p.octets
+        × WroteAsCounted S.seen C.exact C.home p.written
+        holdings.old.files.files.items holdings.new.files.files.items
+        × (p.was_run ≡ not (running.new.serving.events == running.old.serving.events))
+        × (p.is_done ≡ true → WasFinished C.exact C.home service.now.keeps_records))
         service.now.idle_limit running.new.polls (running.old.idle, running.new.idle)
         (T.elapsed_periods transport.old, T.elapsed_periods transport.new)) }
     ensures polls { OnOk result (running.new.polls ≡ saturated (running.old.polls + 1)) }

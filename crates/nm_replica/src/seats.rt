@@ -1,10 +1,9 @@
 //! The seats of one replica on a board.
 
-ghost use Rattle.std.specs.Prelude.{◌≡◌, ◌↔◌, ◌+◌, ◌<◌, ◌/◌, ◌%◌, All, IfOk, IsTrue, length, true};
-ghost use Rattle.nm_model.specs.Partition.{goes_out};
+ghost use Rattle.std.specs.Prelude.{◌≡◌, ◌+◌, All, IfOk, map, not};
+ghost use Rattle.std.specs.List.{filter};
+ghost use Rattle.nm_replica.specs.Words.{is_word_of};
 ghost use Rattle.nm_shared.specs.Board.{AreFirstOwners, IsOwnerOf, owned_word};
-ghost use Rattle.nm_sim.specs.Network.{net_of};
-ghost use Rattle.nm_topology.specs.Topology.{receiving_iface};
 
 use nm_base::PartNo;
 use nm_book::channels::goes_out;
@@ -15,10 +14,7 @@ use std::alloc::{AllocError, Global};
 
 /// Whether the seat is of a channel that goes out from the partition, and of this replica.
 pub fn is_own(topology: &Topology, partition: PartNo, replica: u8, seat: &OwnerSeat) -> bool
-    ensures { IsTrue result ↔ (owned_word seat.now / 2 < length topology.now.receivers)
-        × (goes_out (net_of topology.now) partition
-        (receiving_iface topology.now (owned_word seat.now / 2)) ≡ true)
-        × (owned_word seat.now % 2 ≡ replica) }
+    ensures { result ≡ is_word_of topology.now partition replica (owned_word seat.now) }
 {
     let channel = seat.channel();
     channel.index() < topology.receivers().len()
@@ -42,18 +38,19 @@ pub struct Dealt<'a> {
 }
 
 impl<'a> OwnSeats<'a> {
-    ghost use Rattle.nm_replica.specs.Seats.{board_of, seat_count};
+    ghost use Rattle.nm_replica.specs.Seats.{board_of, words_of};
 
     /// All seats that own a word of a new board.
     #[tactic(auto, using(crate::proofs::Owners::first_are_owners))]
     pub fn all(board: &'a ClockBoard, seats: Vec<OwnerSeat>) -> Self
         requires { AreFirstOwners board.now seats.items }
-        ensures { board_of result ≡ board.now }
+        ensures board { board_of result ≡ board.now }
+        ensures words { words_of result ≡ map owned_word seats.items }
     {
         OwnSeats { board, seats }
     }
 
-    /// Deals a replica the seats of its outgoing channels.
+    /// Deals a replica the seats of its outgoing channels. The others stay, each in its order.
     ///
     /// # Errors
     ///
@@ -64,10 +61,14 @@ impl<'a> OwnSeats<'a> {
         topology: &Topology,
         name: ReplicaName,
     ) -> Result<Dealt<'a>, AllocError>
-        ensures own { IfOk result (λ d. board_of d.own ≡ board_of self.entry) }
-        ensures others { IfOk result (λ d. board_of d.others ≡ board_of self.entry) }
-        ensures all { IfOk result
-            (λ d. seat_count d.own + seat_count d.others ≡ seat_count self.entry) }
+        ensures board { IfOk result (λ d. (board_of d.own ≡ board_of self.entry)
+            × (board_of d.others ≡ board_of self.entry)) }
+        ensures own { IfOk result (λ d. words_of d.own
+            ≡ filter (is_word_of topology.now name.partition name.replica)
+            (words_of self.entry)) }
+        ensures others { IfOk result (λ d. words_of d.others
+            ≡ filter (λ w. not (is_word_of topology.now name.partition name.replica w))
+            (words_of self.entry)) }
     {
         let ReplicaName { partition, replica } = name;
         let OwnSeats { board, seats } = self;
@@ -104,7 +105,10 @@ impl<'a> OwnSeats<'a> {
         seats: Vec<OwnerSeat>,
     ) -> Result<Self, AllocError>
         requires { AreFirstOwners board.now seats.items }
-        ensures { IfOk result (λ own. board_of own ≡ board.now) }
+        ensures board { IfOk result (λ own. board_of own ≡ board.now) }
+        ensures words { IfOk result (λ own. words_of own
+            ≡ filter (is_word_of topology.now partition replica)
+            (map owned_word seats.items)) }
     {
         let name = ReplicaName { partition, replica };
         let Dealt { own, others: _ } = OwnSeats::all(board, seats).deal(alloc, topology, name)?;

@@ -146,7 +146,7 @@ fn serve_all<T: Transport, C: Counts, R: Wait>(
     ensures counted { IfOk result
         (λ m. serving.new.counted ≡ saturated (serving.old.counted + m.octets)) }
     ensures events { serving.new.events ≡ serving.old.events }
-    ensures served { IfOk result (λ m. ServesAll serving.old.connections
+    ensures served { IfOk result (λ m. ServesAll T.Connection.seen does serving.old.connections
         serving.new.connections m.moved m.octets) }
 {
     let talk = Talk {
@@ -246,7 +246,8 @@ fn await_transport<T: Transport, C: Counts>(
         ≡ elapsed_after (T.elapsed_periods transport.old) ran_out) }
     ensures early { IfErr result IsInterrupted }
     ensures waits { IfOk result
-        (λ ran_out. WaitsOnce ran_out serving.new.connections.contacts) }
+        (λ ran_out. WaitsOnce ran_out serving.old.connections.contacts
+        serving.new.connections.contacts) }
     ensures kept { (serving.new.moved ≡ serving.old.moved)
         × (serving.new.counted ≡ serving.old.counted)
         × (serving.new.events ≡ serving.old.events) }
@@ -398,7 +399,7 @@ fn serve_and_act<C: Counts, S, T: Transport, R: Wait>(
         (λ a. serving.new.moved ≡ saturated (serving.old.moved + a.moves.moved)) }
     ensures counted { IfOk result
         (λ a. serving.new.counted ≡ saturated (serving.old.counted + a.moves.octets)) }
-    ensures served { IfOk result (λ a. ServesTwice serving.old.connections
+    ensures served { IfOk result (λ a. ServesTwice T.Connection.seen serving.old.connections
         serving.new.connections a.moves.moved a.moves.octets) }
     ensures run { IfOk result (λ a. (serving.new.events ≡ a.standing.events)
         × (a.was_run ≡ not (a.standing.events == serving.old.events))) }
@@ -480,8 +481,8 @@ pub(crate) fn poll<C: Counts, S: Sink, T: Transport, R: Wait>(
         (λ p. serving.new.moved ≡ saturated (serving.old.moved + p.moved)) }
     ensures counted { IfOk result
         (λ p. serving.new.counted ≡ saturated (serving.old.counted + p.octets)) }
-    ensures served { IfOk result (λ p. WaitsAndServes p.ran_out serving.new.connections
-        p.moved p.octets) }
+    ensures served { IfOk result (λ p. WaitsAndServes T.Connection.seen p.ran_out
+        serving.old.connections serving.new.connections p.moved p.octets) }
     ensures run { IfOk result
         (λ p. p.was_run ≡ not (serving.new.events == serving.old.events)) }
     ensures written { IfOk result (λ p. WroteAsCounted S.seen C.exact C.home p.written

@@ -4,14 +4,14 @@ ghost use Rattle.std.specs.Prelude.{◌+◌, ◌≡◌, None};
 ghost use Rattle.slab.specs.Slab.{get};
 ghost use Rattle.nm_base.specs.Count.{saturated};
 ghost use Rattle.nm_replica.specs.Moved.{CountsMoves};
-ghost use Rattle.nm_replica.specs.Turns.{GivesTurns};
+ghost use Rattle.nm_replica.specs.Turns.{GivesTurns, HasTurns, TurnsAs, has_moved};
+ghost use Rattle.nm_replica.specs.declared.limits.TheConstants.{MAX_TURNS};
 
 use crate::connection::Connection;
 use crate::connections::Connections;
 use crate::limits::MAX_TURNS;
-use crate::moved::CountingWire;
 use nm_base::Wire;
-use nm_engine::{GivenCounts, Link, ReadBuffer, Turn};
+use nm_engine::{CountingWire, GivenCounts, Link, ReadBuffer, Turn};
 use nm_shared::{Counts, Pass, SharedBook};
 use std::alloc::Global;
 use std::sync::Wait;
@@ -72,25 +72,47 @@ pub(crate) struct Talk<'a, C: Counts> {
     pub does: Does,
 }
 
+/// Whether something moved in a turn, and the link goes on.
+fn has_moved(turn: Turn) -> bool
+    ensures { result ≡ has_moved turn }
+{
+    matches!(turn, Turn::Progress)
+}
+
+/// One turn of a link.
+fn turn_of<W: Wire, C: Counts, R: Wait>(
+    rt: &R,
+    talk: &Talk<'_, C>,
+    pass: &mut Pass<C>,
+    link: &mut Link<CountingWire<W>>,
+    buffer: &mut ReadBuffer,
+) -> Turn
+    ensures { TurnsAs (λ w. W.seen w.wire) talk.now.does link.old link.new result }
+{
+    match talk.does {
+        Does::Hear => link.hear(rt, talk.alloc, talk.book, pass, buffer),
+        Does::Speak => link.turn(rt, talk.alloc, talk.book, pass, buffer),
+    }
+}
+
 /// Gives a link its turns: what the last of them came to.
+#[tactic(auto, using(crate::proofs::Turns::progresses_more, crate::proofs::Turns::has_had_all, crate::proofs::Turns::has_had_last))]
 fn turns_of<W: Wire, C: Counts, R: Wait>(
     rt: &R,
     talk: &Talk<'_, C>,
     pass: &mut Pass<C>,
     link: &mut Link<CountingWire<W>>,
     buffer: &mut ReadBuffer,
-) -> Turn {
-    let mut last = Turn::Progress;
-    for _ in 0..MAX_TURNS {
-        last = match talk.does {
-            Does::Hear => link.hear(rt, talk.alloc, talk.book, pass, buffer),
-            Does::Speak => link.turn(rt, talk.alloc, talk.book, pass, buffer),
-        };
-        if last != Turn::Progress {
-            break;
+) -> Turn
+    ensures { HasTurns (λ w. W.seen w.wire) talk.now.does MAX_TURNS link.old link.new result }
+{
+    for _had in 0..MAX_TURNS {
+        let turn = turn_of(rt, talk, pass, link, buffer);
+        if !has_moved(turn) {
+            return turn;
         }
     }
-    last
+    Turn::Progress
 }
 
 /// Counts what moved on a connection in its turns, after which it may want more or not.
@@ -118,7 +140,8 @@ pub(crate) fn turns<W: Wire, C: Counts, R: Wait>(
     buffer: &mut ReadBuffer,
     key: usize,
 ) -> (Moves, Turn)
-    ensures turned { GivesTurns key connections.old connections.new result.0 }
+    ensures turned { GivesTurns key connections.old connections.new W.seen talk.now.does
+        result.1 result.0 }
     ensures absent { get connections.old.open key ≡ None → connections.new ≡ connections.old }
 {
     let counts = connections.contacts.does_count(key);
@@ -126,6 +149,6 @@ pub(crate) fn turns<W: Wire, C: Counts, R: Wait>(
         return (Moves::NONE, Turn::Idle);
     };
     let last = turns_of(rt, talk, pass, &mut connection.link, buffer);
-    let has_more = last == Turn::Progress;
+    let has_more = has_moved(last);
     (count_turns(connection, counts, has_more), last)
 }

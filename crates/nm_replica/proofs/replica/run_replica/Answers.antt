@@ -1,4 +1,5 @@
 use Rattle.std.proofs.Common.{◌≡◌, ◌≤◌, ◌+◌, refl, subst, sym, ◌∙◌, arith}
+use Rattle.nm_replica.specs.Polls.{is_active}
 use Rattle.nm_replica.proofs.Polls.{ends_after, idles_wait}
 use Rattle.nm_replica.proofs.Recordings.{streamed_all, streamed_more, streamed_none, streams_more, streams_none}
 use Rattle.nm_replica.proofs.replica.run_replica.Goals as goal
@@ -24,10 +25,11 @@ returns-in-Ok-Some-clause-ends g c =
     let before = g.T.Transport.elapsed_periods c.loop.transport in
     let after = g.T.Transport.elapsed_periods c.poll_replica.new.transport in
     let one = c.in-Ok-Some.ensures.exact in
+    let happened = one.4 in
     ends_after g.C.Counts.exact g.C.Counts.home c.args.service.now.keeps_records c.args.service.now.idle_limit start after
-    c.poll_replica.new.running.idle c.poll_replica.new.running.polls one.2 c.in-Ok-Some.served one.6
-    (subst (λ i. start + i ≤ after) (sym one.3) (idles_wait c.loop.running.idle one.0 one.1 start before after c.loop.invariant.idle one.4))
-    (sym one.5 ∙ c.in-Ok-Some.field-0-is)
+    c.poll_replica.new.running.idle c.poll_replica.new.running.polls one.0.is_done c.in-Ok-Some.served happened.3
+    (subst (λ i. start + i ≤ after) (sym one.1) (idles_wait c.loop.running.idle (is_active one.0.octets one.0.written one.0.was_run) one.0.ran_out start before after c.loop.invariant.idle one.2))
+    (sym one.3 ∙ c.in-Ok-Some.field-0-is)
 
 pub loop-preserved : goal.loop-preserved
 loop-preserved g c =
@@ -38,7 +40,7 @@ loop-preserved g c =
     record {
       seats = (c.in-Ok-None.ensures.seats.0 ∙ c.loop.invariant.seats.0, c.in-Ok-None.ensures.seats.1 ∙ c.loop.invariant.seats.1);
       passes = c.in-Ok-None.ensures.passes ∙ c.loop.invariant.passes;
-      idle = subst (λ i. start + i ≤ after) (sym one.3) (idles_wait c.loop.running.idle one.0 one.1 start before after c.loop.invariant.idle one.4);
+      idle = subst (λ i. start + i ≤ after) (sym one.1) (idles_wait c.loop.running.idle (is_active one.0.octets one.0.written one.0.was_run) one.0.ran_out start before after c.loop.invariant.idle one.2);
       streams = streams_more g.C.Counts.exact g.C.Counts.home g.S.Sink.seen c.args.holdings.now.files.files.items c.loop.holdings.files.files.items
           c.poll_replica.new.holdings.files.files.items c.loop.invariant.streams c.in-Ok-None.ensures.streams;
     }

@@ -46,4 +46,4 @@ returns-clause-served g c =
       | then-standing+else-may_leave w ↦ ap connections w.serving-is
       | else-standing w ↦ ap connections w.serving-is
     ] in
-    waits_and_serves _ _ _ _ _ _ c.in_ok-ran_out.ensures.waits c.in_ok-standing.ensures.served kept
+    waits_and_serves _ _ c.args.serving.now.connections _ _ _ _ _ c.in_ok-ran_out.ensures.waits c.in_ok-standing.ensures.served kept

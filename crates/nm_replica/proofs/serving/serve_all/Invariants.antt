@@ -8,5 +8,6 @@ invariant-loop-key g l = record {
   moved : l.serving.moved ≡ l.fn.serving.moved;
   counted : l.serving.counted ≡ l.fn.serving.counted;
   events : l.serving.events ≡ l.fn.serving.events;
-  served : ServesKeys l.key l.fn.serving.connections l.serving.connections l.all.moved l.all.octets;
+  does : l.talk.does ≡ l.fn.does;
+  served : ServesKeys g.T.Connection.Wire.seen l.fn.does l.key l.fn.serving.connections l.serving.connections l.all.moved l.all.octets;
 }

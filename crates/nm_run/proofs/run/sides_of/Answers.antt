@@ -9,10 +9,10 @@ loop-post-preserved g c =
     let board = c.args.threaded.now.board.now in
     let last : c.push.new.self.items ≡ c.loop-post.sides.items ++ c.in_ok-side_of.field-0 ∷ [] = search rules in
     record {
-      rest = c.in_ok-seats.ensures.others ∙ c.loop-post.invariant.rest;
+      rest = c.in_ok-seats.ensures.board.1 ∙ c.loop-post.invariant.rest;
       board = subst (All (λ s. board_of s.holdings.seats ≡ board)) (sym last)
           (All-push (λ s. board_of s.holdings.seats ≡ board) c.loop-post.sides.items c.in_ok-side_of.field-0 c.loop-post.invariant.board
-          (ap board_of c.in_ok-side_of.ensures.seats ∙ c.in_ok-seats.ensures.own ∙ c.loop-post.invariant.rest));
+          (ap board_of c.in_ok-side_of.ensures.seats ∙ c.in_ok-seats.ensures.board.0 ∙ c.loop-post.invariant.rest));
       counted = subst (All (λ s. AreCounted g.F.File.Sink.seen (g.F.Outputs.made c.args.outputs.now) s.holdings.files.files.items)) (sym last)
           (All-push (λ s. AreCounted g.F.File.Sink.seen (g.F.Outputs.made c.args.outputs.now) s.holdings.files.files.items) c.loop-post.sides.items c.in_ok-side_of.field-0
           c.loop-post.invariant.counted

@@ -1,4 +1,5 @@
-use Rattle.std.proofs.Common.{◌≡◌, length}
+use Rattle.std.proofs.Common.{◌≡◌, ℕ, length}
+use Rattle.nm_replica.specs.Connections.{CallsSome}
 use Rattle.nm_replica.proofs.Hands.{NoneWanted}
 use Rattle.nm_replica.proofs.connections.Connections.dial_all.Given as goal
 
@@ -6,5 +7,6 @@ abbrev pub invariant-loop-peer : goal.invariant-loop-peer
 invariant-loop-peer g l = record {
   idle : g.T.Transport.elapsed_periods l.transport ≡ g.T.Transport.elapsed_periods l.initial.transport;
   many : length l.self.contacts.peers ≡ length l.initial.self.contacts.peers;
-  called : NoneWanted l.self.contacts l.peer;
+  none : NoneWanted l.self.contacts l.peer;
+  calls : (n : ℕ) × CallsSome n l.initial.self.contacts l.self.contacts;
 }

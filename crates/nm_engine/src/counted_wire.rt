@@ -1,6 +1,6 @@
 //! A wire that counts what moves on it, and is read only where something may have come.
 
-ghost use Rattle.std.specs.Prelude.{◌≡◌, ◌+◌, nat_lt};
+ghost use Rattle.std.specs.Prelude.{◌≡◌, ◌+◌, false, nat_lt};
 ghost use Rattle.nm_base.specs.Count.{saturated};
 
 use nm_base::Wire;
@@ -25,17 +25,22 @@ pub struct CountingWire<W> {
 }
 
 impl<W> Model for CountingWire<W> {
-    ghost use Rattle.nm_replica.specs.CountedWire.{CountedWire};
+    ghost use Rattle.nm_engine.specs.CountedWire.{CountedWire};
 
     ghost Value = { CountedWire W };
 
-    ghost view = { λ c. record { wire = c.wire; came = c.came; written = c.written } };
+    ghost view = { λ c. record {
+      wire = c.wire;
+      came = c.came;
+      written = c.written;
+      has_ended = c.has_ended;
+    } };
 }
 
 impl<W> CountingWire<W> {
     /// None has moved.
     pub fn new(wire: W) -> Self
-        ensures { result ≡ record { wire = wire; came = 0; written = 0 } }
+        ensures { result ≡ record { wire = wire; came = 0; written = 0; has_ended = false } }
     {
         CountingWire {
             wire,
@@ -68,7 +73,9 @@ impl<W> CountingWire<W> {
     }
 
     /// Whether a read found the end.
-    pub fn has_ended(&self) -> bool {
+    pub fn has_ended(&self) -> bool
+        ensures { result ≡ self.now.has_ended }
+    {
         self.has_ended
     }
 

@@ -1,6 +1,6 @@
 //! Which messages were given to which replica on connections that are gone.
 
-use nm_engine::{Given, GivenMessages};
+use crate::given::{Given, GivenMessages};
 use nm_frames::ReplicaName;
 use std::alloc::Global;
 
