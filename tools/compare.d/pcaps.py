@@ -6,6 +6,8 @@ import struct
 # The link types of raw IP and of PPP, and the octets that PPP puts before a packet of IPv4.
 RAW, PPP = 101, 9
 PPP_HEADER = b"\x00\x21"
+# The most octets of a record, as the header of our files says it.
+LONGEST = 65_535
 NANOSECONDS = 0xA1B23C4D
 
 
@@ -31,6 +33,14 @@ def records(path):
     if at != len(octets):
         raise BadTrace(path)
     return found
+
+
+def write_raw(path, found):
+    """A trace file of these records with the link type of raw IP, as docs/FORMATS.md has it."""
+    with open(path, "wb") as file:
+        file.write(struct.pack("<IHHIIII", NANOSECONDS, 2, 4, 0, 0, LONGEST, RAW))
+        for at, packet in found:
+            file.write(struct.pack("<IIII", *divmod(at, 10 ** 9), len(packet), len(packet)) + packet)
 
 
 def first_difference(ours, theirs):

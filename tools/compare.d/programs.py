@@ -14,6 +14,8 @@ NS3_LIBRARIES = ["-lns3-point-to-point", "-lns3-traffic-control", "-lns3-interne
 BUILDS = ((NS3, "ns3.cc", ("levelled.h", "network.h"), NS3_LIBRARIES), (LOOP, "loop.cc", ("network.h",), []))
 NS3_HEADER = "/usr/include/ns3/core-module.h"
 WANTED = "apt-get install ns3 libns3-dev g++"
+# The status of `verify` where a trace file differs.
+DIFFERS = 8
 # What no comparison takes.
 SECONDS = 600
 
@@ -52,6 +54,11 @@ def ns3_version():
 
 def is_there():
     return os.access(NULLSIM, os.X_OK)
+
+
+def status_of(words):
+    """The status with which a program ends that says what it says to nobody."""
+    return subprocess.run(words, stdout=subprocess.DEVNULL, stderr=subprocess.DEVNULL, timeout=SECONDS, check=False).returncode
 
 
 def call(words):

@@ -22,7 +22,7 @@ class Tally:
 
     def __init__(self, name, what):
         self.name, self.what = name, what
-        self.topologies = self.equal = self.ifaces = self.equal_ifaces = self.records = 0
+        self.topologies = self.equal = self.verified = self.ifaces = self.equal_ifaces = self.records = 0
         self.names, self.unknown, self.ties, self.tied, self.loops = collections.defaultdict(list), [], 0, 0, 0
 
     def add(self, name, compared, found):
@@ -55,6 +55,16 @@ def simulate(topology, folder, words):
     return pcaps.Compared(names, os.path.join(folder, "ours"), os.path.join(folder, "theirs"))
 
 
+def is_verified(folder, compared):
+    """Whether `verify` says of ns-3's trace files, as files of raw IP, what the comparison of records says: the first simulation in this folder."""
+    made = os.path.join(folder, "raw")
+    os.mkdir(made)
+    for name in compared.ours:
+        pcaps.write_raw(os.path.join(made, name + ".pcap"), pcaps.records(os.path.join(folder, "theirs", name + ".pcap")))
+    status = programs.status_of([programs.NULLSIM, "verify", os.path.join(folder, "ours.text"), made])
+    return status == (programs.DIFFERS if compared.differences else 0)
+
+
 def reasons_of(topology, compared):
     """The reasons of the earliest differences, and those that have none."""
     node_of = {iface["name"]: iface["node"] for iface in topology["iface"]}
@@ -80,6 +90,7 @@ def try_topology(name, topology, tally):
     with tempfile.TemporaryDirectory(prefix="compare.") as folder:
         try:
             compared = simulate(topology, folder, [programs.NS3, "--places"])
+            verified = is_verified(folder, compared)
         except programs.Failed as failed:
             tally.topologies += 1
             tally.unknown.append(name)
@@ -87,6 +98,10 @@ def try_topology(name, topology, tally):
             return None
     found, unknown = reasons_of(topology, compared)
     tally.add(name, compared, found)
+    tally.verified += verified
+    if not verified:
+        tally.unknown.append(name)
+        print(f"{tally.name}: {name}: verify says otherwise of ns-3's files: UNKNOWN", flush=True)
     if compared.differences:
         first = compared.differences[0]
         print(f"{tally.name}: {name}: {compared.equal} of {len(compared.ours)} interfaces are equal; the first difference is at {first.at} ns, "
@@ -155,12 +170,12 @@ def try_parts():
 
 def set_row(tally):
     return (f"| *{tally.name}*: {tally.what} | {tally.topologies:,} | {tally.equal:,} | {tally.ifaces:,} | {tally.equal_ifaces:,} | {tally.records:,} | "
-            f"{tally.ties if tally.tied else ''} |")
+            f"{tally.ties if tally.tied else ''} | {tally.verified:,} |")
 
 
 def set_table(tallies):
-    yield "| Topologies | Number | Equal | Interfaces | Equal | Records in our traces | Equal, but not with ns-3's own order of ties |"
-    yield "|---|---|---|---|---|---|---|"
+    yield "| Topologies | Number | Equal | Interfaces | Equal | Records in our traces | Equal, but not with ns-3's own order of ties | `verify` says the same |"
+    yield "|---|---|---|---|---|---|---|---|"
     yield from map(set_row, tallies)
     loops = sum(tally.loops for tally in tallies)
     if loops:
