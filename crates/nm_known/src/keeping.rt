@@ -36,7 +36,8 @@ pub fn known_name(
     Ok(name)
 }
 
-/// Makes the file of what a replica knows in a folder, and closes it. It does not have its name yet.
+/// Makes the file of what a replica knows in a folder, and closes it. It does not have its name
+/// yet.
 fn close_known<F: Outputs>(
     alloc: Global,
     folder: &str,
@@ -56,8 +57,8 @@ fn close_known<F: Outputs>(
     }
 }
 
-/// Makes the file of what a replica knows in a folder, and closes it, behind others that do not have
-/// their names yet.
+/// Makes the file of what a replica knows in a folder, and closes it, behind others that do not
+/// have their names yet.
 ///
 /// # Errors
 ///

@@ -165,8 +165,8 @@ fn forged<R: Runtime + AllocGlobal + Abort>(rt: &R) -> Result<(), Fail> {
     Ok(())
 }
 
-/// A clock that was not promised; one that is earlier, and still past the end, which changes nothing;
-/// a message that is left out.
+/// A clock that was not promised; one that is earlier, and still past the end, which changes
+/// nothing; a message that is left out.
 fn clocks<R: Runtime + AllocGlobal + Abort>(rt: &R) -> Result<(), Fail> {
     let left = left(rt)?;
     let mut octets = left.file(3).to_vec(rt.alloc())?;
