@@ -1,6 +1,7 @@
 //! What replicas left in a folder, with one file forged at a time.
 
 use crate::fixtures::{Ended, behind, change, front, run_line};
+use nm_base::limits::MAX_TIME;
 use nm_fixtures::SPLIT;
 use nm_program::{MemInputs, Runtime};
 use std::io;
@@ -26,6 +27,12 @@ const HELLO: usize = 48;
 const PACKET: usize = HELLO + 25;
 
 const NULL: usize = PACKET + 100;
+
+/// The last octets of a file of what is known: a clock.
+const CLOCK_OCTETS: usize = 8;
+
+/// When the run stops, in nanoseconds.
+const STOP: u64 = 10_000_000;
 
 /// What is said where all is certified.
 const CERTIFIED: &[u8] =
@@ -165,28 +172,28 @@ fn forged<R: Runtime + AllocGlobal + Abort>(rt: &R) -> Result<(), Fail> {
     Ok(())
 }
 
-/// A clock that was not promised; one that is earlier, and still past the end, which changes
-/// nothing; a message that is left out.
+/// A file of what is known with this clock in its last frame, in nanoseconds.
+fn with_clock<R: AllocGlobal>(rt: &R, octets: &[u8], clock: u64) -> io::Result<Vec<u8>> {
+    let count = octets.len().saturating_sub(CLOCK_OCTETS);
+    let mut new = front(octets, count).to_vec(rt.alloc())?;
+    new.extend_from_slice(&clock.to_be_bytes())?;
+    Ok(new)
+}
+
+/// A clock that was not promised; one that is just at the end, by which all is done; one before it;
+/// a message that is left out. How far past the end a replica's clocks are when its run ends
+/// differs from run to run.
 fn clocks<R: Runtime + AllocGlobal + Abort>(rt: &R) -> Result<(), Fail> {
     let left = left(rt)?;
-    let mut octets = left.file(3).to_vec(rt.alloc())?;
-    let end = octets.len().max(9);
-    change(&mut octets, end - 1);
-    refused(
-        rt,
-        &left,
-        3,
-        octets.as_slice(),
-        "nullsim: not certified 3\n",
-    )?;
-    change(&mut octets, end - 1);
-    change(&mut octets, end - 3);
-    let ended = certified(rt, "certify - 2 d", &left, 3, octets.as_slice())?;
+    let late = with_clock(rt, left.file(3), MAX_TIME)?;
+    refused(rt, &left, 3, late.as_slice(), "nullsim: not certified 3\n")?;
+    let just = with_clock(rt, left.file(3), STOP)?;
+    let ended = certified(rt, "certify - 2 d", &left, 3, just.as_slice())?;
     assert!(rt; ended.out.octets() == CERTIFIED);
-    change(&mut octets, end - 3);
-    change(&mut octets, end - 9);
-    let mut fewer = front(octets.as_slice(), HELLO).to_vec(rt.alloc())?;
-    fewer.extend_from_slice(behind(octets.as_slice(), NULL))?;
+    let early = with_clock(rt, left.file(3), STOP - 1)?;
+    refused(rt, &left, 3, early.as_slice(), "nullsim: not certified 5\n")?;
+    let mut fewer = front(left.file(3), HELLO).to_vec(rt.alloc())?;
+    fewer.extend_from_slice(behind(left.file(3), NULL))?;
     refused(rt, &left, 3, fewer.as_slice(), "nullsim: not certified 2\n")
 }
 
