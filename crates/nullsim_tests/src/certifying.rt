@@ -194,6 +194,8 @@ fn clocks<R: Runtime + AllocGlobal + Abort>(rt: &R) -> Result<(), Fail> {
     refused(rt, &left, 3, early.as_slice(), "nullsim: not certified 5\n")?;
     let mut fewer = front(left.file(3), HELLO).to_vec(rt.alloc())?;
     fewer.extend_from_slice(behind(left.file(3), NULL))?;
+    let count = fewer.len().saturating_sub(CLOCK_OCTETS + 1);
+    change(&mut fewer, count); // one message becomes none
     refused(rt, &left, 3, fewer.as_slice(), "nullsim: not certified 2\n")
 }
 
