@@ -180,7 +180,7 @@ fn serve_with<N: Transport, R: Wait + Abort>(
     let seats = OwnSeats::of_replica(alloc, side.topology, &board, partition, 0, owners).expect(
         rt, "memory",
     );
-    let mut holdings = Holdings {
+    let mut holdings: Holdings<'_, Plain, MemSink> = Holdings {
         pass: book.pass(rt).expect(rt, "memory"),
         passes: Vec::new(alloc),
         seats,

@@ -64,7 +64,7 @@ fn serve_beside<R: Wait + Abort>(
     let seats = OwnSeats::of_replica(alloc, topology, &board, partition, 1, owners).expect(
         rt, "memory",
     );
-    let mut holdings = Holdings {
+    let mut holdings: Holdings<'_, Plain, MemSink> = Holdings {
         pass: own.pass(rt).expect(rt, "memory"),
         passes,
         seats,
