@@ -17,7 +17,7 @@ DESTDIR =
 all: bin/nullsim
 
 help:
-	@echo 'make             proves what the program needs, and builds bin/nullsim; the first time some 116 processor minutes, and it says what is left (JOBS=N: N jobs at a time)'
+	@echo 'make             proves what the program needs, and builds bin/nullsim; the first time some 80 processor minutes, and it says what is left (JOBS=N: N jobs at a time)'
 	@echo 'make try         runs the program before it is proved, in some 2 processor minutes: TOPO=FILE and IFACE=NAME choose what it shows'
 	@echo 'make run         builds it and shows a trace in hexadecimal; TOPO and IFACE as for make try'
 	@echo 'make bench       times it on generated topologies, and event lists and knowledge alone (docs/BENCH.md)'
