@@ -1,5 +1,5 @@
 pub mod Acceptor
-pub mod CountedWire
+pub mod CountingWire
 pub mod Lives
 pub mod Link
 pub mod Reading

@@ -4,7 +4,7 @@
 pub mod acceptor;
 pub mod acts;
 pub mod answer;
-pub mod counted_wire;
+pub mod counting_wire;
 pub mod given;
 pub mod given_before;
 mod giving;
@@ -19,7 +19,7 @@ mod writing;
 
 pub use acceptor::Acceptor;
 pub use answer::{Cause, Turn};
-pub use counted_wire::CountingWire;
+pub use counting_wire::CountingWire;
 pub use given::{Given, GivenCounts, GivenMessages};
 pub use given_before::GivenBefore;
 pub use link::Link;

@@ -9,7 +9,7 @@ use Rattle.nm_book.specs.Book.{BookValue, replica_of}
 use Rattle.nm_model.specs.Certificate.{is_done}
 use Rattle.nm_shared.specs.Home.{Home, home_of}
 use Rattle.nm_sim.specs.Network.{net_of}
-use Rattle.nm_replica.specs.Finished.{IsFinished}
+use Rattle.nm_replica.specs.Finished.{IsDone}
 use Rattle.nm_replica.specs.declared.served.Served.{Served}
 use Rattle.nm_replica.specs.declared.served.Served.TheVariants as served
 use Rattle.nm_process.specs.declared.fault.ProcessCause.{ProcessCause}
@@ -21,7 +21,7 @@ pub record IsDoneReplica (t : TopologyValue) (p r : ℕ) (b : BookValue) : Type 
   pub topology : b.topology ≡ t
   pub partition : b.partition ≡ p
   pub replica : b.replica ≡ r
-  pub finished : IsFinished b
+  pub finished : IsDone b
   pub whole : b.handed ≡ 0
 
 -- why a replica is not done whose serving came to this

@@ -5,7 +5,7 @@ ghost use Rattle.std.specs.Prelude.{true};
 ghost use Rattle.std.specs.Arc.{arc_value};
 ghost use Rattle.nm_peers.specs.Peers.{ArePeers, own_address};
 ghost use Rattle.nm_peers.specs.declared.peers.Peers.{Peers};
-ghost use Rattle.nm_replica.specs.Finished.{IsFinished};
+ghost use Rattle.nm_replica.specs.Finished.{IsDone};
 ghost use Rattle.nm_process.specs.Process.{IsDoneReplica, IsUnfinished, is_stall};
 ghost use Rattle.nm_process.specs.Process.{unfinished_fault};
 ghost use Rattle.nm_shared.specs.Counted.{IsBlankOf};
@@ -220,7 +220,7 @@ fn close<M: Naming + Send + Sync, E: Ledger + Send + Sync>(
 ) -> Result<Option<Book>, ProcessFault>
     requires { (M.parts ≡ 2 ^ 32) × (E.parts ≡ 2 ^ 32) }
     ensures done { IfOk result (λ closed. IfSome closed
-        (λ b. (home_of b ≡ M.home) × IsFinished b × (b.handed ≡ 0))) }
+        (λ b. (home_of b ≡ M.home) × IsDone b × (b.handed ≡ 0))) }
     ensures left { IfOk result (λ closed. closed ≡ None → IsUnfinished M.home) }
     ensures fault { IfErr result (λ f. is_stall f ≡ false) }
 {

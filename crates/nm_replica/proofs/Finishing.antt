@@ -10,12 +10,12 @@ use Rattle.nm_book.specs.Book.{BookValue, replica_of, state_of}
 use Rattle.nm_shared.specs.Counted.{Meets}
 use Rattle.nm_shared.specs.Home.{Home, home_of}
 use Rattle.nm_replica.specs.Served.{WasFinished, WasSeen, WereFinished, is_handed_out}
-use Rattle.nm_replica.specs.Finished.{IsFinished}
+use Rattle.nm_replica.specs.Finished.{IsDone}
 use Rattle.nm_replica.specs.declared.acts.Standing.{Standing}
 
 -- one replica more
 pub one_finished : (exact : Bool) {P : Type 0} (f : P → ℕ) (k : ℕ) (passes : List P) (p : P) (b : BookValue) → k < length passes
-    → WereFinished exact k (map f passes) → (exact ≡ true → f p ≤ b.events) → IsFinished b → WereFinished exact (k + 1) (map f (slice_set passes k p))
+    → WereFinished exact k (map f passes) → (exact ≡ true → f p ≤ b.events) → IsDone b → WereFinished exact (k + 1) (map f (slice_set passes k p))
 one_finished exact f k passes p b low so_far few done n under =
     ⊎_elim
     (λ before.

@@ -136,3 +136,8 @@ module _ (exact : Bool) (own : Home) where
 pub on_error : {V E : Type 0} {K : Type 0} (r : Result V E) → K → IfErr r (λ _. K)
 on_error (Ok v) k = tt
 on_error (Err e) k = k
+
+-- or of some errors alone
+pub on_such_error : {V E : Type 0} (P : E → Type 0) {K : Type 0} (r : Result V E) → K → IfErr r (λ e. P e → K)
+on_such_error P (Ok v) k = tt
+on_such_error P (Err e) k = λ _. k

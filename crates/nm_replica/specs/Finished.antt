@@ -5,5 +5,5 @@ use Rattle.nm_sim.specs.Network.{net_of}
 use Rattle.nm_book.specs.Book.{BookValue, replica_of}
 
 -- nothing is left to do for the replica
-abbrev pub IsFinished : BookValue → Type 0
-IsFinished b = is_done (net_of b.topology) b.partition (replica_of b) ≡ true
+abbrev pub IsDone : BookValue → Type 0
+IsDone b = is_done (net_of b.topology) b.partition (replica_of b) ≡ true

@@ -7,5 +7,6 @@ pub mod Recording
 pub mod Seats
 pub mod Served
 pub mod Sessions
+pub mod Sisters
 pub mod Turns
 pub mod Words

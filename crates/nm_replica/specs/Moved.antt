@@ -1,7 +1,7 @@
 -- Octets that moved on a connection, and what its turns count of them.
 use Rattle.std.specs.Prelude.{◌≡◌, ℕ, ◌+◌, ◌-◌, Bool, true, false, nat_lt, ◌&&◌, ◌||◌, Option, Some, None, IsSomeAnd, if◌then◌else◌}
 use Rattle.nm_base.specs.Count.{saturated}
-use Rattle.nm_engine.specs.CountedWire.{CountedWire}
+use Rattle.nm_engine.specs.CountingWire.{CountingWireValue}
 use Rattle.nm_engine.specs.Link.{has_greeted}
 use Rattle.nm_engine.specs.declared.answer.Cause.{Cause}
 use Rattle.nm_engine.specs.declared.answer.Cause.TheVariants as cause
@@ -9,7 +9,7 @@ use Rattle.nm_replica.specs.declared.connection.Connection.{Connection}
 use Rattle.nm_replica.specs.declared.turning.Moves.{Moves}
 
 -- how many moved on a wire, both ways, up to 2 ^ 64 - 1
-abbrev pub moved_on : {W : Type 0} → CountedWire W → ℕ
+abbrev pub moved_on : {W : Type 0} → CountingWireValue W → ℕ
 moved_on wire = saturated (wire.came + wire.written)
 
 -- octets were written on a connection, so that somebody was there

@@ -14,7 +14,7 @@ use Rattle.nm_replica.specs.declared.acts.Standing.{Standing}
 use Rattle.nm_replica.specs.declared.served.Served.{Served}
 use Rattle.nm_replica.specs.declared.serving.Polled.{Polled}
 use Rattle.nm_replica.specs.declared.served.Served.TheVariants.{Ended, Net, Memory, File, Stalled}
-use Rattle.nm_replica.specs.Finished.{IsFinished}
+use Rattle.nm_replica.specs.Finished.{IsDone}
 use Rattle.nm_replica.specs.Polls.{ending_of, idle_after, is_active}
 use Rattle.nm_replica.specs.declared.limits.TheConstants.{MAX_POLLS}
 
@@ -50,20 +50,15 @@ WasSeen exact own s =
 -- to hand out unless it keeps them
 abbrev pub WasFinished : (exact : Bool) → Home → (keeps_records : Bool) → Type 0
 WasFinished exact own keeps =
-    (b : BookValue) × (exact ≡ true → home_of b ≡ own) × IsFinished b
+    (b : BookValue) × (exact ≡ true → home_of b ≡ own) × IsDone b
     × (keeps ≡ false → b.handed ≡ length (state_of b).records)
-
--- whether the second of these replicas, each by its partition and its number in that, is the sister
--- of the first: the other one of its partition
-abbrev pub is_sister_of : ℕ × ℕ → ℕ × ℕ → Bool
-is_sister_of own other = (other.0 == own.0) && not (other.1 == own.1)
 
 -- Of each of so many replicas a book was seen to be done. It had done no fewer events than the
 -- replica's pass has counted, if the counts are exact.
 abbrev pub WereFinished : (exact : Bool) → (replicas : ℕ) → (counted : List ℕ) → Type 0
 WereFinished exact replicas counted =
     (n : ℕ) → n < replicas
-    → (b : BookValue) × (exact ≡ true → slice_index_or counted n 0 ≤ b.events) × IsFinished b
+    → (b : BookValue) × (exact ≡ true → slice_index_or counted n 0 ≤ b.events) × IsDone b
 
 -- A replica's book was seen to have something left to do; or there is no other replica, or not a
 -- pass for each.
@@ -93,6 +88,14 @@ PolledOnce Happened limit polls idle waits end =
     (p : Polled) × (idle.1 ≡ idle_after idle.0 (is_active p.octets p.written p.was_run) p.ran_out)
     × (waits.1 ≡ elapsed_after waits.0 p.ran_out)
     × (end ≡ ending_of p.is_done idle.1 limit polls) × Happened p
+
+-- no trace file failed by it, and no memory was refused: each took all that was handed out
+abbrev pub took_all : Served → Bool
+took_all Ended = true
+took_all Net = true
+took_all Memory = false
+took_all (File iface written) = false
+took_all (Stalled polls) = true
 
 -- how serving ends where it is interrupted: the network failed, or memory was refused
 abbrev pub IsInterrupted : Served → Type 0

@@ -5,9 +5,9 @@ ghost use Rattle.nm_base.specs.Count.{saturated};
 ghost use Rattle.nm_replica.specs.Polls.{ending_of, idle_after, is_active};
 ghost use Rattle.nm_replica.specs.Recording.{Streamed, Streams, WroteAsCounted};
 ghost use Rattle.nm_replica.specs.Seats.{AreKept, StandOnBoard};
-ghost use Rattle.nm_replica.specs.Served.{EndsEarly, EndsWith, PolledOnce, WasFinished};
+ghost use Rattle.nm_replica.specs.Served.{EndsEarly, EndsWith, PolledOnce, WasFinished, took_all};
 ghost use Rattle.nm_replica.specs.Turns.{WaitsAndServes};
-ghost use Rattle.nm_replica.specs.declared.served.Served.TheVariants.{Ended};
+ghost use Rattle.nm_replica.specs.declared.served.Served.TheVariants.{Net};
 
 use crate::lending::Lending;
 use crate::limits::MAX_POLLS;
@@ -165,6 +165,8 @@ pub fn poll_replica<C: Counts, S: Sink, T: Transport, R: Wait>(
         holdings.old.files.files.items holdings.new.files.files.items) }
     ensures so_far { IfErr result (λ _. Streamed S.seen C.exact C.home
         holdings.old.files.files.items holdings.new.files.files.items) }
+    ensures net { IfErr result (λ s. s ≡ Net → Streams S.seen C.exact C.home
+        holdings.old.files.files.items holdings.new.files.files.items) }
 
     // Connections waited and had their turns, records were written, and the book did events or not.
     // What is counted of idle periods, and whether serving ends by it, follow from that.
@@ -225,9 +227,9 @@ pub fn run_replica<C: Counts, S: Sink, T: Transport, G: Gate, R: Wait>(
     transport: &mut T,
     gate: &G,
 ) -> Served
-    // Where serving ended, each file took those at its interface of the records handed out; and
-    // however it ended, those before a record at which a file failed.
-    ensures streams { result ≡ Ended → Streams S.seen C.exact C.home
+    // Unless a file failed or memory was refused, each file took those at its interface of the
+    // records handed out; and however it ended, those before a record at which a file failed.
+    ensures streams { took_all result ≡ true → Streams S.seen C.exact C.home
         holdings.old.files.files.items holdings.new.files.files.items }
     ensures so_far { Streamed S.seen C.exact C.home
         holdings.old.files.files.items holdings.new.files.files.items }

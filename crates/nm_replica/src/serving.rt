@@ -1,9 +1,11 @@
 //! One poll of a replica, and what follows it.
 
-ghost use Rattle.std.specs.Prelude.{◌%◌, ◌&&◌, ◌+◌, ◌-◌, ◌==◌, ◌||◌, ◌≡◌, IfErr, IfOk, OnOk};
-ghost use Rattle.std.specs.Prelude.{false, if◌then◌else◌, is_some, length, not, true};
+ghost use Rattle.std.specs.Prelude.{◌%◌, ◌&&◌, ◌+◌, ◌-◌, ◌==◌, ◌||◌, ◌≡◌, IfErr, IfOk, IfSome};
+ghost use Rattle.std.specs.Prelude.{OnOk, false, if◌then◌else◌, is_some, length, not, position};
+ghost use Rattle.std.specs.Prelude.{true};
 ghost use Rattle.std.specs.Arc.{arc_value};
 ghost use Rattle.nm_base.specs.Count.{saturated};
+ghost use Rattle.nm_policy.specs.Decisions.{are_missing};
 ghost use Rattle.nm_policy.specs.Lasting.{has_lasted, lasted_after};
 ghost use Rattle.nm_policy.specs.Laws.{at_first};
 ghost use Rattle.nm_policy.specs.Stays.{leaves, stayed};
@@ -13,7 +15,9 @@ ghost use Rattle.nm_replica.specs.Recording.{Streamed, Streams, WroteAsCounted};
 ghost use Rattle.nm_replica.specs.Seats.{AreKept, StandOnBoard};
 ghost use Rattle.nm_replica.specs.Served.{EndsEarly, IsInterrupted, WasFinished, WasSeen};
 ghost use Rattle.nm_replica.specs.Sessions.{first_sessions};
+ghost use Rattle.nm_replica.specs.Sisters.{MergesSister, is_sister_of, replica_name};
 ghost use Rattle.nm_replica.specs.Turns.{ServesAll, ServesTwice, WaitsAndServes};
+ghost use Rattle.nm_replica.specs.declared.served.Served.TheVariants.{Net};
 ghost use Rattle.nm_transport.specs.Transport.{elapsed_after};
 
 use crate::acts::{Stand, Standing};
@@ -209,6 +213,8 @@ fn bear_shortage<T: Transport>(
     ensures early { IfErr result IsInterrupted }
     ensures short { IfErr result (λ _. has_lasted SHORT_PERIODS
         (lasted_after serving.old.short.periods ran_out) ≡ true) }
+    ensures missing { IfErr result
+        (λ _. are_missing serving.old.connections.contacts ≡ true) }
     ensures borne { OnOk result
         (has_lasted SHORT_PERIODS serving.new.short.periods ≡ false) }
     ensures strangers { DropsSome serving.old.connections.contacts
@@ -310,7 +316,8 @@ fn run_book<C: Counts, R: Wait>(
     Ok((standing, was_cut))
 }
 
-/// Merges what the sister knows after so many polls, where that is to be done then.
+/// Merges what the sister knows after so many polls, where that is to be done then: whether it was,
+/// and what was merged into which book.
 ///
 /// # Errors
 ///
@@ -321,9 +328,15 @@ fn merge_at<C: Counts, S, R: Wait>(
     service: &Service<'_, C>,
     holdings: &mut Holdings<'_, C, S>,
     polls: u64,
-) -> Result<Option<Merged>, AllocError>
+) -> Result<Option<Option<Merged>>, AllocError>
     ensures due { IfOk result
         (λ m. is_some m ≡ (polls % MERGE_POLLS == MERGE_POLLS - 1)) }
+    ensures merged { IfOk result (λ m. IfSome m (MergesSister
+        (replica_name service.now.book.now.partition service.now.book.now.replica)
+        (position (λ b. is_sister_of
+        (replica_name service.now.book.now.partition service.now.book.now.replica)
+        (replica_name b.partition b.replica)) service.now.books.now)
+        (length holdings.old.passes.items))) }
     ensures files { holdings.new.files ≡ holdings.old.files }
     ensures seats { holdings.new.seats ≡ holdings.old.seats }
     ensures passes { length holdings.new.passes.items ≡ length holdings.old.passes.items }
@@ -473,6 +486,8 @@ pub(crate) fn poll<C: Counts, S: Sink, T: Transport, R: Wait>(
     ensures streams { OnOk result (Streams S.seen C.exact C.home
         holdings.old.files.files.items holdings.new.files.files.items) }
     ensures so_far { IfErr result (λ _. Streamed S.seen C.exact C.home
+        holdings.old.files.files.items holdings.new.files.files.items) }
+    ensures net { IfErr result (λ s. s ≡ Net → Streams S.seen C.exact C.home
         holdings.old.files.files.items holdings.new.files.files.items) }
 
     // The gate is told of the octets that moved with peers. Who was active: octets moved that

@@ -1,37 +1,101 @@
 //! The other replicas of a run of one process.
 
-ghost use Rattle.std.specs.Prelude.{◌<◌, ◌≡◌, false, length, map, position, true};
-ghost use Rattle.nm_replica.specs.Served.{IsSomeLeft, WereFinished, is_sister_of};
+ghost use Rattle.std.specs.Prelude.{◌<◌, ◌≡◌, IfOk, false, length, map, position, true};
+ghost use Rattle.nm_replica.specs.Served.{IsSomeLeft, WereFinished};
+ghost use Rattle.nm_replica.specs.Sisters.{MergesSister, is_sister_of, replica_name};
 
 use crate::acts::Stand;
 use crate::replica::{Holdings, Service};
+use nm_book::Knowledge;
+use nm_frames::ReplicaName;
 use nm_shared::acts::{CopyKnowledge, Merge};
 use nm_shared::{Counts, Pass, SharedBook};
 use std::alloc::{AllocError, Global};
 use std::sync::Wait;
 
-/// What the sister knows was merged, as far as there is one: only `merge_sister` makes it.
+/// What one replica knew was merged into another's book, or was refused there: `merge_into` alone
+/// makes it.
 #[derive(Clone, Copy)]
-pub(crate) struct Merged(());
+pub(crate) struct Merged {
+    into: ReplicaName,
+    from: ReplicaName,
+}
+
+/// What a replica knows.
+#[derive(Drop)]
+struct Copied {
+    knowledge: Knowledge,
+    from: ReplicaName,
+}
+
+/// Which replica a book is.
+fn name_of<C: Counts>(book: &SharedBook<C>) -> ReplicaName
+    ensures { result ≡ replica_name book.now.partition book.now.replica }
+{
+    ReplicaName {
+        partition: book.partition,
+        replica: book.replica,
+    }
+}
 
 /// Whether a book is that of the sister of a replica: the other one of its partition.
 fn is_sister<C: Counts>(book: &SharedBook<C>, own: &SharedBook<C>) -> bool
-    ensures { result ≡ is_sister_of (own.now.partition, own.now.replica)
-        (book.now.partition, book.now.replica) }
+    ensures { result ≡ is_sister_of (replica_name own.now.partition own.now.replica)
+        (replica_name book.now.partition book.now.replica) }
 {
     book.partition == own.partition && book.replica != own.replica
 }
 
 /// Where the book of its sister stands among these.
 fn sister_in<C: Counts>(books: &[SharedBook<C>], own: &SharedBook<C>) -> Option<usize>
-    ensures { result ≡ position (λ b. is_sister_of (own.now.partition, own.now.replica)
-        (b.partition, b.replica)) books.now }
+    ensures { result ≡ position
+        (λ b. is_sister_of (replica_name own.now.partition own.now.replica)
+        (replica_name b.partition b.replica)) books.now }
 {
     books.iter().position(|book| is_sister(book, own))
 }
 
-/// Merges what the sister knows, if there is one. A merge that is refused changes nothing, and the
-/// run goes on.
+/// A copy of what a replica knows.
+///
+/// # Errors
+///
+/// Where memory was refused.
+fn copy_from<C: Counts, R: Wait>(
+    rt: &R,
+    alloc: Global,
+    book: &SharedBook<C>,
+    pass: &mut Pass<C>,
+) -> Result<Copied, AllocError>
+    ensures { IfOk result
+        (λ c. c.from ≡ replica_name book.now.partition book.now.replica) }
+{
+    Ok(Copied {
+        knowledge: book.act(rt, pass, CopyKnowledge { alloc })?,
+        from: name_of(book),
+    })
+}
+
+/// Merges what a replica knows into a book. A merge that is refused changes nothing.
+fn merge_into<C: Counts, R: Wait>(
+    rt: &R,
+    alloc: Global,
+    book: &SharedBook<C>,
+    pass: &mut Pass<C>,
+    copied: &Copied,
+) -> Merged
+    ensures { (result.into ≡ replica_name book.now.partition book.now.replica)
+        × (result.from ≡ copied.now.from) }
+{
+    let knowledge = &copied.knowledge;
+    let _merged = book.act(rt, pass, Merge { alloc, knowledge });
+    Merged {
+        into: name_of(book),
+        from: copied.from,
+    }
+}
+
+/// Merges what the sister knows into the replica's own book, if there is a sister: what was merged
+/// where. A merge that is refused changes nothing, and the run goes on.
 ///
 /// # Errors
 ///
@@ -41,30 +105,27 @@ pub(crate) fn merge_sister<C: Counts, S, R: Wait>(
     alloc: Global,
     service: &Service<'_, C>,
     holdings: &mut Holdings<'_, C, S>,
-) -> Result<Merged, AllocError>
-    ensures { (holdings.new.seats ≡ holdings.old.seats)
+) -> Result<Option<Merged>, AllocError>
+    ensures merged { IfOk result (MergesSister
+        (replica_name service.now.book.now.partition service.now.book.now.replica)
+        (position (λ b. is_sister_of
+        (replica_name service.now.book.now.partition service.now.book.now.replica)
+        (replica_name b.partition b.replica)) service.now.books.now)
+        (length holdings.old.passes.items)) }
+    ensures same { (holdings.new.seats ≡ holdings.old.seats)
         × (holdings.new.files ≡ holdings.old.files)
         × (length holdings.new.passes.items ≡ length holdings.old.passes.items) }
 {
-    let Some(sister) = sister_in(service.books, service.book) else {
-        return Ok(Merged(()));
+    let Some(number) = sister_in(service.books, service.book) else {
+        return Ok(None);
     };
-    let Some(book) = service.books.get(sister) else {
-        return Ok(Merged(()));
-    };
-    if sister >= holdings.passes.len() {
-        return Ok(Merged(()));
+    if number >= holdings.passes.len() {
+        return Ok(None);
     }
-    let knowledge = book.act(rt, &mut holdings.passes[sister], CopyKnowledge { alloc })?;
-    let _merged = service.book.act(
-        rt,
-        &mut holdings.pass,
-        Merge {
-            alloc,
-            knowledge: &knowledge,
-        },
-    );
-    Ok(Merged(()))
+    let sister = &service.books[number];
+    let copied = copy_from(rt, alloc, sister, &mut holdings.passes[number])?;
+    let own = service.book;
+    Ok(Some(merge_into(rt, alloc, own, &mut holdings.pass, &copied)))
 }
 
 /// Whether there are other replicas in the run, and all are done.

@@ -96,7 +96,7 @@ fn turn_of<W: Wire, C: Counts, R: Wait>(
 }
 
 /// Gives a link its turns: what the last of them came to.
-#[tactic(auto, using(crate::proofs::Turns::progresses_more, crate::proofs::Turns::has_had_all, crate::proofs::Turns::has_had_last))]
+#[tactic(auto, using(crate::proofs::Turns::has_had_all))]
 fn turns_of<W: Wire, C: Counts, R: Wait>(
     rt: &R,
     talk: &Talk<'_, C>,

@@ -1,5 +1,6 @@
 use Rattle.std.proofs.Common.{◌≡◌, ◌≤◌, ◌+◌, refl, subst, sym, ◌∙◌, arith}
 use Rattle.nm_replica.specs.Polls.{is_active}
+use Rattle.nm_replica.proofs.Endings.{net_alone}
 use Rattle.nm_replica.proofs.Polls.{ends_after, idles_wait}
 use Rattle.nm_replica.proofs.Recordings.{streamed_all, streamed_more, streamed_none, streams_more, streams_none}
 use Rattle.nm_replica.proofs.replica.run_replica.Goals as goal
@@ -59,3 +60,9 @@ pub returns-in-Err-clause-so_far : goal.returns-in-Err-clause-so_far
 returns-in-Err-clause-so_far g c =
     streamed_more g.C.Counts.exact g.C.Counts.home g.S.Sink.seen c.args.holdings.now.files.files.items c.loop.holdings.files.files.items
     c.poll_replica.new.holdings.files.files.items c.loop.invariant.streams c.in-Err.ensures.so_far
+
+pub returns-in-Err-clause-streams : goal.returns-in-Err-clause-streams
+returns-in-Err-clause-streams g c = λ is.
+    net_alone c.in-Err.served is c.in-Err.ensures.early
+    (λ net. streams_more g.C.Counts.exact g.C.Counts.home g.S.Sink.seen c.args.holdings.now.files.files.items c.loop.holdings.files.files.items
+    c.poll_replica.new.holdings.files.files.items c.loop.invariant.streams (c.in-Err.ensures.net net))

@@ -1,10 +1,12 @@
 use Rattle.std.proofs.Common.{◌≡◌, ap, subst, sym, ◌∙◌}
-use Rattle.nm_replica.specs.Recording.{Streamed}
+use Rattle.nm_replica.specs.Recording.{Streamed, Streams}
+use Rattle.nm_replica.proofs.Endings.{is_no_net}
 use Rattle.nm_replica.proofs.Finishing.{is_finished}
-use Rattle.nm_replica.proofs.Recordings.{on_error, streamed_none}
+use Rattle.nm_replica.proofs.Recordings.{on_error, on_such_error, streamed_none, streams_none}
 use Rattle.nm_replica.proofs.Turns.{waits_and_serves}
 use Rattle.nm_replica.specs.declared.connections.Connections.{Connections}
 use Rattle.nm_replica.specs.declared.serving.Serving.{Serving}
+use Rattle.nm_replica.specs.declared.served.Served.TheVariants.{Net}
 use Rattle.nm_replica.proofs.serving.poll.Goals as goal
 use Rattle.nm_replica.proofs.serving.poll.Goals.{then-may_end, else-may_end, then-standing+then-may_leave, then-standing+else-may_leave, else-standing}
 
@@ -47,3 +49,17 @@ returns-clause-served g c =
       | else-standing w ↦ ap connections w.serving-is
     ] in
     waits_and_serves _ _ c.args.serving.now.connections _ _ _ _ _ c.in_ok-ran_out.ensures.waits c.in_ok-standing.ensures.served kept
+
+pub returns-in_err-ran_out-clause-net : goal.returns-in_err-ran_out-clause-net
+returns-in_err-ran_out-clause-net g c =
+    on_such_error (λ s. s ≡ Net) c.from_residual.result (streams_none g.C.Counts.exact g.C.Counts.home g.S.Sink.seen c.args.holdings.now.files.files.items)
+
+pub returns-in_err-standing-clause-net : goal.returns-in_err-standing-clause-net
+returns-in_err-standing-clause-net g c =
+    let before = c.args.holdings.now.files in
+    on_such_error (λ s. s ≡ Net) c.from_residual-in_err-standing.result
+    (subst (λ f. Streams g.S.Sink.seen g.C.Counts.exact g.C.Counts.home before.files.items f.files.items) (sym c.in_err-standing.ensures.files)
+    (streams_none g.C.Counts.exact g.C.Counts.home g.S.Sink.seen before.files.items))
+
+pub returns-in-Err-clause-net : goal.returns-in-Err-clause-net
+returns-in-Err-clause-net g c = λ net. is_no_net c.in-Err.fault (sym c.file_served.ensures.value ∙ net)

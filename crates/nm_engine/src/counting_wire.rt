@@ -1,7 +1,9 @@
 //! A wire that counts what moves on it, and is read only where something may have come.
 
-ghost use Rattle.std.specs.Prelude.{◌≡◌, ◌+◌, false, nat_lt};
+ghost use Rattle.std.specs.Prelude.{◌≡◌, ◌+◌, ◌<◌, false, length, nat_lt};
 ghost use Rattle.nm_base.specs.Count.{saturated};
+ghost use Rattle.nm_base.specs.Wire.{ReadDoes};
+ghost use Rattle.nm_engine.specs.CountingWire.{noted};
 
 use nm_base::Wire;
 use nm_base::wire::{Read, Written};
@@ -25,9 +27,9 @@ pub struct CountingWire<W> {
 }
 
 impl<W> Model for CountingWire<W> {
-    ghost use Rattle.nm_engine.specs.CountedWire.{CountedWire};
+    ghost use Rattle.nm_engine.specs.CountingWire.{CountingWireValue};
 
-    ghost Value = { CountedWire W };
+    ghost Value = { CountingWireValue W };
 
     ghost view = { λ c. record {
       wire = c.wire;
@@ -101,11 +103,20 @@ impl<W> CountingWire<W> {
         self.is_ready.store(false, Ordering::Relaxed);
     }
 
-    /// So many octets came.
-    fn count_read(&mut self, octets: usize)
-        ensures { self.new ≡ record self.old { came = saturated (self.old.came + octets) } }
+    /// Notes what a read of the wire came to: how many octets, or that the other side sends no
+    /// more. Where none came the wire is asked again once it is reported.
+    fn note(&mut self, read: Read)
+        ensures { self.new ≡ noted self.old read }
     {
-        self.came = self.came.saturating_add(octets as u64);
+        match read {
+            Read::Got(octets) => self.came = self.came.saturating_add(octets as u64),
+            Read::End => {
+                self.has_ended = true;
+                self.rest();
+            }
+            Read::Later => self.rest(),
+            Read::Fault => {}
+        }
     }
 
     /// So many octets were written.
@@ -117,24 +128,28 @@ impl<W> CountingWire<W> {
     }
 }
 
-impl<W: Wire> Wire for CountingWire<W> {
-    ghost seen = { λ c. W.seen c.wire };
-
-    fn read_some(&mut self, buffer: &mut [u8]) -> Read {
+impl<W: Wire> CountingWire<W> {
+    /// Reads what came next, where something may have, and notes what the read came to.
+    fn read_noted(&mut self, buffer: &mut [u8]) -> Read
+        requires { 0 < length buffer.old }
+        ensures noted { self.new ≡ record (noted self.old result) { wire = self.new.wire } }
+        ensures reads { ReadDoes (W.seen self.old.wire) (W.seen self.new.wire) result buffer.new }
+        ensures keeps { (W.seen self.new.wire).taken ≡ (W.seen self.old.wire).taken }
+    {
         if !self.is_ready() {
             return Read::Later;
         }
         let read = self.wire.read_some(buffer);
-        match read {
-            Read::Got(count) => self.count_read(count),
-            Read::End => {
-                self.has_ended = true;
-                self.rest();
-            }
-            Read::Later => self.rest(),
-            Read::Fault => {}
-        }
+        self.note(read);
         read
+    }
+}
+
+impl<W: Wire> Wire for CountingWire<W> {
+    ghost seen = { λ c. W.seen c.wire };
+
+    fn read_some(&mut self, buffer: &mut [u8]) -> Read {
+        self.read_noted(buffer)
     }
 
     fn write_some(&mut self, octets: &[u8]) -> Written {
