@@ -1,12 +1,12 @@
 -- Files that are read beside what they are to have.
-use Rattle.std.proofs.Common.{◌≡◌, ◌≢◌, ℕ, zero, suc, ◌+◌, ◌-◌, ◌<◌, ◌==◌, Bool, true, false, cond, List, [], ◌∷◌, ◌++◌, length, length-append, take, drop, get_or, set, length-set, Option, Some, None, option_map, is_some, IfSome, IsSomeAnd, IfErr, OnOk, Result, Ok, Err, slice_get, slice_set, append-nil, refl, sym, ◌∙◌, ap, subst, arith}
+use Rattle.std.proofs.Common.{◌≡◌, ◌≢◌, ℕ, zero, suc, ◌+◌, ◌-◌, ◌<◌, ◌==◌, Bool, true, false, cond, List, [], ◌∷◌, ◌++◌, length, length-append, take, drop, get_or, set, length-set, Option, Some, None, option_map, is_some, IfSome, IsSomeAnd, IfErr, OnErr, OnOk, Result, Ok, Err, slice_get, slice_set, append-nil, refl, sym, ◌∙◌, ap, subst, arith}
 use Rattle.std.specs.Io.{StartsWith}
 use Rattle.std.proofs.Math.Seq.{take-append-add, take-append_seam, take-length}
 use Rattle.std.proofs.lemmas.Bool.{true≢false}
 use Rattle.std.proofs.lemmas.Bool.Decides.{nat_tests}
 use Rattle.std.proofs.lemmas.List.{append_assoc, get_or-set_other, get_or-set_same, length-drop, length-take-le, take-append-drop, take-append-le, take_all}
 use Rattle.std.proofs.lemmas.List.Elements.{filter-append}
-use Rattle.std.proofs.lemmas.Option.{get_or_from_slice_get, slice_get-get_or, slice_get-map, slice_get_past, slice_get_within}
+use Rattle.std.proofs.lemmas.Option.{get_or_from_slice_get, slice_get-get_or, slice_get-map, none-some, slice_get_past, slice_get_within}
 use Rattle.nm_base.specs.Count.{saturated}
 use Rattle.nm_base.specs.declared.fault.Fault.{Fault}
 use Rattle.nm_base.specs.declared.fault.Fault.TheVariants.{Memory, Refused}
@@ -175,7 +175,7 @@ more_left (Some text) (Some rest) octets there same count is front some =
     )
 
 -- what stands in a trace file after one record more, and how many records
-octets_there : (n : ℕ) (before : List (Record (List ℕ))) (r : Record (List ℕ)) → (r.iface == n) ≡ true → octets_after n before ++ record_octets r ≡ octets_after n (before ++ r ∷ [])
+pub octets_there : (n : ℕ) (before : List (Record (List ℕ))) (r : Record (List ℕ)) → (r.iface == n) ≡ true → octets_after n before ++ record_octets r ≡ octets_after n (before ++ r ∷ [])
 octets_there n before r there =
     append_assoc file_header (written_at Octets n before) (record_octets r)
     ∙ ap (λ l. file_header ++ l) (ap (λ l. written_at Octets n before ++ l) (sym (written_there Octets n r there)) ∙ sym (written_at-append Octets n before (r ∷ [])))
@@ -188,6 +188,20 @@ count_of : (n : ℕ) (before : List (Record (List ℕ))) (r : Record (List ℕ))
 count_of n before r b is =
     ap length (filter-append (λ r. r.iface == n) before (r ∷ [])) ∙ length-append (records_at n before) (records_at n (r ∷ []))
     ∙ ap (λ c. length (records_at n before) + length (cond c (r ∷ []) [])) is
+
+-- what stands in the first elements of a list
+pub within_first : {X : Type 0} (k : ℕ) (xs : List X) (n : ℕ) (x : X) → slice_get (take k xs) n ≡ Some x → (n < k) × (slice_get xs n ≡ Some x)
+within_first zero xs n x at = absurd (none-some x at)
+within_first (suc k) [] n x at = absurd (none-some x at)
+within_first (suc k) (y ∷ xs) zero x at = (omega arith, at)
+within_first (suc k) (y ∷ xs) (suc n) x at = let there = within_first k xs n x at in let low = there.0 in (omega (arith, low), there.1)
+
+-- an element that is set is none of those before it
+pub first_as_set : {X : Type 0} (xs : List X) (k : ℕ) (x : X) → take k (slice_set xs k x) ≡ take k xs
+first_as_set [] zero x = refl
+first_as_set [] (suc k) x = refl
+first_as_set (y ∷ xs) zero x = refl
+first_as_set (y ∷ xs) (suc k) x = ap (λ l. y ∷ l) (first_as_set xs k x)
 
 pub looked_set : {B : Type 0} (files : List (Option (CheckedFile B))) (k : ℕ) (file new : CheckedFile B) → slice_get files k ≡ Some (Some file) → looked_at (slice_set files k (Some new)) ≡ looked_at files
 looked_set [] k file new is = refl
@@ -264,6 +278,14 @@ module _ {B : Type 0} (texts : ℕ → Option (List ℕ)) (left : B → Option (
             let there_too : n < length files = let long = length-set files k (Some new) in let within = slice_get_within (set files k (Some new)) n (Some other) at in omega (arith, long, within) in
             elsewhere n other away (so_far.each n other (slice_get-get_or files n (Some other) there_too ∙ ap (λ f. Some f) kept))
 
+    -- the files of lesser interfaces have nothing of it
+    pub lesser_read : (files : List (Option (CheckedFile B))) → HaveRead texts left before files → HaveRead texts left (before ++ r ∷ []) (take r.iface files)
+    lesser_read files so_far = record { each = λ n file at. let there = within_first r.iface files n (Some file) at in elsewhere n file (other n there.0 (r.iface == n) refl) (so_far.each n file there.1) }
+      where
+        other : (n : ℕ) → n < r.iface → (b : Bool) → (r.iface == n) ≡ b → (r.iface == n) ≡ false
+        other n low true here = absurd (let e : r.iface ≡ n = grind (arith, nat_tests, here) in omega (arith, low, e))
+        other n low false away = away
+
 pub only_one : {B : Type 0} (file : CheckedFile B) → Some None ≡ Some (Some file) → ⊥
 only_one file e = cc
 
@@ -280,6 +302,10 @@ both_ok (Err e) f a b = tt
 pub on_error : {T E K : Type 0} (r : Result T E) → K → IfErr r (λ _. K)
 on_error (Ok x) k = tt
 on_error (Err e) k = k
+
+pub on_any_error : {T E K : Type 0} (r : Result T E) → K → OnErr r K
+on_any_error (Ok x) k = tt
+on_any_error (Err e) k = k
 
 pub looked_there : {B : Type 0} (files : List (Option (CheckedFile B))) (k : ℕ) (file : CheckedFile B) → slice_get files k ≡ Some (Some file) → is_looked_at files k ≡ true
 looked_there files k file is =

@@ -4,3 +4,4 @@ pub mod Made
 pub mod Files
 pub mod Folders
 pub mod Checked
+pub mod Least

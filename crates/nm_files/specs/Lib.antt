@@ -4,4 +4,5 @@ pub mod TraceFile
 pub mod Writing
 pub mod Files
 pub mod Checked
+pub mod Least
 pub mod Folder

@@ -30,15 +30,31 @@ pub enum CheckCause {
 /// was refused.
 pub type CheckFault = Fault<CheckCause>;
 
-/// What an error of the system is at a file.
+/// A file could not be opened, or a read failed.
+#[derive(Clone, Copy, Debug, PartialEq, Eq, Error)]
+#[error("a trace file could not be read")]
+pub struct ReadFailed;
+
+/// Why it is not known what a file has: it could not be read, or memory was refused.
+pub type ReadFault = Fault<ReadFailed>;
+
+/// What an error of the system is at a file that is read.
+pub fn read_fault(error: &io::Error) -> ReadFault {
+    match error.kind() {
+        ErrorKind::OutOfMemory => ReadFault::Memory,
+        _ => ReadFault::Refused(ReadFailed),
+    }
+}
+
+/// What it is at a file that is compared.
 pub fn check_fault(error: &io::Error) -> CheckFault
     ensures kinds { (result ≡ Memory) ⊎ (result ≡ Refused Failed) }
     ensures unlike { (n : ℕ) (texts : ℕ → Option (List ℕ)) (before next : List ℕ)
         → IsUnlike texts n before next result × IsLonger texts n before result }
 {
-    match error.kind() {
-        ErrorKind::OutOfMemory => CheckFault::Memory,
-        _ => CheckFault::Refused(CheckCause::Failed),
+    match read_fault(error) {
+        ReadFault::Memory => CheckFault::Memory,
+        ReadFault::Refused(_) => CheckFault::Refused(CheckCause::Failed),
     }
 }
 

@@ -1,7 +1,8 @@
 //! The trace files of interfaces that are there, read side by side as records are made.
 
 ghost use Rattle.std.specs.Prelude.{◌≡◌, ℕ, ◌≤◌, ◌++◌, ◌∷◌, All, IfErr, IfSome, List, [], OnOk};
-ghost use Rattle.std.specs.Prelude.{Option, Some, false, is_some, length, slice_get, true};
+ghost use Rattle.std.specs.Prelude.{OnErr, Option, Some, false, is_some, length, slice_get, take};
+ghost use Rattle.std.specs.Prelude.{true};
 ghost use Rattle.nm_base.specs.declared.limits.TheConstants.{MAX_TIME};
 ghost use Rattle.nm_base.specs.declared.record.Record.{Record as TraceRecord};
 ghost use Rattle.nm_files.specs.Checked.{DiffersInOne, HaveRead, IsLonger, IsUnlike};
@@ -35,16 +36,24 @@ impl<B: Drop> CheckedFiles<B> {
     ///
     /// # Errors
     ///
-    /// Where memory was refused.
+    /// Where memory was refused: no file more is there then.
     pub fn skip(&mut self) -> Result<(), AllocError>
         ensures looked { OnOk result (looked_at self.new.files.items
             ≡ looked_at self.old.files.items ++ false ∷ []) }
         ensures read { (texts : ℕ → Option (List ℕ)) (left : B → Option (List ℕ))
             → HaveRead texts left [] self.old.files.items
             → OnOk result (HaveRead texts left [] self.new.files.items) }
+        ensures kept { OnErr result (self.new.files.items ≡ self.old.files.items) }
     {
         self.files.push(None)?;
         Ok(())
+    }
+
+    /// Closes the files of an interface and of all behind it.
+    pub(crate) fn close_from(&mut self, iface: IfaceNo)
+        ensures { self.new.files.items ≡ take iface self.old.files.items }
+    {
+        self.files.truncate(iface.index());
     }
 
     /// The file of an interface, if it is looked at.
@@ -66,7 +75,7 @@ impl<B: BufRead + Drop> CheckedFiles<B> {
     /// # Errors
     ///
     /// `Differs` where it has no such header, `Failed` where a read failed, `Memory` where memory
-    /// was refused.
+    /// was refused. No file more is there then.
     pub fn open(&mut self, iface: IfaceNo, reader: B) -> Result<(), CheckFault>
         requires { iface ≡ length self.old.files.items }
         ensures looked { OnOk result (looked_at self.new.files.items
@@ -78,6 +87,7 @@ impl<B: BufRead + Drop> CheckedFiles<B> {
         ensures unlike { (texts : ℕ → Option (List ℕ))
             → IfSome (texts iface) (λ text. B.remaining reader ≡ Some text)
             → IfErr result (IsUnlike texts iface [] file_header) }
+        ensures kept { OnErr result (self.new.files.items ≡ self.old.files.items) }
     {
         let file = CheckedFile::open(iface, reader)?;
         self.files.push(Some(file))?;
@@ -89,8 +99,8 @@ impl<B: BufRead + Drop> CheckedFiles<B> {
     /// # Errors
     ///
     /// `Differs` where it does not come next there, `Failed` where a read failed, `Memory` where
-    /// memory was refused.
-    fn put(&mut self, record: &Record) -> Result<(), CheckFault>
+    /// memory was refused. Files of lesser interfaces are read on over it then, too.
+    pub(crate) fn put(&mut self, record: &Record) -> Result<(), CheckFault>
         requires { «record».now.time ≤ MAX_TIME }
         ensures looked { looked_at self.new.files.items ≡ looked_at self.old.files.items }
         ensures read { (texts : ℕ → Option (List ℕ)) (before : List (TraceRecord (List ℕ)))
@@ -103,6 +113,10 @@ impl<B: BufRead + Drop> CheckedFiles<B> {
             (octets_after «record».now.iface before) (record_octets «record».now)) }
         ensures own { IfErr result
             (λ _. is_looked_at self.old.files.items «record».now.iface ≡ true) }
+        ensures lesser { (texts : ℕ → Option (List ℕ)) (before : List (TraceRecord (List ℕ)))
+            → HaveRead texts B.remaining before self.old.files.items
+            → OnErr result (HaveRead texts B.remaining (before ++ «record».now ∷ [])
+            (take «record».now.iface self.new.files.items)) }
     {
         let number = record.iface.index();
         if number >= self.files.len() {

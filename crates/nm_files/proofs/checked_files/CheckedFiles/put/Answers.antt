@@ -1,9 +1,9 @@
-use Rattle.std.proofs.Common.{◌≡◌, ◌<◌, ◌≤◌, IfErr, None, Some, length, slice_get, true, sym, ◌∙◌, ap, subst, arith, rules}
+use Rattle.std.proofs.Common.{◌≡◌, ◌<◌, ◌≤◌, ◌++◌, ◌∷◌, [], IfErr, None, Some, length, slice_get, slice_set, take, true, sym, ◌∙◌, ap, subst, arith, rules}
 use Rattle.std.proofs.lemmas.Option.{slice_get-get_or, slice_get_within}
 use Rattle.nm_pcap.specs.Format.{record_octets}
-use Rattle.nm_files.specs.Checked.{IsUnlike, is_looked_at}
+use Rattle.nm_files.specs.Checked.{HaveRead, IsUnlike, is_looked_at}
 use Rattle.nm_files.specs.TraceFile.{octets_after}
-use Rattle.nm_files.proofs.Checked.{both_ok, looked_set, looked_there, none_read, none_set, one_read, on_error, only_one}
+use Rattle.nm_files.proofs.Checked.{both_ok, first_as_set, lesser_read, looked_set, looked_there, none_read, none_set, one_read, on_any_error, on_error, only_one}
 use Rattle.nm_files.proofs.checked_files.CheckedFiles.put.Goals as goal
 
 pub returns-then-number-len-clause-read : goal.returns-then-number-len-clause-read
@@ -60,3 +60,12 @@ returns-clause-own g c =
     let own : c.index_mut.result.now ≡ Some c.in-Some.file = search rules in
     let at = slice_get-get_or files k c.index_mut.result.now low ∙ ap (λ z. Some z) (sym c.index_mut.ensures.value ∙ own) in
     on_error c.put.result (subst (λ m. is_looked_at files m ≡ true) c.index-number.ensures (looked_there files k c.in-Some.file at))
+
+pub returns-clause-lesser : goal.returns-clause-lesser
+returns-clause-lesser g c = λ texts before read.
+    let files = c.args.self.now.files.items in
+    let r = c.args.record.now in
+    let left = g.B.Read.remaining in
+    let new = c.put.new.self in
+    on_any_error c.put.result (subst (HaveRead texts left (before ++ r ∷ [])) (sym (ap (λ m. take r.iface (slice_set files m (Some new))) c.index-number.ensures ∙ first_as_set files r.iface (Some new)))
+    (lesser_read texts left before r files read))
