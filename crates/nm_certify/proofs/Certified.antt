@@ -1,9 +1,9 @@
 -- What certified books make of the files.
-use Rattle.std.proofs.Common.{◌≡◌, ◌⊎◌, inl, inr, ℕ, zero, suc, ◌+◌, ◌==◌, min, Bool, true, cond, All, Contains, IfSome, List, [], ◌∷◌, ◌++◌, append-nil, filter, flat_map, length, map, slice_get, Option, Some, option_map, Result, Ok, Err, refl, sym, ◌∙◌, ap, ap₂, subst, arith}
+use Rattle.std.proofs.Common.{◌≡◌, ◌⊎◌, inl, inr, ℕ, zero, suc, ◌+◌, ◌<◌, ◌≤◌, ◌==◌, min, Bool, true, cond, All, Contains, IfSome, List, [], ◌∷◌, ◌++◌, append-nil, filter, flat_map, length, map, slice_get, Option, Some, None, option_map, Result, Ok, Err, refl, sym, ◌∙◌, ap, ap₂, subst, arith}
 use Rattle.std.specs.List.{AllZip}
 use Rattle.std.proofs.lemmas.Bool.Decides.{nat_tests}
 use Rattle.std.proofs.lemmas.List.{length-map}
-use Rattle.std.proofs.lemmas.List.Elements.{All-contains, filter_passes}
+use Rattle.std.proofs.lemmas.List.Elements.{All-append, All-cons, All-contains, All-nil, Contains-append_left, Contains-append_right, filter_passes}
 use Rattle.std.proofs.lemmas.Option.{get_or_from_slice_get, none-some, same_Some, slice_get-get_or, slice_get-map, slice_get_within}
 use Rattle.nm_base.specs.declared.fault.Fault.{Fault}
 use Rattle.nm_base.specs.declared.fault.Fault.TheVariants.{Memory, Refused}
@@ -15,10 +15,11 @@ use Rattle.nm_model.specs.Run.{one_list}
 use Rattle.nm_pcap.specs.Format.{file_header, record_octets}
 use Rattle.nm_pcap.specs.declared.form.Form.TheVariants.{Octets}
 use Rattle.nm_topology.specs.TopologyValue.{TopologyValue}
-use Rattle.nm_files.specs.Checked.{HaveRead, TextDiffers}
+use Rattle.nm_files.specs.Checked.{TextDiffers, is_looked_at}
+use Rattle.nm_files.specs.Least.{AreBegun, HasRecord, IsLesser}
 use Rattle.nm_files.specs.TraceFile.{octets_after, trace_file}
-use Rattle.nm_files.specs.declared.checked_file.CheckCause.{CheckCause}
-use Rattle.nm_files.specs.declared.checked_file.CheckCause.TheVariants.{Differs, Failed}
+use Rattle.nm_files.specs.declared.checked_file.ReadFailed.{ReadFailed}
+use Rattle.nm_files.specs.declared.least_checked.Difference.{Difference}
 use Rattle.nm_files.proofs.Records.{file_parts}
 use Rattle.nm_sim.specs.Network.{net_of}
 use Rattle.nm_sim.specs.Trace.{IsTraceBefore}
@@ -26,8 +27,8 @@ use Rattle.nm_book.specs.Book.{state_of}
 use Rattle.nm_rounds.specs.Certify.{AreCertified, Certifies}
 use Rattle.nm_rounds.specs.declared.certify.CertFault.{CertFault}
 use Rattle.nm_known.specs.Known.{ExplainsText}
-use Rattle.nm_certify.specs.Certify.{AreBooksOf, AreTraceFiles, ExplainsFault, HaveTexts, IsBookOf, fresh_book}
-use Rattle.nm_certify.specs.Checking.{EndsAs, HasRecord, IsEnd, RefusesOne, jobs_from, trace_fault}
+use Rattle.nm_certify.specs.Certify.{AreBooksOf, AreTraceFiles, ExplainsFault, HaveTexts, HeadersAreOwn, IsAmong, IsBookOf, IsTraceFile, fresh_book}
+use Rattle.nm_certify.specs.Checking.{EndsAs, IsCompared, IsEnd, IsLeastOf, RefusesOne, jobs_from, unread}
 use Rattle.nm_certify.specs.declared.fault.CertifyCause.TheVariants.{Known, NotCertified}
 use Rattle.nm_certify.specs.declared.fault.CertifyCause.TheVariants as cause
 use Rattle.nm_certify.specs.declared.part.Job.{Job}
@@ -168,42 +169,104 @@ module _ {B : Type 0} (t : TopologyValue) (left : B → Option (List ℕ)) (part
           (slice_get-map (λ end. end.book) ends i ∙ ap (option_map (λ end. end.book)) here)
           ∙ ap (λ p. trace (net_of t) p last) (end_is i files end at here).book.partition
 
-      pub files_are : All (λ end. end.traces ≡ Ok tt) ends → (texts : ℕ → Option (List ℕ)) (records : List (Record (List ℕ))) → IsTraceBefore t t.stop records → HaveTexts t left texts parts
-          → AreTraceFiles t left texts records parts
-      files_are fine texts records is_trace have = λ n files low at seen.
-          let p = receiver_of (net_of t) n in
-          let within = slice_get_within parts p files at in
-          let here = element ends p (omega (arith, within, count)) in
-          let end = here.0 in
-          let ended = (end_is p files end at here.1).traces texts (all_at (λ files. HaveRead texts left [] files.traces.files.items) parts p files have at) in
-          let own = (state_of end.book).records in
-          subst (λ l. IfSome (texts n) (λ text. text ≡ l)) (own_file t law p own (whole p files end at here.1) records is_trace n refl)
-          (subst (EndsAs texts t p own files.traces.files.items) (all_at (λ end. end.traces ≡ Ok tt) ends p end fine here.1) ended n low refl seen)
+      -- each part was compared
+      compared : (least : Option Difference) → IsLeastOf ends least → (i : ℕ) (end : PartEnd) → slice_get ends i ≡ Some end → IsCompared least end
+      compared least is i end here = all_at (IsCompared least) ends i end is.0 here
 
-      pub not_as : (f : Fault CheckCause) (end : PartEnd) → Contains ends end → end.traces ≡ Err f → ExplainsFault t left parts (trace_fault f)
-      not_as Memory end has is = tt
-      not_as (Refused Failed) end has is = (map (λ end. end.book) ends, books_are, certified)
-      not_as (Refused (Differs n octet)) end (i, low, at_i) is = (
+      module _ (texts : ℕ → Option (List ℕ)) (records : List (Record (List ℕ))) (is_trace : IsTraceBefore t t.stop records) (have : HaveTexts t left texts parts) where
+        begun : (i : ℕ) (files : PartFiles B) → slice_get parts i ≡ Some files → AreBegun texts left files.traces
+        begun i files at = all_at (λ files. AreBegun texts left files.traces) parts i files have at
+
+        -- each trace file before the least that differs is that of the one event list
+        lesser_is : (least : Option Difference) → IsLeastOf ends least → (n : ℕ) → n < length t.ifaces → IsLesser n least → IsTraceFile t left texts records parts n
+        lesser_is least is n low lesser files at =
+            let p = receiver_of (net_of t) n in
+            let within = slice_get_within parts p files at in
+            let here = element ends p (omega (arith, within, count)) in
+            let end = here.0 in
+            let own = (state_of end.book).records in
+            let found = compared least is p end here.1 in
+            let ended = subst (EndsAs texts t p own files.traces) found.1 ((end_is p files end at here.1).traces texts (begun p files at)) in
+            let of = ended.1 n low (found.2 n lesser) refl in
+            (of.0, λ seen. subst (λ l. IfSome (texts n) (λ text. text ≡ l)) (own_file t law p own (whole p files end at here.1) records is_trace n refl) (of.1 seen))
+
+      pub files_are : IsLeastOf ends None → (texts : ℕ → Option (List ℕ)) (records : List (Record (List ℕ))) → IsTraceBefore t t.stop records → HaveTexts t left texts parts
+          → AreTraceFiles t left texts records parts
+      files_are is texts records is_trace have = λ n low. lesser_is texts records is_trace have None is n low tt
+
+      pub not_read : (f : Fault ReadFailed) → ExplainsFault t left parts (unread f)
+      not_read Memory = tt
+      not_read (Refused failed) = (map (λ end. end.book) ends, books_are, certified)
+
+      pub not_as : HeadersAreOwn t left parts → (d : Difference) → IsLeastOf ends (Some d) → ExplainsFault t left parts (Refused (cause.Differs d.iface d.octet))
+      not_as headers d is = (
         map (λ end. end.book) ends,
         books_are,
         certified,
         λ texts records is_trace have.
-            let here : slice_get ends i ≡ Some end = slice_get-get_or ends i end low ∙ ap (λ x. Some x) at_i in
+            let end = is.1.0 in
+            let has = is.1.1 in
+            let i = has.0 in
+            let here : slice_get ends i ≡ Some end = slice_get-get_or ends i end has.1 ∙ ap (λ x. Some x) has.2 in
+            let low = has.1 in
             let there = element parts i (omega (arith, low, count)) in
             let files = there.0 in
-            let ended = (end_is i files end there.1 here).traces texts (all_at (λ files. HaveRead texts left [] files.traces.files.items) parts i files have there.1) in
             let own = (state_of end.book).records in
-            let differs = subst (EndsAs texts t i own files.traces.files.items) is ended in
+            let ended = subst (EndsAs texts t i own files.traces) is.1.2 ((end_is i files end there.1 here).traces texts (begun texts records is_trace have i files there.1)) in
             let all = whole i files end there.1 here in
-            let at_own = part own all records is_trace differs.1 in (
-              files,
-              ap (slice_get parts) at_own ∙ there.1,
-              differs.0,
-              subst (λ l. IfSome (texts n) (λ text. TextDiffers text l octet)) (own_file t law i own all records is_trace n at_own) differs.2,
+            let at_own = part i own all records is_trace files (headers i files there.1) ended.0.0 in (
+              (
+                files,
+                ap (slice_get parts) at_own ∙ there.1,
+                among files i own ended.0.0,
+                subst (λ l. IfSome (texts d.iface) (λ text. TextDiffers text l d.octet)) (own_file t law i own all records is_trace d.iface at_own) ended.0.1,
+              ),
+              λ n lesser low. lesser_is texts records is_trace have (Some d) is n low lesser,
             ),
       )
         where
-          part : (own : List (Record (List ℕ))) → ((last : ℕ) → IsBefore (net_of t) (net_of t).stop last → own ≡ trace (net_of t) i last)
-              → (records : List (Record (List ℕ))) → IsTraceBefore t t.stop records → HasRecord n own ⊎ (receiver_of (net_of t) n ≡ i) → receiver_of (net_of t) n ≡ i
-          part own all records is_trace (inl has) = own_part t law i own all records is_trace n has
-          part own all records is_trace (inr is) = is
+          part : (i : ℕ) (own : List (Record (List ℕ))) → ((last : ℕ) → IsBefore (net_of t) (net_of t).stop last → own ≡ trace (net_of t) i last)
+              → (records : List (Record (List ℕ))) → IsTraceBefore t t.stop records → (files : PartFiles B) → IfSome files.traces.differs (λ d. receiver_of (net_of t) d.iface ≡ i)
+              → (files.traces.differs ≡ Some d) ⊎ ((is_looked_at files.traces.files.files.items d.iface ≡ true) × (HasRecord d.iface own ⊎ (receiver_of (net_of t) d.iface ≡ i)))
+              → receiver_of (net_of t) d.iface ≡ i
+          part i own all records is_trace files header (inl is) = subst (λ o. IfSome o (λ d. receiver_of (net_of t) d.iface ≡ i)) is header
+          part i own all records is_trace files header (inr (seen, inl has)) = own_part t law i own all records is_trace d.iface has
+          part i own all records is_trace files header (inr (seen, inr is)) = is
+
+          among : (files : PartFiles B) (i : ℕ) (own : List (Record (List ℕ)))
+              → (files.traces.differs ≡ Some d) ⊎ ((is_looked_at files.traces.files.files.items d.iface ≡ true) × (HasRecord d.iface own ⊎ (receiver_of (net_of t) d.iface ≡ i)))
+              → IsAmong t left files d.iface
+          among files i own (inl is) = inr (d.octet, is)
+          among files i own (inr at) = inl at.0
+
+-- of no part there is a difference yet
+pub none_least : IsLeastOf [] None
+none_least = (All-nil (IsCompared None), tt)
+
+-- the least of two
+lesser_of : (least : Option Difference) (found now : Difference) → (now.iface ≤ found.iface) × IfSome least (λ d. now.iface ≤ d.iface) → (n : ℕ) → n < now.iface → IsLesser n least × (n < found.iface)
+lesser_of None found now low n less = (tt, let is = low.0 in omega (arith, is, less))
+lesser_of (Some d) found now low n less = (let is = low.1 in omega (arith, is, less), let is = low.0 in omega (arith, is, less))
+
+-- one part more, which has no difference, or this one
+module _ (ends : List PartEnd) (end : PartEnd) where
+  more_compared : (least now : Option Difference) (found : Option Difference) → IsLeastOf ends least → end.traces ≡ Ok found → ((n : ℕ) → IsLesser n now → IsLesser n least × IsLesser n found)
+      → All (IsCompared now) (ends ++ end ∷ [])
+  more_compared least now found was is lesser =
+      All-append (IsCompared now) ends (end ∷ []) (λ i d low. let one = was.0 i d low in (one.0, one.1, λ n less. one.2 n (lesser n less).0))
+      (All-cons (IsCompared now) end [] (found, is, λ n less. (lesser n less).1) (All-nil (IsCompared now)))
+
+  still_one : (least : Option Difference) → IfSome least (λ d. (end : PartEnd) × Contains ends end × (end.traces ≡ Ok (Some d))) → IfSome least (λ d. (other : PartEnd) × Contains (ends ++ end ∷ []) other × (other.traces ≡ Ok (Some d)))
+  still_one None h = tt
+  still_one (Some d) (other, has, is) = (other, Contains-append_left ends (end ∷ []) other has, is)
+
+  pub none_more : (least : Option Difference) → IsLeastOf ends least → end.traces ≡ Ok None → IsLeastOf (ends ++ end ∷ []) least
+  none_more least was is = (more_compared least least None was is (λ n less. (less, tt)), still_one least was.1)
+
+  pub one_more_least : (least : Option Difference) (found now : Difference) → IsLeastOf ends least → end.traces ≡ Ok (Some found) → (now ≡ found) ⊎ (least ≡ Some now)
+      → (now.iface ≤ found.iface) × IfSome least (λ d. now.iface ≤ d.iface) → IsLeastOf (ends ++ end ∷ []) (Some now)
+  one_more_least least found now was is one low = (more_compared least (Some now) (Some found) was is (lesser_of least found now low), pick one)
+    where
+      pick : (now ≡ found) ⊎ (least ≡ Some now) → (other : PartEnd) × Contains (ends ++ end ∷ []) other × (other.traces ≡ Ok (Some now))
+      pick (inl same) = (end, Contains-append_right ends (end ∷ []) end (0, omega arith, refl), is ∙ ap (λ d. Ok (Some d)) (sym same))
+      pick (inr old) = subst (λ o. IfSome o (λ d. (other : PartEnd) × Contains (ends ++ end ∷ []) other × (other.traces ≡ Ok (Some d)))) old (still_one least was.1)

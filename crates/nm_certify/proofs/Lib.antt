@@ -1,5 +1,4 @@
 mod Runs
-mod Over
 mod Ends
 mod Pieces
 pub mod Certified

@@ -1,5 +1,5 @@
 -- What files of several machines show.
-use Rattle.std.specs.Prelude.{◌≡◌, ℕ, ◌<◌, true, All, IfSome, List, [], length, replicate, slice_get, Option, Some, Err}
+use Rattle.std.specs.Prelude.{◌≡◌, ◌⊎◌, ℕ, ◌<◌, true, All, IfSome, List, [], length, replicate, slice_get, Option, Some, Err}
 use Rattle.nm_base.specs.declared.fault.Fault.{Fault}
 use Rattle.nm_base.specs.declared.fault.Fault.TheVariants.{Memory, Refused}
 use Rattle.nm_base.specs.declared.record.Record.{Record}
@@ -8,7 +8,8 @@ use Rattle.nm_model.specs.Knowledge.{nothing_known}
 use Rattle.nm_model.specs.Partition.{receiver_of}
 use Rattle.nm_pcap.specs.declared.form.Form.TheVariants.{Octets}
 use Rattle.nm_topology.specs.TopologyValue.{TopologyValue}
-use Rattle.nm_files.specs.Checked.{HaveRead, TextDiffers, is_looked_at}
+use Rattle.nm_files.specs.Checked.{TextDiffers, is_looked_at}
+use Rattle.nm_files.specs.Least.{AreBegun, IsLesser}
 use Rattle.nm_files.specs.TraceFile.{trace_file}
 use Rattle.nm_sim.specs.Network.{net_of}
 use Rattle.nm_sim.specs.Trace.{IsTraceBefore}
@@ -52,32 +53,54 @@ module _ {B : Type 0} (t : TopologyValue) (left : B → Option (List ℕ)) where
     pub each : (p : ℕ) (files : PartFiles B) (b : BookValue) → slice_get parts p ≡ Some files
         → slice_get books p ≡ Some b → IsBookOf t p files.replica (left files.known) b
 
-  -- the trace files have these texts, each where it is told, and of each the header is read
+  -- the trace files have these texts, each where it is told, and of those that are looked at the
+  -- headers are read
   abbrev pub HaveTexts : (ℕ → Option (List ℕ)) → List (PartFiles B) → Type 0
-  HaveTexts texts parts = All (λ files. HaveRead texts left [] files.traces.files.items) parts
+  HaveTexts texts parts = All (λ files. AreBegun texts left files.traces) parts
 
-  -- each trace file that is looked at among those of its interface's partition is that of these
-  -- records
+  -- a header that differs is that of an interface of the partition
+  abbrev pub HeadersAreOwn : List (PartFiles B) → Type 0
+  HeadersAreOwn parts = (p : ℕ) (files : PartFiles B) → slice_get parts p ≡ Some files
+      → IfSome files.traces.differs (λ d. receiver_of (net_of t) d.iface ≡ p)
+
+  -- the trace file of interface n, if it is looked at among those of its partition's part, is that
+  -- of these records; and it comes before one whose header differs there
+  abbrev pub IsTraceFile : (ℕ → Option (List ℕ)) → List (Record (List ℕ)) → List (PartFiles B)
+      → ℕ → Type 0
+  IsTraceFile texts records parts n = (files : PartFiles B)
+      → slice_get parts (receiver_of (net_of t) n) ≡ Some files
+      → IsLesser n files.traces.differs
+      × (is_looked_at files.traces.files.files.items n ≡ true
+      → IfSome (texts n) (λ text. text ≡ trace_file Octets n records))
+
   abbrev pub AreTraceFiles : (ℕ → Option (List ℕ)) → List (Record (List ℕ)) → List (PartFiles B)
       → Type 0
-  AreTraceFiles texts records parts = (n : ℕ) (files : PartFiles B) → n < length t.ifaces
-      → slice_get parts (receiver_of (net_of t) n) ≡ Some files
-      → is_looked_at files.traces.files.items n ≡ true
-      → IfSome (texts n) (λ text. text ≡ trace_file Octets n records)
+  AreTraceFiles texts records parts = (n : ℕ) → n < length t.ifaces
+      → IsTraceFile texts records parts n
 
-  -- a trace file that is looked at among those of its interface's partition differs from that of
-  -- these records, at this octet
+  -- it is looked at there, or its header differs
+  abbrev pub IsAmong : PartFiles B → ℕ → Type 0
+  IsAmong files n = (is_looked_at files.traces.files.files.items n ≡ true)
+      ⊎ ((octet : ℕ) × (files.traces.differs ≡ Some (record { iface = n; octet = octet })))
+
+  -- a trace file among those of its interface's partition differs from that of these records, at
+  -- this octet
   abbrev pub DiffersInItsPart : (ℕ → Option (List ℕ)) → List (Record (List ℕ))
       → List (PartFiles B) → (iface octet : ℕ) → Type 0
   DiffersInItsPart texts records parts iface octet = (files : PartFiles B)
-      × (slice_get parts (receiver_of (net_of t) iface) ≡ Some files)
-      × (is_looked_at files.traces.files.items iface ≡ true)
+      × (slice_get parts (receiver_of (net_of t) iface) ≡ Some files) × IsAmong files iface
       × IfSome (texts iface) (λ text. TextDiffers text (trace_file Octets iface records) octet)
+
+  -- and each of a lesser interface is that of these records
+  abbrev pub DiffersLeast : (ℕ → Option (List ℕ)) → List (Record (List ℕ)) → List (PartFiles B)
+      → (iface octet : ℕ) → Type 0
+  DiffersLeast texts records parts iface octet = DiffersInItsPart texts records parts iface octet
+      × ((n : ℕ) → n < iface → n < length t.ifaces → IsTraceFile texts records parts n)
 
   -- Why files are not certified: what is told of partition p's file of what is known, while each
   -- partition before it has a book; or what the certificate shows of books that know what these
-  -- files tell; or where a trace file differs from that of the one event list, once they are
-  -- certified.
+  -- files tell; or where the trace file of the least interface that differs from that of the one
+  -- event list does so, once they are certified.
   abbrev pub ExplainsFault : List (PartFiles B) → Fault CertifyCause → Type 0
   ExplainsFault parts Memory = Unit {0}
   ExplainsFault parts (Refused Failed) =
@@ -93,4 +116,4 @@ module _ {B : Type 0} (t : TopologyValue) (left : B → Option (List ℕ)) where
       (books : List BookValue) × AreBooksOf parts books × AreCertified t books
       × ((texts : ℕ → Option (List ℕ)) (records : List (Record (List ℕ)))
       → IsTraceBefore t t.stop records → HaveTexts texts parts
-      → DiffersInItsPart texts records parts iface octet)
+      → DiffersLeast texts records parts iface octet)

@@ -1,15 +1,16 @@
 -- How the files of a partition are checked.
-use Rattle.std.specs.Prelude.{◌≡◌, ◌⊎◌, ℕ, ◌<◌, suc, true, Contains, IfSome, List, [], ◌∷◌, length, slice_get, Option, Some, Result, Ok, Err}
+use Rattle.std.specs.Prelude.{◌≡◌, ◌⊎◌, ℕ, ◌<◌, suc, true, All as AllOf, Contains, IfSome, List, [], ◌∷◌, length, slice_get, Option, Some, Result, Ok, Err}
 use Rattle.nm_base.specs.declared.fault.Fault.{Fault}
 use Rattle.nm_base.specs.declared.fault.Fault.TheVariants.{Memory, Refused}
 use Rattle.nm_base.specs.declared.record.Record.{Record}
 use Rattle.nm_model.specs.Partition.{receiver_of}
 use Rattle.nm_topology.specs.TopologyValue.{TopologyValue}
-use Rattle.nm_files.specs.Checked.{DiffersIn, HaveRead, TextDiffers, is_looked_at}
+use Rattle.nm_files.specs.Checked.{TextDiffers, is_looked_at}
+use Rattle.nm_files.specs.Least.{AreBegun, HasRecord, IsLesser}
 use Rattle.nm_files.specs.TraceFile.{octets_after}
-use Rattle.nm_files.specs.declared.checked_file.CheckCause.{CheckCause}
-use Rattle.nm_files.specs.declared.checked_file.CheckCause.TheVariants.{Differs, Failed}
-use Rattle.nm_files.specs.declared.checked_file.CheckedFile.{CheckedFile}
+use Rattle.nm_files.specs.declared.checked_file.ReadFailed.{ReadFailed}
+use Rattle.nm_files.specs.declared.least_checked.Difference.{Difference}
+use Rattle.nm_files.specs.declared.least_checked.LeastChecked.{LeastChecked}
 use Rattle.nm_sim.specs.Network.{net_of}
 use Rattle.nm_book.specs.Book.{BookValue, state_of}
 use Rattle.nm_book.specs.declared.running.Ran.{Ran}
@@ -29,10 +30,9 @@ abbrev pub known_fault : (partition : ℕ) → Fault KnownCause → Fault Certif
 known_fault partition Memory = Memory
 known_fault partition (Refused c) = Refused (Known partition c)
 
-abbrev pub trace_fault : Fault CheckCause → Fault CertifyCause
-trace_fault Memory = Memory
-trace_fault (Refused Failed) = Refused cause.Failed
-trace_fault (Refused (Differs iface octet)) = Refused (cause.Differs iface octet)
+abbrev pub unread : Fault ReadFailed → Fault CertifyCause
+unread Memory = Memory
+unread (Refused failed) = Refused cause.Failed
 
 -- a book ran, and did all events before its safe time, where its run says so
 abbrev pub HasRanAll : BookValue → Ran → Type 0
@@ -40,39 +40,41 @@ HasRanAll b (All n) = HasDoneAll b
 HasRanAll b (Limit n) = Unit {0}
 HasRanAll b (NoMemory n) = Unit {0}
 
--- one of these records is one of this interface
-abbrev pub HasRecord : ℕ → List (Record (List ℕ)) → Type 0
-HasRecord iface records = (r : Record (List ℕ)) × Contains records r × (r.iface ≡ iface)
+-- The trace files of partition p, as they were begun, have these texts, each where it is told; its
+-- book has these records.
+module _ (texts : ℕ → Option (List ℕ)) (t : TopologyValue) (p : ℕ)
+    (records : List (Record (List ℕ))) {B : Type 0} (begun : LeastChecked B) where
+  -- that of interface n, if it is of the partition and looked at, is theirs; and it comes before
+  -- one whose header differs
+  abbrev pub IsOwnTrace : ℕ → Type 0
+  IsOwnTrace n = receiver_of (net_of t) n ≡ p → IsLesser n begun.differs
+      × (is_looked_at begun.files.files.items n ≡ true
+      → IfSome (texts n) (λ text. text ≡ octets_after n records))
 
--- The trace files have these texts, each where it is told.
-module _ (texts : ℕ → Option (List ℕ)) where
-  -- an interface whose file is looked at and that has one of these records has another text than
-  -- theirs, within their octets
-  abbrev pub IsUnlikeAmong : {B : Type 0} → List (Record (List ℕ))
-      → List (Option (CheckedFile B)) → Fault CheckCause → Type 0
-  IsUnlikeAmong records files Memory = Unit {0}
-  IsUnlikeAmong records files (Refused Failed) = Unit {0}
-  IsUnlikeAmong records files (Refused (Differs own octet)) = (is_looked_at files own ≡ true)
-      × HasRecord own records × DiffersIn texts own [] (octets_after own records) octet
+  -- one that is looked at and is of an interface of a record or of the partition, or whose header
+  -- differs, differs from theirs
+  abbrev pub IsUnlikeTheirs : Difference → Type 0
+  IsUnlikeTheirs d = ((begun.differs ≡ Some d)
+      ⊎ ((is_looked_at begun.files.files.items d.iface ≡ true)
+      × (HasRecord d.iface records ⊎ (receiver_of (net_of t) d.iface ≡ p))))
+      × IfSome (texts d.iface) (λ text. TextDiffers text (octets_after d.iface records) d.octet)
 
-  -- the files were read over these records, or up to the first that differs from them
-  abbrev pub AreReadOver : {B : Type 0} → (B → Option (List ℕ)) → List (Record (List ℕ))
-      → List (Option (CheckedFile B)) → Result Unit (Fault CheckCause) → Type 0
-  AreReadOver left records files (Ok u) = HaveRead texts left records files
-  AreReadOver left records files (Err f) = IsUnlikeAmong records files f
+  -- what came of them: one differs or none does, and each of a lesser interface is theirs; or one
+  -- could not be read
+  abbrev pub EndsAs : Result (Option Difference) (Fault ReadFailed) → Type 0
+  EndsAs (Ok found) = IfSome found IsUnlikeTheirs
+      × ((n : ℕ) → n < length t.ifaces → IsLesser n found → IsOwnTrace n)
+  EndsAs (Err f) = Unit {0}
 
-  -- What came of the files of partition p, whose book has these records: each that is looked at and
-  -- is of an interface of the partition is theirs, or one of them differs from it.
-  abbrev pub EndsAs : TopologyValue → (p : ℕ) → List (Record (List ℕ)) → {B : Type 0}
-      → List (Option (CheckedFile B)) → Result Unit (Fault CheckCause) → Type 0
-  EndsAs t p records files (Ok u) = (n : ℕ) → n < length t.ifaces
-      → receiver_of (net_of t) n ≡ p → is_looked_at files n ≡ true
-      → IfSome (texts n) (λ text. text ≡ octets_after n records)
-  EndsAs t p records files (Err Memory) = Unit {0}
-  EndsAs t p records files (Err (Refused Failed)) = Unit {0}
-  EndsAs t p records files (Err (Refused (Differs own octet))) = (is_looked_at files own ≡ true)
-      × (HasRecord own records ⊎ (receiver_of (net_of t) own ≡ p))
-      × IfSome (texts own) (λ text. TextDiffers text (octets_after own records) octet)
+-- a part was compared: what is lesser than the least of all is lesser than what differs there
+abbrev pub IsCompared : (least : Option Difference) → PartEnd → Type 0
+IsCompared least end = (found : Option Difference) × (end.traces ≡ Ok found)
+    × ((n : ℕ) → IsLesser n least → IsLesser n found)
+
+-- the least difference of all parts, each of which was compared, is that of one of them
+abbrev pub IsLeastOf : List PartEnd → Option Difference → Type 0
+IsLeastOf ends least = AllOf (IsCompared least) ends
+    × IfSome least (λ d. (end : PartEnd) × Contains ends end × (end.traces ≡ Ok (Some d)))
 
 -- the first result that is a fault
 abbrev pub IsFirstFault : List (Result PartEnd (Fault CertifyCause)) → Fault CertifyCause → Type 0
@@ -89,9 +91,8 @@ module _ {B : Type 0} (t : TopologyValue) (left : B → Option (List ℕ)) where
   pub record IsEnd (job : Job B) (end : PartEnd) : Type 0 where
     pub book : IsBookOf t job.partition job.files.replica (left job.files.known) end.book
     pub traces : (texts : ℕ → Option (List ℕ))
-        → HaveRead texts left [] job.files.traces.files.items
-        → EndsAs texts t job.partition (state_of end.book).records job.files.traces.files.items
-        end.traces
+        → AreBegun texts left job.files.traces
+        → EndsAs texts t job.partition (state_of end.book).records job.files.traces end.traces
 
   -- why it has no book
   abbrev pub RefusesPart : Job B → Fault CertifyCause → Type 0

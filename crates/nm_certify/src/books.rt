@@ -1,11 +1,13 @@
 //! The books of all partitions, with what came of their trace files.
 
-ghost use Rattle.std.specs.Prelude.{◌≡◌, All, Contains, Err, IfErr, IfOk, Ok, OnOk, map};
+ghost use Rattle.std.specs.Prelude.{◌≡◌, ◌⊎◌, ◌≤◌, IfOk, IfSome, Some, map};
+ghost use Rattle.nm_certify.specs.Checking.{IsLeastOf};
 ghost use Rattle.nm_rounds.specs.Certify.{Certifies};
 
 use crate::part::PartEnd;
-use crate::running::Checked;
+use crate::running::Compared;
 use nm_book::Book;
+use nm_files::Difference;
 use nm_rounds::CertFault;
 use nm_rounds::certify::certify;
 use nm_topology::Topology;
@@ -30,15 +32,32 @@ pub(crate) fn certificate_of(
     Ok(certify(topology, books.as_slice()))
 }
 
-/// What came of all trace files: the first fault, if there is one.
-pub(crate) fn first_fault(ends: &[PartEnd]) -> Checked
-    ensures none { OnOk result (All (λ end. end.traces ≡ Ok tt) ends.now) }
-    ensures first { IfErr result (λ f. (end : _) × Contains ends.now end × (end.traces ≡ Err f)) }
+/// Of two differences that of the lesser interface, the first of which may not be there.
+fn lesser(least: Option<Difference>, found: Difference) -> Difference
+    ensures one { (result ≡ found) ⊎ (least ≡ Some result) }
+    ensures least { (result.iface ≤ found.iface) × IfSome least (λ d. result.iface ≤ d.iface) }
 {
-    for end in ends {
-        end.traces?;
+    match least {
+        Some(other) if other.iface.index() < found.iface.index() => other,
+        _ => found,
     }
-    Ok(())
+}
+
+/// The difference of the least interface, if a trace file differs.
+///
+/// # Errors
+///
+/// That of the first part of which a trace file could not be read.
+pub(crate) fn least_difference(ends: &[PartEnd]) -> Compared
+    ensures least { IfOk result (IsLeastOf ends.now) }
+{
+    let mut least = None;
+    for number in 0..ends.len() {
+        if let Some(found) = ends[number].traces? {
+            least = Some(lesser(least, found));
+        }
+    }
+    Ok(least)
 }
 
 /// The books alone.

@@ -6,9 +6,10 @@ ghost use Rattle.nm_base.specs.declared.record.Record.{Record as TraceRecord};
 ghost use Rattle.nm_rounds.specs.Certify.{AreCertified};
 ghost use Rattle.nm_sim.specs.Trace.{IsTraceBefore};
 ghost use Rattle.nm_certify.specs.Certify.{AreBooksOf, AreTraceFiles, ExplainsFault, HaveTexts};
+ghost use Rattle.nm_certify.specs.Certify.{HeadersAreOwn};
 
-use crate::books::{certificate_of, first_fault, into_books};
-use crate::fault::{CertifyCause, CertifyFault, trace_fault};
+use crate::books::{certificate_of, into_books, least_difference};
+use crate::fault::{CertifyCause, CertifyFault, differs, unread};
 use crate::part_files::PartFiles;
 use crate::parts::{check_all, jobs_of};
 use nm_base::Packet;
@@ -31,9 +32,8 @@ use std::thread::Threads;
 ///
 /// The first fault in this order. `Known` with the least partition whose file of what is known is
 /// refused. `NotCertified` with the certificate's fault: each book ran to its end, whatever the
-/// trace files have. `Differs` or `Failed` with the first trace file at fault in the least
-/// partition that has one: the first in the order of the records of its book, and behind them by
-/// the numbers of interfaces. `Memory` where memory was refused.
+/// trace files have. `Failed` where a trace file could not be read, for then not all were compared.
+/// `Differs` with the least interface whose trace file differs. `Memory` where memory was refused.
 pub fn certify_parts<B: BufRead + Drop + Send, R: Threads + Sync>(
     rt: &R,
     alloc: Global,
@@ -43,6 +43,7 @@ pub fn certify_parts<B: BufRead + Drop + Send, R: Threads + Sync>(
 ) -> Result<Vec<Book>, CertifyFault>
     requires workers { (1 ≤ workers) × (workers ≤ 64) }
     requires parts { length parts.items ≤ (arc_value topology.now).partitions }
+    requires headers { HeadersAreOwn (arc_value topology.now) B.remaining parts.items }
 
     // The books are certified, one of each partition; they know what the files of what is known
     // tell.
@@ -67,8 +68,9 @@ pub fn certify_parts<B: BufRead + Drop + Send, R: Threads + Sync>(
     if let Err(fault) = certificate_of(alloc, topology, ends.as_slice())? {
         return Err(CertifyFault::Refused(CertifyCause::NotCertified(fault)));
     }
-    if let Err(fault) = first_fault(ends.as_slice()) {
-        return Err(trace_fault(&fault));
+    match least_difference(ends.as_slice()) {
+        Ok(None) => Ok(into_books(alloc, ends)?),
+        Ok(Some(found)) => Err(differs(found)),
+        Err(fault) => Err(unread(&fault)),
     }
-    Ok(into_books(alloc, ends)?)
 }

@@ -2,11 +2,13 @@
 
 ghost use Rattle.std.specs.Prelude.{◌≡◌};
 ghost use Rattle.nm_base.specs.declared.fault.Fault.{Fault as AnyFault};
+ghost use Rattle.nm_base.specs.declared.fault.Fault.TheVariants.{Refused};
 ghost use Rattle.nm_known.specs.declared.known_fault.KnownCause.{KnownCause as KnownCauseValue};
-ghost use Rattle.nm_certify.specs.Checking.{known_fault, trace_fault};
+ghost use Rattle.nm_certify.specs.Checking.{known_fault, unread};
+ghost use Rattle.nm_certify.specs.declared.fault.CertifyCause.TheVariants.{Differs};
 
 use nm_base::{Fault, IfaceNo, PartNo};
-use nm_files::{CheckCause, CheckFault};
+use nm_files::{Difference, ReadFault};
 use nm_known::{KnownCause, KnownFault};
 use nm_rounds::CertFault;
 use thiserror::Error;
@@ -24,9 +26,9 @@ pub enum CertifyCause {
     /// The books are not certified.
     #[error("not certified: {0}")]
     NotCertified(CertFault),
-    /// They are, and the trace file of this interface differs at this octet, counted from 0, which
-    /// stops at 2^64 - 1, and at none before it: there it has another one, or it ends, or it goes
-    /// on.
+    /// They are, each trace file was compared, and the one of this interface differs at this octet,
+    /// counted from 0, which stops at 2^64 - 1, and at none before it: there it has another one, or
+    /// it ends, or it goes on. Of all trace files that differ it is that of the least interface.
     #[error("a trace file differs at octet {octet}")]
     Differs {
         iface: IfaceNo,
@@ -53,18 +55,22 @@ pub(crate) fn known_fault(partition: PartNo, fault: KnownFault) -> CertifyFault
     }
 }
 
-/// What the fault of a trace file is to the files.
-pub fn trace_fault(fault: &CheckFault) -> CertifyFault
-    ensures { result ≡ trace_fault fault.now }
+/// What it is to the files that a trace file could not be read.
+pub fn unread(fault: &ReadFault) -> CertifyFault
+    ensures { result ≡ unread fault.now }
 {
     match fault {
-        CheckFault::Memory => CertifyFault::Memory,
-        CheckFault::Refused(CheckCause::Failed) => CertifyFault::Refused(CertifyCause::Failed),
-        CheckFault::Refused(CheckCause::Differs { iface, octet }) => {
-            CertifyFault::Refused(CertifyCause::Differs {
-                iface: *iface,
-                octet: *octet,
-            })
-        }
+        ReadFault::Memory => CertifyFault::Memory,
+        ReadFault::Refused(_) => CertifyFault::Refused(CertifyCause::Failed),
     }
+}
+
+/// What the least difference of a trace file is to them.
+pub(crate) fn differs(found: Difference) -> CertifyFault
+    ensures { result ≡ Refused (Differs found.iface found.octet) }
+{
+    CertifyFault::Refused(CertifyCause::Differs {
+        iface: found.iface,
+        octet: found.octet,
+    })
 }

@@ -12,5 +12,5 @@ mod parts;
 mod running;
 
 pub use certify::certify_parts;
-pub use fault::{CertifyCause, CertifyFault, trace_fault};
+pub use fault::{CertifyCause, CertifyFault, unread};
 pub use part_files::PartFiles;

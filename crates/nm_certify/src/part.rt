@@ -9,7 +9,7 @@ ghost use Rattle.nm_certify.specs.Checking.{IsEnd, RefusesPart};
 
 use crate::fault::{CertifyFault, known_fault};
 use crate::part_files::PartFiles;
-use crate::running::{Checked, check_traces};
+use crate::running::{Compared, check_traces};
 use nm_base::PartNo;
 use nm_book::{Book, BookFault};
 use nm_known::{KnownCause, KnownFault, read_known};
@@ -25,11 +25,12 @@ pub(crate) struct Job<B> {
     pub(crate) files: PartFiles<B>,
 }
 
-/// What came of a partition: its book at the end of its run, and what came of its trace files.
+/// What came of a partition: its book at the end of its run, and the least interface whose trace
+/// file differs, if one does.
 #[derive(Drop)]
 pub(crate) struct PartEnd {
     pub(crate) book: Book,
-    pub(crate) traces: Checked,
+    pub(crate) traces: Compared,
 }
 
 /// A book that knows what a file tells. Of a partition or a replica that is not there

@@ -1,13 +1,13 @@
 //! The files of a partition.
 
-use nm_files::CheckedFiles;
+use nm_files::LeastChecked;
 
 /// What there is of a partition: a file of what one of its replicas knew, and trace files, whose
-/// headers are read. Those of its own interfaces are looked at.
+/// headers are read, up to the first that differs. Those of its own interfaces are looked at.
 #[derive(Drop)]
 pub struct PartFiles<B> {
     /// Which replica it was: 0 or 1. Of another one nothing is read, and `Failed` is told.
     pub replica: u8,
     pub known: B,
-    pub traces: CheckedFiles<B>,
+    pub traces: LeastChecked<B>,
 }

@@ -3,17 +3,17 @@
 ghost use Rattle.std.specs.Prelude.{◌≡◌, ℕ, ◌≤◌, ◌++◌, All, IfOk, List, [], OnOk, Option, length};
 ghost use Rattle.nm_base.specs.declared.limits.TheConstants.{MAX_TIME};
 ghost use Rattle.nm_base.specs.declared.record.Record.{Record as TraceRecord};
-ghost use Rattle.nm_files.specs.Checked.{HaveRead, looked_at};
+ghost use Rattle.nm_files.specs.Least.{AreBegun, AreReadBelow};
 ghost use Rattle.nm_model.specs.Lists.{IsPrefix};
 ghost use Rattle.nm_book.specs.Book.{state_of};
 ghost use Rattle.nm_certify.specs.Certify.{HasDoneAll};
-ghost use Rattle.nm_certify.specs.Checking.{AreReadOver, EndsAs, HasRanAll};
+ghost use Rattle.nm_certify.specs.Checking.{EndsAs, HasRanAll};
 
 use nm_base::{Packet, PartNo, Record};
 use nm_book::channels::partition_of;
 use nm_book::laws::records_have_times_of_a_file;
 use nm_book::{Book, Ran};
-use nm_files::{CheckFault, CheckedFiles};
+use nm_files::{Difference, LeastChecked, ReadFault};
 use nm_forward::NodeState;
 use nm_model::replica::what_was_done_stays;
 use nm_sim::network::every_topology_is_a_network;
@@ -24,8 +24,12 @@ use std::io::BufRead;
 /// How many events are done at a time. Their records alone are kept.
 const STEP_EVENTS: u64 = 4_096;
 
-/// All trace files were as they are to be so far, or one of them was not.
-pub(crate) type Checked = Result<(), CheckFault>;
+/// The trace files were read so far, or one of them could not be.
+type Checked = Result<(), ReadFault>;
+
+/// They were read to their ends, and the one of this interface is the least that differs, or none
+/// does; or one of them could not be read.
+pub(crate) type Compared = Result<Option<Difference>, ReadFault>;
 
 /// Does some events more, or all that are left.
 fn run_more(alloc: Global, book: &mut Book) -> Ran
@@ -39,17 +43,16 @@ fn run_more(alloc: Global, book: &mut Book) -> Ran
     book.run_safe(alloc, STEP_EVENTS)
 }
 
-/// Reads on over records, unless a file differed before.
+/// Reads on over records, unless a file could not be read before.
 fn read_over<B: BufRead + Drop>(
-    files: &mut CheckedFiles<B>,
+    files: &mut LeastChecked<B>,
     checked: Checked,
     records: &[Record],
 ) -> Checked
     requires { All (λ r. r.time ≤ MAX_TIME) records.now }
-    ensures looked { looked_at files.new.files.items ≡ looked_at files.old.files.items }
-    ensures read { (texts : ℕ → Option (List ℕ)) (before : List (TraceRecord (List ℕ)))
-        → AreReadOver texts B.remaining before files.old.files.items checked
-        → AreReadOver texts B.remaining (before ++ records.now) files.new.files.items result }
+    ensures { (texts : ℕ → Option (List ℕ)) (begun : _) (before : List (TraceRecord (List ℕ)))
+        → OnOk checked (AreReadBelow texts B.remaining begun before files.old)
+        → OnOk result (AreReadBelow texts B.remaining begun (before ++ records.now) files.new) }
 {
     checked?;
     files.put_all(records)
@@ -59,18 +62,18 @@ fn read_over<B: BufRead + Drop>(
 fn run_on<B: BufRead + Drop>(
     alloc: Global,
     book: &mut Book,
-    files: &mut CheckedFiles<B>,
+    files: &mut LeastChecked<B>,
     checked: Checked,
 ) -> (Ran, Checked)
     requires { book.old.handed ≡ length (state_of book.old).records }
     ensures handed { book.new.handed ≡ length (state_of book.new).records }
     ensures same { book.new
         ≡ record book.old { events = book.new.events; handed = book.new.handed } }
-    ensures looked { looked_at files.new.files.items ≡ looked_at files.old.files.items }
-    ensures read { (texts : ℕ → Option (List ℕ))
-        → AreReadOver texts B.remaining (state_of book.old).records files.old.files.items checked
-        → AreReadOver texts B.remaining (state_of book.new).records files.new.files.items
-        result.1 }
+    ensures read { (texts : ℕ → Option (List ℕ)) (begun : _)
+        → OnOk checked
+        (AreReadBelow texts B.remaining begun (state_of book.old).records files.old)
+        → OnOk result.1
+        (AreReadBelow texts B.remaining begun (state_of book.new).records files.new) }
     ensures all { HasRanAll book.new result.0 }
 {
     let ran = run_more(alloc, book);
@@ -79,21 +82,19 @@ fn run_on<B: BufRead + Drop>(
     (ran, read_over(files, checked, records.as_slice()))
 }
 
-/// Runs a book from its start to its end, though a file differs.
+/// Runs a book from its start to its end, though a file differs or could not be read.
 fn run_beside<B: BufRead + Drop>(
     alloc: Global,
     book: &mut Book,
-    files: &mut CheckedFiles<B>,
+    files: &mut LeastChecked<B>,
 ) -> Result<Checked, AllocError>
     requires none { book.old.handed ≡ 0 }
     requires start { (state_of book.old).records ≡ [] }
     ensures same { book.new
         ≡ record book.old { events = book.new.events; handed = book.new.handed } }
-    ensures looked { looked_at files.new.files.items ≡ looked_at files.old.files.items }
-    ensures read { (texts : ℕ → Option (List ℕ))
-        → HaveRead texts B.remaining [] files.old.files.items
-        → IfOk result (AreReadOver texts B.remaining (state_of book.new).records
-        files.new.files.items) }
+    ensures read { (texts : ℕ → Option (List ℕ)) → AreBegun texts B.remaining files.old
+        → IfOk result (λ checked. OnOk checked (AreReadBelow texts B.remaining files.old
+        (state_of book.new).records files.new)) }
     ensures all { OnOk result (HasDoneAll book.new) }
 {
     let mut checked = Ok(());
@@ -108,17 +109,17 @@ fn run_beside<B: BufRead + Drop>(
     Err(AllocError)
 }
 
-/// Sees that nothing comes behind what was read of the files of a partition's interfaces, unless
-/// one differed before.
+/// Sees whether something comes behind what was read of the files of a partition's interfaces.
 fn finish_own<B: BufRead + Drop>(
     topology: &Topology,
     partition: PartNo,
-    files: &mut CheckedFiles<B>,
+    files: &mut LeastChecked<B>,
     checked: Checked,
-) -> Checked
-    ensures { (texts : ℕ → Option (List ℕ)) (records : List (TraceRecord (List ℕ)))
-        → AreReadOver texts B.remaining records files.old.files.items checked
-        → EndsAs texts topology.now partition records files.old.files.items result }
+) -> Compared
+    ensures { (texts : ℕ → Option (List ℕ)) (begun : _) (records : List (TraceRecord (List ℕ)))
+        → AreBegun texts B.remaining begun
+        → OnOk checked (AreReadBelow texts B.remaining begun records files.old)
+        → EndsAs texts topology.now partition records begun result }
 {
     checked?;
     for number in 0..topology.ifaces().len() {
@@ -127,7 +128,7 @@ fn finish_own<B: BufRead + Drop>(
             files.finish(iface)?;
         }
     }
-    Ok(())
+    Ok(files.difference())
 }
 
 /// Runs the book of a partition from its start to its end, and reads the trace files of the
@@ -142,15 +143,14 @@ pub(crate) fn check_traces<B: BufRead + Drop>(
     topology: &Topology,
     partition: PartNo,
     book: &mut Book,
-    traces: CheckedFiles<B>,
-) -> Result<Checked, AllocError>
+    traces: LeastChecked<B>,
+) -> Result<Compared, AllocError>
     requires none { book.old.handed ≡ 0 }
     requires start { (state_of book.old).records ≡ [] }
     ensures same { book.new
         ≡ record book.old { events = book.new.events; handed = book.new.handed } }
-    ensures ends { (texts : ℕ → Option (List ℕ)) → HaveRead texts B.remaining [] traces.files.items
-        → IfOk result (EndsAs texts topology.now partition (state_of book.new).records
-        traces.files.items) }
+    ensures ends { (texts : ℕ → Option (List ℕ)) → AreBegun texts B.remaining traces
+        → IfOk result (EndsAs texts topology.now partition (state_of book.new).records traces) }
     ensures all { OnOk result (HasDoneAll book.new) }
 {
     let mut files = traces;

@@ -18,18 +18,21 @@ use Rattle.nm_topology.specs.Topology.{topology_of}
 use Rattle.nm_topology.specs.TopologyValue.{TopologyValue}
 use Rattle.nm_sim.specs.Network.{net_of}
 use Rattle.nm_sim.specs.Trace.{IsTraceBefore}
-use Rattle.nm_files.specs.Checked.{HaveRead, is_looked_at, looked_at}
+use Rattle.nm_files.specs.Checked.{DiffersIn, HaveRead, is_looked_at, looked_at}
+use Rattle.nm_files.specs.Least.{AreBegun, IsLesser, found_difference}
 use Rattle.nm_files.specs.Names.{file_name}
 use Rattle.nm_files.specs.declared.checked_file.CheckedFile.{CheckedFile}
 use Rattle.std.proofs.Math.ListN.{get_or-append}
 use Rattle.std.proofs.Math.Seq.{get_or-append_seam}
 use Rattle.std.proofs.lemmas.Bool.Decides.{nat_tests}
-use Rattle.nm_files.specs.TraceFile.{trace_file, written_at}
+use Rattle.nm_files.specs.TraceFile.{trace_file}
 use Rattle.nm_files.specs.declared.checked_file.CheckCause.{CheckCause}
 use Rattle.nm_files.specs.declared.checked_file.CheckCause.TheVariants as check
+use Rattle.nm_files.specs.declared.checked_file.ReadFailed.{ReadFailed}
+use Rattle.nm_files.specs.declared.least_checked.Difference.{Difference}
+use Rattle.nm_files.specs.declared.least_checked.LeastChecked.{LeastChecked}
 use Rattle.nm_files.proofs.Checked.{in_front, next_behind}
 use Rattle.nm_files.proofs.Folders.{element}
-use Rattle.nm_files.proofs.Records.{whole_file}
 use Rattle.nm_book.specs.Book.{BookValue}
 use Rattle.nm_rounds.specs.Certify.{AreCertified}
 use Rattle.nm_known.specs.Keeping.{known_name}
@@ -37,21 +40,20 @@ use Rattle.nm_known.specs.Known.{ExplainsText, IsNoFile, IsOfOther, known_octets
 use Rattle.nm_known.specs.declared.known_fault.KnownCause.{KnownCause}
 use Rattle.nm_known.specs.declared.known_fault.KnownCause.TheVariants as known
 use Rattle.nm_certify.proofs.Certified.{mapped_at}
-use Rattle.nm_certify.specs.Certify.{AreBooksOf, AreTraceFiles, ExplainsFault, HaveTexts, IsBookOf, fresh_book}
-use Rattle.nm_certify.specs.Checking.{trace_fault}
+use Rattle.nm_certify.specs.Certify.{AreBooksOf, AreTraceFiles, ExplainsFault, HaveTexts, HeadersAreOwn, IsAmong, IsBookOf, IsTraceFile, fresh_book}
+use Rattle.nm_certify.specs.Checking.{unread}
 use Rattle.nm_certify.specs.declared.fault.CertifyCause.{CertifyCause}
 use Rattle.nm_certify.specs.declared.fault.CertifyCause.TheVariants as cause
 use Rattle.nm_certify.specs.declared.part_files.PartFiles.{PartFiles}
 use Rattle.nm_command.specs.declared.status.Status.{Status}
 use Rattle.nm_command.specs.declared.status.Status.TheVariants as status
 use Rattle.nm_offline.specs.Certify.{AreFilesCertified, AreNotCertified, ArePlaces, AreTheirBooks, AreTheirTraces, CertifyAsked, ExplainsFiles, HasNoFile, HaveNoFile, IsFilePlace, IsNotCertified, IsStatusOfFiles, FilePlace, known_text, refused_number, trace_text, trace_texts}
-use Rattle.nm_offline.specs.Finding.{AllFound, AreCertifiedBooks, AreOpened, AreOwnTexts, DiffersInHeader, IsFound, IsLeastIn, IsOpened, NoneIsFound, found_place}
+use Rattle.nm_offline.specs.Finding.{AllFound, AreCertifiedBooks, AreOpened, AreOwnTexts, AreTracesOf, IsFound, IsLeastIn, IsNotFound, IsOpened, NoneIsFound, found_place}
 use Rattle.nm_offline.specs.Input.{InputsSeen}
 use Rattle.nm_sim.specs.Totals.{totals_of}
 use Rattle.nm_offline.specs.Lines.{AreOfPartitions, AreTotals, iface_lines}
 use Rattle.nm_offline.specs.declared.finding.Found.{Found}
 use Rattle.nm_offline.proofs.InterfaceLines.{HaveTheirRecords, certified_totals}
-use Rattle.nm_offline.proofs.Verifying.{differs_in_piece}
 
 -- the name of a file of what is known is not that of standard input
 never : (b : Bool) → (b && false) ≡ false
@@ -75,9 +77,8 @@ one_has_none inputs folders n p own before is none m folder replica low at withi
     pick (inl less) = before m folder replica less at within
     pick (inr here) = ap (λ f. inputs.text (known_name f p replica)) (sym (same_Some own folder (sym is ∙ ap (slice_get folders) (sym here) ∙ at))) ∙ none replica within
 
-pub all_have_none : (inputs : InputsSeen) (folders : List (List ℕ)) (n p : ℕ) → length folders ≤ n → HaveNoFile inputs folders n p → HasNoFile inputs folders p
-all_have_none inputs folders n p all none folder replica (i, low, at) within =
-    none i folder replica (omega (arith, low, all)) (slice_get-get_or folders i folder low ∙ ap (λ f. Some f) at) within
+pub none_has : (inputs : InputsSeen) (folders : List (List ℕ)) (n p : ℕ) → length folders ≤ n → HaveNoFile inputs folders n p → HasNoFile inputs folders p
+none_has inputs folders n p all none m folder replica low at within = none m folder replica (omega (arith, low, all)) at within
 
 -- what is true of each element by its number is true of one more
 one_more_at : {X : Type 0} (P : ℕ → X → Type 0) (xs : List X) (x : X) → ((n : ℕ) (y : X) → slice_get xs n ≡ Some y → P n y) → P (length xs) x → (n : ℕ) (y : X) → slice_get (xs ++ x ∷ []) n ≡ Some y → P n y
@@ -168,23 +169,27 @@ not_found inputs folders t fault (p, low, inl memory) = subst (ExplainsFiles inp
 not_found inputs folders t fault (p, low, inr (inl failed)) = subst (ExplainsFiles inputs folders t) (sym failed) tt
 not_found inputs folders t fault (p, low, inr (inr (missing, none))) = subst (ExplainsFiles inputs folders t) (sym missing) (inl (refl, p, low, none))
 
-module _ (inputs : InputsSeen) (folders : List (List ℕ)) (t : TopologyValue) (places : List FilePlace) (placed : ArePlaces inputs folders t places)
-    (records : List (Record (List ℕ))) (trace : IsTraceBefore t t.stop records) where
-  -- a header differs
-  pub not_opened : (fault : Fault CheckCause) → ((own octet : ℕ) → fault ≡ Refused (check.Differs own octet) → DiffersInHeader (trace_texts inputs t places) t own octet)
-      → ExplainsFiles inputs folders t (trace_fault fault)
-  not_opened NoMemory differs = tt
-  not_opened (Refused check.Failed) differs = tt
-  not_opened (Refused (check.Differs own octet)) differs =
-      let at = differs own octet refl in
-      record {
-        there = at.0;
-        places = places;
-        placed = placed;
-        records = records;
-        trace = trace;
-        differs = differs_in_piece t [] (trace_texts inputs t places) own octet (trace_file Octets own records) [] file_header (written_at Octets own records) (whole_file own records) at.1;
-      }
+-- one could not be read
+pub not_read : (inputs : InputsSeen) (folders : List (List ℕ)) (t : TopologyValue) (fault : Fault ReadFailed) → ExplainsFiles inputs folders t (unread fault)
+not_read inputs folders t NoMemory = tt
+not_read inputs folders t (Refused failed) = tt
+
+pub not_there : (inputs : InputsSeen) (folders : List (List ℕ)) (p : ℕ) (fault : Fault ReadFailed) → IsNotFound inputs folders p (unread fault)
+not_there inputs folders p NoMemory = inl refl
+not_there inputs folders p (Refused failed) = inr (inl refl)
+
+no_difference : (fault : Fault ReadFailed) (d : Difference) → Err fault ≡ Ok d → ⊥
+no_difference fault d e = cc
+
+same_found : (found : Result Difference (Fault ReadFailed)) (a b : Difference) → found ≡ Ok a → found ≡ Ok b → a ≡ b
+same_found found a b one other = let e = sym one ∙ other in cc
+
+-- a fault that is a difference
+found_is : (fault : Fault CheckCause) (d : Difference) → found_difference fault ≡ Ok d → fault ≡ Refused (check.Differs d.iface d.octet)
+found_is NoMemory d is = absurd (no_difference NoMemory d is)
+found_is (Refused check.Failed) d is = absurd (no_difference (Refused (record {})) d is)
+found_is (Refused (check.Differs iface octet)) d is =
+    ap (λ (e : Difference). Refused (check.Differs e.iface e.octet)) (same_found (found_difference (Refused (check.Differs iface octet))) (record { iface = iface; octet = octet }) d refl is)
 
 same_number : (a b : ℕ) → (a == b) ≡ true → a ≡ b
 same_number a b is = grind (arith, nat_tests, is)
@@ -212,6 +217,39 @@ own_count b n old new count more =
 pub chosen_text : (inputs : InputsSeen) (folder : List ℕ) (t : TopologyValue) (p : ℕ) (texts : ℕ → Option (List ℕ)) (n : ℕ) → AreOwnTexts inputs folder t p texts
     → (iface : IfaceValue) → slice_get t.ifaces n ≡ Some iface → (receiver_of (net_of t) n == p) ≡ true → texts n ≡ inputs.text (file_name folder iface)
 chosen_text inputs folder t p texts n own iface is chosen = own n iface is (same_number (receiver_of (net_of t) n) p chosen)
+
+-- the trace files of a partition were opened: all of them, or up to one whose header differs
+module _ {B : Type 0} (left : B → Option (List ℕ)) (texts : ℕ → Option (List ℕ)) (t : TopologyValue) (p : ℕ) (files : List (Option (CheckedFile B))) (n : ℕ) (count : length files ≡ n)
+    (looked : (m : ℕ) → m < n → receiver_of (net_of t) m ≡ p → is_looked_at files m ≡ true) (read : HaveRead texts left [] files) (traces : LeastChecked B) (items : traces.files.files.items ≡ files) where
+  pub all_opened : n ≡ length t.ifaces → traces.differs ≡ None → AreTracesOf left texts t p traces
+  all_opened all none = record {
+    begun = record { read = subst (HaveRead texts left []) (sym items) read; differs = subst (λ o. IfSome o (λ d. (length traces.files.files.items ≤ d.iface) × DiffersIn texts d.iface [] file_header d.octet)) (sym none) tt };
+    within = let long = ap length items in omega (arith, long, count, all);
+    own = subst (λ o. IfSome o (λ d. (d.iface < length t.ifaces) × (receiver_of (net_of t) d.iface ≡ p))) (sym none) tt;
+    looked = λ m low own lesser. ap (λ l. is_looked_at l m) items ∙ looked m (omega (arith, low, all)) own;
+  }
+
+  pub some_opened : (fault : Fault CheckCause) (found : Difference) → n < length t.ifaces → found_difference fault ≡ Ok found → traces.differs ≡ Some found
+      → ((iface octet : ℕ) → fault ≡ Refused (check.Differs iface octet) → (iface ≡ n) × ((x : IfaceValue) → slice_get t.ifaces n ≡ Some x → (receiver_of (net_of t) n == p) ≡ true) × DiffersIn texts n [] file_header octet)
+      → AreTracesOf left texts t p traces
+  some_opened fault found low is differs unlike =
+      let at = unlike found.iface found.octet (found_is fault found is) in
+      let here = element t.ifaces n low in
+      let own : receiver_of (net_of t) n ≡ p = same_number (receiver_of (net_of t) n) p (at.1 here.0 here.1) in
+      let long = ap length items in
+      let number = at.0 in
+      let header : (length traces.files.files.items ≤ found.iface) × DiffersIn texts found.iface [] file_header found.octet =
+      (omega (arith, long, count, number), subst (λ k. DiffersIn texts k [] file_header found.octet) (sym at.0) at.2) in
+      let place : (found.iface < length t.ifaces) × (receiver_of (net_of t) found.iface ≡ p) = (omega (arith, low, number), ap (receiver_of (net_of t)) at.0 ∙ own) in
+      record {
+        begun = record {
+          read = subst (HaveRead texts left []) (sym items) read;
+          differs = subst (λ o. IfSome o (λ d. (length traces.files.files.items ≤ d.iface) × DiffersIn texts d.iface [] file_header d.octet)) (sym differs) header;
+        };
+        within = omega (arith, long, count, low);
+        own = subst (λ o. IfSome o (λ d. (d.iface < length t.ifaces) × (receiver_of (net_of t) d.iface ≡ p))) (sym differs) place;
+        looked = λ m less part lesser. ap (λ l. is_looked_at l m) items ∙ looked m (let below = subst (IsLesser m) differs lesser in omega (arith, below, number)) part;
+      }
 
 -- Of files that were found and opened.
 module _ {B : Type 0} (left : B → Option (List ℕ)) (inputs : InputsSeen) (folders : List (List ℕ)) (t : TopologyValue) (found : List (Found B)) (parts : List (PartFiles B))
@@ -243,7 +281,17 @@ module _ {B : Type 0} (left : B → Option (List ℕ)) (inputs : InputsSeen) (fo
       let files = element parts p low in
       let count = opened.count in
       let f = element found p (omega (arith, low, count)) in
-      subst (λ (own : PartFiles B). HaveRead (trace_texts inputs t (map found_place found)) left [] own.traces.files.items) (sym (get_or_from_slice_get parts p files.0 d files.1)) (opened.each p f.0 files.0 f.1 files.1).read
+      subst (λ (own : PartFiles B). AreBegun (trace_texts inputs t (map found_place found)) left own.traces) (sym (get_or_from_slice_get parts p files.0 d files.1)) (opened.each p f.0 files.0 f.1 files.1).traces.begun
+
+  -- the headers that differ are of their partitions
+  pub headers_are : HeadersAreOwn t left parts
+  headers_are = λ p files at.
+      let count = opened.count in
+      let f = element found p (let low = slice_get_within parts p files at in omega (arith, low, count)) in
+      part files p (opened.each p f.0 files f.1 at).traces.own
+    where
+      part : (files : PartFiles B) (p : ℕ) → IfSome files.traces.differs (λ d. (d.iface < length t.ifaces) × (receiver_of (net_of t) d.iface ≡ p)) → IfSome files.traces.differs (λ d. receiver_of (net_of t) d.iface ≡ p)
+      part files p own = IfSome_then files.traces.differs own (λ d at. at.1)
 
   their_books : (books : List BookValue) → AreBooksOf t left parts books → AreTheirBooks inputs t places books
   unfolding places
@@ -264,18 +312,22 @@ module _ {B : Type 0} (left : B → Option (List ℕ)) (inputs : InputsSeen) (fo
         });
   }
 
+  -- the trace file of an interface is that of these records
+  their_trace : (records : List (Record (List ℕ))) (n : ℕ) → n < length t.ifaces → IsTraceFile t left (trace_texts inputs t (map found_place found)) records parts n
+      → IfSome (trace_texts inputs t places n) (λ text. text ≡ trace_file Octets n records)
+  unfolding places
+  their_trace records n low is = pick (slice_get places (receiver_of (net_of t) n)) refl
+    where
+      pick : (o : Option FilePlace) → slice_get places (receiver_of (net_of t) n) ≡ o → IfSome (trace_texts inputs t places n) (λ text. text ≡ trace_file Octets n records)
+      pick None at = subst (λ o. IfSome (trace_text inputs.text o (slice_get t.ifaces n)) (λ text. text ≡ trace_file Octets n records)) (sym at) tt
+      pick (Some place) at =
+          let there = at_place (receiver_of (net_of t) n) place at in
+          let own = is there.3.0 there.3.1 in
+          own.1 (there.3.2.traces.looked n low refl own.0)
+
   their_traces : (records : List (Record (List ℕ))) → AreTraceFiles t left (trace_texts inputs t (map found_place found)) records parts → AreTheirTraces inputs t places records
   unfolding places
-  their_traces records are n iface at = pick (slice_get places (receiver_of (net_of t) n)) refl
-    where
-      low : n < length t.ifaces
-      low = slice_get_within t.ifaces n iface at
-
-      pick : (o : Option FilePlace) → slice_get places (receiver_of (net_of t) n) ≡ o → IfSome (trace_texts inputs t places n) (λ text. text ≡ trace_file Octets n records)
-      pick None is = subst (λ o. IfSome (trace_text inputs.text o (slice_get t.ifaces n)) (λ text. text ≡ trace_file Octets n records)) (sym is) tt
-      pick (Some place) is =
-          let there = at_place (receiver_of (net_of t) n) place is in
-          are n there.3.0 low there.3.1 (there.3.2.looked n low refl)
+  their_traces records are n iface at = let low = slice_get_within t.ifaces n iface at in their_trace records n low (are n low)
 
   pub all_certified : (books : List BookValue) → AreBooksOf t left parts books → AreCertified t books
       → ((texts : ℕ → Option (List ℕ)) (records : List (Record (List ℕ))) → IsTraceBefore t t.stop records → HaveTexts t left texts parts → AreTraceFiles t left texts records parts)
@@ -288,13 +340,19 @@ module _ {B : Type 0} (left : B → Option (List ℕ)) (inputs : InputsSeen) (fo
     whole = λ records trace. their_traces records (files (trace_texts inputs t (map found_place found)) records trace have_texts);
   }
 
-  looked_within : (files : PartFiles B) (n : ℕ) → length files.traces.files.items ≡ length t.ifaces → is_looked_at files.traces.files.items n ≡ true → n < length t.ifaces
-  looked_within files n count seen = subst (λ k. n < k) (length-map files.traces.files.items (λ file. is_some file) ∙ count) (within (map (λ file. is_some file) files.traces.files.items) n seen)
+  -- an interface whose file is looked at, or differs in its header, is there
+  among_within : (p : ℕ) (files : PartFiles B) (n : ℕ) → AreTracesOf left (trace_texts inputs t (map found_place found)) t p files.traces → IsAmong t left files n → n < length t.ifaces
+  among_within p files n are (inl seen) =
+      let low = within (map (λ file. is_some file) files.traces.files.files.items) n seen in
+      let long = length-map files.traces.files.files.items (λ file. is_some file) in
+      let most = are.within in
+      omega (arith, low, long, most)
     where
       within : (bs : List Bool) (n : ℕ) → get_or bs n false ≡ true → n < length bs
       within [] n seen = absurd (true≢false (sym seen))
       within (b ∷ bs) zero seen = omega arith
       within (b ∷ bs) (suc n) seen = let low = within bs n seen in omega (arith, low)
+  among_within p files n are (inr (octet, is)) = (subst (λ o. IfSome o (λ d. (d.iface < length t.ifaces) × (receiver_of (net_of t) d.iface ≡ p))) is are.own).0
 
   module _ (records : List (Record (List ℕ))) (trace : IsTraceBefore t t.stop records) where
     -- one that is refused, of whose text this holds
@@ -340,16 +398,22 @@ module _ {B : Type 0} (left : B → Option (List ℕ)) (inputs : InputsSeen) (fo
     not_all (Refused (cause.Differs own octet)) (books, are, certified, differs) =
         let at = differs (trace_texts inputs t (map found_place found)) records trace have_texts in
         let p = receiver_of (net_of t) own in
-        let low = slice_get_within parts p at.0 at.1 in
+        let files = at.0.0 in
+        let low = slice_get_within parts p files at.0.1 in
         let count = opened.count in
         let f = element found p (omega (arith, low, count)) in
+        let there = among_within p files own (opened.each p f.0 files f.1 at.0.1).traces at.0.2 in
         record {
-          there = looked_within at.0 own (opened.each p f.0 at.0 f.1 at.1).count at.2;
+          there = there;
           places = places;
           placed = placed;
+          books = books;
+          theirs = their_books books are;
+          certified = certified;
           records = records;
           trace = trace;
-          differs = at.3;
+          differs = at.0.3;
+          lesser = λ n less. let within : n < length t.ifaces = omega (arith, less, there) in their_trace records n within (at.1 n less within);
         }
 
 -- what is certified, where it is

@@ -1,5 +1,5 @@
 -- The word `certify`: what replicas left, in folders of several machines or of one.
-use Rattle.std.specs.Prelude.{◌≡◌, ◌⊎◌, ℕ, ◌+◌, ◌<◌, ◌≤◌, Contains, IfSome, List, ◌++◌, length, map, slice_get, codes, string_bytes, Option, Some, None, Ok, Err}
+use Rattle.std.specs.Prelude.{◌≡◌, ◌⊎◌, ℕ, ◌+◌, ◌<◌, ◌≤◌, IfSome, List, ◌++◌, length, map, slice_get, codes, string_bytes, Option, Some, None, Ok, Err}
 use Rattle.nm_base.specs.declared.fault.Fault.{Fault}
 use Rattle.nm_base.specs.declared.fault.Fault.TheVariants.{Refused, Memory as NoMemory}
 use Rattle.nm_base.specs.declared.limits.TheConstants.{MAX_REPLICA}
@@ -54,6 +54,10 @@ abbrev pub HaveNoFile : InputsSeen → (folders : List (List ℕ)) → (n p : �
 HaveNoFile inputs folders n p = (m : ℕ) (folder : List ℕ) (replica : ℕ) → m < n
     → slice_get folders m ≡ Some folder → replica ≤ MAX_REPLICA
     → inputs.text (known_name folder p replica) ≡ None
+
+-- no folder has one
+abbrev pub HasNoFile : InputsSeen → (folders : List (List ℕ)) → (p : ℕ) → Type 0
+HasNoFile inputs folders p = HaveNoFile inputs folders (length folders) p
 
 -- The first place that has such a file: no folder before this one has one, and here no lesser
 -- replica has.
@@ -118,11 +122,6 @@ pub record AreFilesCertified (inputs : InputsSeen) (asked : CertifyAsked) (text 
   pub whole : AreTheirTraces inputs network places records
   pub said : octets ≡ codes "certified\n" ++ iface_lines (λ i. totals_of i records) network
 
--- no folder has a file of what is known of partition p
-abbrev pub HasNoFile : InputsSeen → (folders : List (List ℕ)) → (p : ℕ) → Type 0
-HasNoFile inputs folders p = (folder : List ℕ) (replica : ℕ) → Contains folders folder
-    → replica ≤ MAX_REPLICA → inputs.text (known_name folder p replica) ≡ None
-
 -- the number of the certificate's fault that a file of what is known is which is refused: there is
 -- no book of its partition, or one of another topology
 abbrev pub refused_number : KnownCause → Option ℕ
@@ -161,17 +160,23 @@ IsNotCertified inputs folders t n =
     ((n ≡ 4) × (p : ℕ) × (p < t.partitions) × HasNoFile inputs folders p)
     ⊎ IsFileRefused inputs folders t n ⊎ AreBooksAtFault inputs folders t n
 
--- the trace file of interface `own`, in the folder of its partition, differs at this octet from that
--- of the one event list, and at none before it
+-- The books by these files are certified. The trace file of interface `own`, in the folder of its
+-- partition, differs at this octet from that of the one event list, and at none before it; and the
+-- trace file of each lesser interface is that of the one event list.
 pub record IsOneUnlike (inputs : InputsSeen) (folders : List (List ℕ)) (t : TopologyValue)
     (own octet : ℕ) : Type 0 where
   pub there : own < length t.ifaces
   pub places : List FilePlace
   pub placed : ArePlaces inputs folders t places
+  pub books : List BookValue
+  pub theirs : AreTheirBooks inputs t places books
+  pub certified : AreCertified t books
   pub records : List (Record (List ℕ))
   pub trace : IsTraceBefore t t.stop records
   pub differs : IfSome (trace_texts inputs t places own)
       (λ text. TextDiffers text (trace_file Octets own records) octet)
+  pub lesser : (n : ℕ) → n < own → IfSome (trace_texts inputs t places n)
+      (λ text. text ≡ trace_file Octets n records)
 
 -- which is told of files that are not certified
 abbrev pub ExplainsFiles : InputsSeen → (folders : List (List ℕ)) → TopologyValue
@@ -207,7 +212,8 @@ IsStatusOfFiles before after ifaces (Refused (cause.Differs own octet)) status =
     ⊎ ((name : ArrayString) × (status ≡ Differs name octet)
     × ((iface : IfaceValue) → slice_get ifaces own ≡ Some iface → name.bytes ≡ iface.name))
 
--- the trace file of the interface of this name differs from that of the one event list
+-- the trace file of the interface of this name is the first in the topology's text that differs
+-- from that of the one event list
 pub record OneIsUnlike (inputs : InputsSeen) (asked : CertifyAsked) (text name : List ℕ)
     (octet : ℕ) : Type 0 where
   pub network : TopologyValue

@@ -1,19 +1,20 @@
 -- Files of what replicas knew that were found in folders, and trace files that were opened there.
-use Rattle.std.specs.Prelude.{◌≡◌, ◌⊎◌, ℕ, ◌<◌, ◌≤◌, true, None, IfSome, List, [], length, slice_get, Option, Some}
+use Rattle.std.specs.Prelude.{◌≡◌, ◌⊎◌, ℕ, ◌<◌, ◌≤◌, true, None, IfSome, List, length, slice_get, Option, Some}
 use Rattle.nm_base.specs.declared.fault.Fault.{Fault}
 use Rattle.nm_base.specs.declared.fault.Fault.TheVariants.{Refused, Memory}
 use Rattle.nm_base.specs.declared.limits.TheConstants.{MAX_REPLICA}
 use Rattle.nm_base.specs.declared.record.Record.{Record}
 use Rattle.nm_model.specs.Partition.{receiver_of}
-use Rattle.nm_pcap.specs.Format.{file_header}
 use Rattle.nm_topology.specs.PartValues.{IfaceValue}
 use Rattle.nm_topology.specs.TopologyValue.{TopologyValue}
 use Rattle.nm_sim.specs.Network.{net_of}
 use Rattle.nm_sim.specs.Trace.{IsTraceBefore}
 use Rattle.nm_book.specs.Book.{BookValue}
 use Rattle.nm_rounds.specs.Certify.{AreCertified}
-use Rattle.nm_files.specs.Checked.{DiffersIn, HaveRead, is_looked_at}
+use Rattle.nm_files.specs.Checked.{is_looked_at}
+use Rattle.nm_files.specs.Least.{AreBegun, IsLesser}
 use Rattle.nm_files.specs.Names.{file_name}
+use Rattle.nm_files.specs.declared.least_checked.LeastChecked.{LeastChecked}
 use Rattle.nm_rounds.specs.declared.certify.CertFault.TheVariants.{Missing}
 use Rattle.nm_known.specs.Keeping.{known_name}
 use Rattle.nm_certify.specs.declared.part_files.PartFiles.{PartFiles}
@@ -60,22 +61,25 @@ AreOwnTexts inputs folder t p texts = (n : ℕ) (iface : IfaceValue)
     → slice_get t.ifaces n ≡ Some iface → receiver_of (net_of t) n ≡ p
     → texts n ≡ inputs.text (file_name folder iface)
 
--- that of interface `own`, which is there, differs in its header
-abbrev pub DiffersInHeader : (ℕ → Option (List ℕ)) → TopologyValue → (own octet : ℕ) → Type 0
-DiffersInHeader texts t own octet =
-    (own < length t.ifaces) × DiffersIn texts own [] file_header octet
-
--- The files of the partitions were opened: part p is what was found of partition p, and the trace
--- files of its interfaces, of which the headers are read.
+-- The octets that are left of a reader, and the texts of trace files, each where it is told.
 module _ {B : Type 0} (left : B → Option (List ℕ)) (texts : ℕ → Option (List ℕ))
     (t : TopologyValue) where
+  -- The trace files of partition p's interfaces were opened, up to the first whose header differs,
+  -- if one does: that is of an interface of the partition.
+  pub record AreTracesOf (p : ℕ) (traces : LeastChecked B) : Type 0 where
+    pub begun : AreBegun texts left traces
+    pub within : length traces.files.files.items ≤ length t.ifaces
+    pub own : IfSome traces.differs
+        (λ d. (d.iface < length t.ifaces) × (receiver_of (net_of t) d.iface ≡ p))
+    pub looked : (n : ℕ) → n < length t.ifaces → receiver_of (net_of t) n ≡ p
+        → IsLesser n traces.differs → is_looked_at traces.files.files.items n ≡ true
+
+  -- The files of the partitions were opened: part p is what was found of partition p, and the trace
+  -- files of its interfaces.
   pub record IsOpened (p : ℕ) (f : Found B) (files : PartFiles B) : Type 0 where
     pub replica_is : files.replica ≡ f.replica
     pub known_is : files.known ≡ f.known
-    pub count : length files.traces.files.items ≡ length t.ifaces
-    pub read : HaveRead texts left [] files.traces.files.items
-    pub looked : (n : ℕ) → n < length t.ifaces → receiver_of (net_of t) n ≡ p
-        → is_looked_at files.traces.files.items n ≡ true
+    pub traces : AreTracesOf p files.traces
 
   pub record AreOpened (found : List (Found B)) (parts : List (PartFiles B)) : Type 0 where
     pub count : length parts ≡ length found

@@ -26,7 +26,7 @@ use crate::reading::read_shared;
 use crate::verify::differs;
 use nm_base::{Packet, PartNo, Sink, push_text};
 use nm_book::Book;
-use nm_certify::{CertifyCause, CertifyFault, certify_parts, trace_fault};
+use nm_certify::{CertifyCause, CertifyFault, certify_parts, unread};
 use nm_command::{CertifyArguments, Status};
 use nm_forward::NodeState;
 use nm_known::KnownCause;
@@ -43,8 +43,9 @@ use std::thread::Threads;
 ///
 /// # Errors
 ///
-/// The first fault in this order: the least partition that has no file of what is known; the first
-/// trace file whose header differs, by partitions; and else that of `certify_parts`.
+/// The first fault in this order: the least partition that has no file of what is known; a trace
+/// file that could not be opened or whose header could not be read; and else that of
+/// `certify_parts`.
 fn certified_books<I: Inputs, R: Threads + Sync>(
     rt: &R,
     alloc: Global,
@@ -61,11 +62,11 @@ where
     ensures fault { IfErr result (ExplainsFiles (inputs_seen I.seen inputs.now)
         (map (λ f. string_bytes f) words.now.folders.now) (arc_value topology.now)) }
 {
-    every_topology_has_a_trace(topology); // law: a header that differs differs from a trace file
+    every_topology_has_a_trace(topology); // law: a file that differs differs from one of its
     let found = find_all(alloc, inputs, words.folders, topology)?;
     match open_parts(alloc, topology, inputs, found) {
         Ok(parts) => certify_parts(rt, alloc, topology, words.workers as usize, parts),
-        Err(fault) => Err(trace_fault(&fault)),
+        Err(fault) => Err(unread(&fault)),
     }
 }
 

@@ -11,8 +11,8 @@ ghost use Rattle.nm_offline.specs.Input.{inputs_seen};
 use crate::input::NamedInputs;
 use crate::inputs::Inputs;
 use nm_base::PartNo;
-use nm_certify::{CertifyCause, CertifyFault, trace_fault};
-use nm_files::checked_file::check_fault;
+use nm_certify::{CertifyCause, CertifyFault, unread};
+use nm_files::checked_file::read_fault;
 use nm_known::known_name;
 use nm_rounds::CertFault;
 use nm_topology::Topology;
@@ -96,7 +96,7 @@ fn find_part<'a, I: Inputs>(
         match find_in(alloc, inputs, folders[number].as_str(), partition) {
             Ok(Some(found)) => return Ok(found),
             Ok(None) => {}
-            Err(error) => return Err(trace_fault(&check_fault(&error))),
+            Err(error) => return Err(unread(&read_fault(&error))),
         }
     }
     Err(CertifyFault::Refused(CertifyCause::NotCertified(CertFault::Missing { partition })))

@@ -1,7 +1,7 @@
 //! The trace files of a folder that are there, each opened and its header read.
 
-ghost use Rattle.std.specs.Prelude.{◌≡◌, ◌<◌, ◌++◌, ◌∷◌, ℕ, List, [], Some, IfErr, OnOk, Option};
-ghost use Rattle.std.specs.Prelude.{length, slice_get, true};
+ghost use Rattle.std.specs.Prelude.{◌≡◌, ◌<◌, ◌++◌, ◌∷◌, ℕ, List, [], Some, IfErr, OnErr, OnOk};
+ghost use Rattle.std.specs.Prelude.{Option, length, slice_get, true};
 ghost use Rattle.std.specs.Io.Buffered.{reader_remaining};
 ghost use Rattle.nm_base.specs.declared.fault.Fault.TheVariants.{Refused};
 ghost use Rattle.nm_files.specs.Checked.{DiffersIn, HaveRead, looked_at};
@@ -56,6 +56,9 @@ pub(crate) fn open_one<C: Choice, I: Inputs>(
         × ((x : IfaceValue) → slice_get folder.now.topology.now.ifaces number ≡ Some x
         → C.chooses folder.now.choice folder.now.topology.now number x ≡ true)
         × DiffersIn texts number [] file_header octet) }
+
+    // No file more is there where there is an error.
+    ensures kept { OnErr result (files.new.files.items ≡ files.old.files.items) }
 {
     let iface = folder.topology.iface_number(number);
     if !folder.choice.chooses(folder.topology, iface) {

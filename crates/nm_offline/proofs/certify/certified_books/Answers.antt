@@ -5,10 +5,21 @@ use Rattle.std.proofs.lemmas.Result.{IfErr-weaker}
 use Rattle.nm_sim.specs.Trace.{IsTraceBefore}
 use Rattle.nm_certify.specs.Certify.{ExplainsFault}
 use Rattle.nm_offline.specs.Certify.{ExplainsFiles, trace_texts}
-use Rattle.nm_offline.specs.Finding.{AllFound, AreOpened, DiffersInHeader, found_place}
+use Rattle.nm_offline.specs.Finding.{AllFound, AreOpened, found_place}
 use Rattle.nm_offline.specs.Input.{inputs_seen}
-use Rattle.nm_offline.proofs.Certifying.{are_places, if_certified, not_all, not_opened}
+use Rattle.nm_offline.proofs.Certifying.{headers_are, if_certified, not_all, not_read}
 use Rattle.nm_offline.proofs.certify.certified_books.Goals as goal
+
+pub certify_parts-requires-clause-headers : goal.certify_parts-requires-clause-headers
+certify_parts-requires-clause-headers g c = λ κs bounds.
+    let t = arc_value c.args.topology.now in
+    let left = reader_remaining g.I.File.Read.remaining in
+    let inputs = inputs_seen g.I.Inputs.seen c.args.inputs.now in
+    let names = map (λ f. string_bytes f) c.args.words.now.folders.now in
+    let found = c.in_ok-found.found.items in
+    let all = subst (λ z. AllFound left inputs names z.partitions found) c.deref-2.ensures c.in_ok-found.ensures.found in
+    let opened = subst (λ z. AreOpened left (trace_texts inputs z (map found_place found)) z found c.in-Ok.parts.items) c.deref-3.ensures c.in-Ok.ensures.opened in
+    headers_are left inputs names t found c.in-Ok.parts.items all opened
 
 pub returns-in-Ok-clause-books : goal.returns-in-Ok-clause-books
 returns-in-Ok-clause-books g c =
@@ -37,12 +48,6 @@ returns-in-Ok-clause-fault g c =
 pub returns-in-Err-clause-fault : goal.returns-in-Err-clause-fault
 returns-in-Err-clause-fault g c =
     let t = arc_value c.args.topology.now in
-    let there = c.every_topology_has_a_trace.ensures.there t.stop in
-    let trace = subst (λ z. IsTraceBefore z t.stop there.0) c.deref.ensures there.1 in
-    let left = reader_remaining g.I.File.Read.remaining in
     let inputs = inputs_seen g.I.Inputs.seen c.args.inputs.now in
     let names = map (λ f. string_bytes f) c.args.words.now.folders.now in
-    let found = c.in_ok-found.found.items in
-    let all = subst (λ z. AllFound left inputs names z.partitions found) c.deref-2.ensures c.in_ok-found.ensures.found in
-    subst (ExplainsFiles inputs names t) (sym c.trace_fault.ensures) (not_opened inputs names t (map found_place found) (are_places left inputs names t found all) there.0 trace c.in-Err.fault
-    (λ own octet is. subst (λ z. DiffersInHeader (trace_texts inputs z (map found_place found)) z own octet) c.deref-3.ensures (c.in-Err.ensures.unlike own octet is)))
+    subst (ExplainsFiles inputs names t) (sym c.unread.ensures) (not_read inputs names t c.in-Err.fault)
