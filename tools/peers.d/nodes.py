@@ -63,7 +63,7 @@ class Node:
         addresses = os.path.join(folder, f"addresses-{key[0]}-{key[1]}")
         with open(addresses, "w", encoding="ascii") as file:
             file.write("".join(f"{p} {r} 127.0.0.1:{port}\n" for (p, r), port in ports.items()))
-        self.words = [*words_before, PROGRAM, "node", network.path, self.folder, str(key[0]), str(key[1]), addresses]
+        self.words = [*words_before, PROGRAM, "node", network.path, self.folder, str(key[0]), str(key[1]), addresses, "keep"]
         self.times_begun = 0
         self.begin()
 
@@ -119,7 +119,7 @@ class Nodes:
     def __init__(self, network, folder, own=None, doors=None):
         own, doors = own or {key: free_port() for key in network.keys()}, doors or {}
         self.network, self.begun = network, time.monotonic()
-        self.all = {}
+        self.all, self.certified = {}, 0
         for key in network.keys():
             ports = {other: doors.get((key, other), port) for other, port in own.items()}
             self.all[key] = Node(network, key, folder, ports)
@@ -148,7 +148,20 @@ class Nodes:
         return {key: node.status() for key, node in self.all.items()}
 
     def faults(self, wanted, statuses=(0, 7)):
-        return [fault for node in self.all.values() for fault in node.faults(wanted, statuses)]
+        files = [fault for node in self.all.values() for fault in node.faults(wanted, statuses)]
+        return files or [fault for replica in (0, 1) for fault in self.certificate_faults(replica)]
+
+    def certificate_faults(self, replica):
+        """What `certify` says but `certified` of what the replicas of this number left, one of each partition, where all of them are done."""
+        own = [self.all.get(key) for key in self.network.keys() if key[1] == replica]
+        if not own or not all(node and node.status() == 0 for node in own):
+            return []
+        words = [PROGRAM, "certify", self.network.path, "2", *(node.folder for node in own)]
+        done = subprocess.run(words, stdout=subprocess.PIPE, stderr=subprocess.PIPE, check=False)
+        if done.returncode != 0 or not done.stdout.startswith(b"certified\n"):
+            return [f"what the replicas {replica} left is not certified: {done.returncode}, {done.stderr!r}"]
+        self.certified += 1
+        return []
 
     def kill(self):
         for node in self.all.values():
