@@ -8,7 +8,6 @@ mod loopback;
 mod meetings;
 mod messages;
 mod pools;
-mod records;
 mod scripted;
 mod scripts;
 mod sides;
