@@ -1,0 +1,25 @@
+use Rattle.std.proofs.Common.{◌≡◌, ◌<◌, All, length, get_or, rules, sym, subst, ◌∙◌, ap}
+use Rattle.std.proofs.Math.Seq.{map-set_same}
+use Rattle.std.proofs.lemmas.List.Elements.{All-push}
+use Rattle.nm_run.proofs.jobs.jobs_for.Goals as goal
+use Rattle.nm_run.proofs.jobs.jobs_for.Goals.{then-wants+in_ok-push, else-wants}
+
+pub loop-number-preserved : goal.loop-number-preserved
+loop-number-preserved g c =
+    let watched = c.loop-number.watched.items in
+    let books = c.args.threaded.now.books.now in
+    let n = c.loop-number.number in
+    let w = c.in-Some.one.now in
+    let there : w ≡ get_or watched n w = search rules in
+    let low : n < length books = search rules in
+    record {
+      seat = c.wants.ensures.seat;
+      named = elim c.if-wants.branch [
+        | then-wants+in_ok-push w ↦
+            subst (λ v. All (λ j. j.book < length books) v.items) (sym w.jobs-is)
+            (subst (All (λ j. j.book < length books)) (sym w.in_ok-push.ensures.items)
+            (All-push (λ j. j.book < length books) c.loop-number.jobs.items (record { book = n; limit = 4096 }) c.loop-number.invariant.named low))
+        | else-wants w ↦ subst (λ v. All (λ j. j.book < length books) v.items) (sym w.jobs-is) c.loop-number.invariant.named
+      ];
+      owns = map-set_same (λ x. x.own) watched n c.wants.new.self w (c.wants.ensures.own ∙ ap (λ x. x.own) there) ∙ c.loop-number.invariant.owns;
+    }
