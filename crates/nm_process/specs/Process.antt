@@ -1,9 +1,7 @@
 -- What a process comes to.
-use Rattle.std.specs.Prelude.{◌≡◌, ◌⊎◌, ℕ, ◌<◌, Bool, true, false, List, map}
-use Rattle.std.specs.List.{filter}
+use Rattle.std.specs.Prelude.{◌≡◌, ◌⊎◌, ℕ, ◌<◌, Bool, true, false}
 use Rattle.std.specs.declared.io.ErrorKind.{ErrorKind}
 use Rattle.std.specs.declared.io.ErrorKind.TheVariants.{OutOfMemory}
-use Rattle.std.specs.declared.net.socket_addr.SocketAddr.{SocketAddr}
 use Rattle.nm_base.specs.declared.fault.Fault.{Fault}
 use Rattle.nm_base.specs.declared.fault.Fault.TheVariants.{Memory, Refused}
 use Rattle.nm_topology.specs.TopologyValue.{TopologyValue}
@@ -11,9 +9,9 @@ use Rattle.nm_book.specs.Book.{BookValue, replica_of}
 use Rattle.nm_model.specs.Certificate.{is_done}
 use Rattle.nm_shared.specs.Home.{Home, home_of}
 use Rattle.nm_sim.specs.Network.{net_of}
-use Rattle.nm_replica.specs.Finished.{IsFinished}
-use Rattle.nm_peers.specs.Peers.{is_called, socket_of}
-use Rattle.nm_peers.specs.declared.listener.Listener.{Listener}
+use Rattle.nm_replica.specs.Finished.{IsDone}
+use Rattle.nm_replica.specs.declared.served.Served.{Served}
+use Rattle.nm_replica.specs.declared.served.Served.TheVariants as served
 use Rattle.nm_process.specs.declared.fault.ProcessCause.{ProcessCause}
 use Rattle.nm_process.specs.declared.fault.ProcessCause.TheVariants as cause
 
@@ -23,13 +21,16 @@ pub record IsDoneReplica (t : TopologyValue) (p r : ℕ) (b : BookValue) : Type 
   pub topology : b.topology ≡ t
   pub partition : b.partition ≡ p
   pub replica : b.replica ≡ r
-  pub finished : IsFinished b
+  pub finished : IsDone b
   pub whole : b.handed ≡ 0
 
--- these are the addresses of all replicas that a replica of partition p calls, in their order
-abbrev pub AreCalled : TopologyValue → ℕ → List Listener → List SocketAddr → Type 0
-AreCalled t p listeners addresses =
-    addresses ≡ map socket_of (filter (is_called t p) listeners)
+-- why a replica is not done whose serving came to this
+abbrev pub unfinished_fault : Served → Fault ProcessCause
+unfinished_fault served.Ended = Refused cause.Stalled
+unfinished_fault (served.Stalled polls) = Refused cause.Stalled
+unfinished_fault served.Net = Refused cause.Net
+unfinished_fault (served.File iface written) = Refused cause.Broken
+unfinished_fault served.Memory = Memory
 
 -- a replica is told that it is stalled
 abbrev pub is_stall : Fault ProcessCause → Bool

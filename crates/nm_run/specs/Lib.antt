@@ -6,4 +6,3 @@ pub mod Leaving
 pub mod Sides
 pub mod Took
 pub mod Replicas
-pub mod Watching

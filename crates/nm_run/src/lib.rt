@@ -18,7 +18,6 @@ mod sides;
 mod stations;
 pub mod stop;
 mod threads;
-mod told;
 
 pub use fault::{RunCause, RunFault};
 pub use report::{IfaceTotals, Report};
