@@ -8,6 +8,7 @@ mod loopback;
 mod meetings;
 mod messages;
 mod pools;
+mod records;
 mod scripted;
 mod scripts;
 mod sides;
