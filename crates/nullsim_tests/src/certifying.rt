@@ -1,10 +1,11 @@
 //! What replicas left in a folder, with one file forged at a time.
 
 use crate::fixtures::{Ended, behind, change, front, run_line};
+use crate::verifying::Broken;
 use nm_base::limits::MAX_TIME;
-use nm_fixtures::SPLIT;
-use nm_program::{MemInputs, Runtime};
-use std::io;
+use nm_fixtures::{SHIFT, SPLIT};
+use nm_program::{Inputs, MemInputs, Runtime};
+use std::io::{self, ErrorKind};
 use std::net::{self, Net};
 use std::process::Abort;
 use std::sync::Wait;
@@ -17,6 +18,9 @@ const NAMES: [&str; 4] = ["d/a0.pcap", "d/b0.pcap", "d/0-0.known", "d/1-0.known"
 
 /// The octets of a trace file: its header, and one record with a packet of 100.
 const TRACE_OCTETS: usize = 140;
+
+/// Where its record begins.
+const FIRST_RECORD: usize = 24;
 
 /// Where the digest of the topology begins in a file of what is known, where its first frame ends,
 /// and where its message's packet does.
@@ -34,17 +38,27 @@ const CLOCK_OCTETS: usize = 8;
 /// When the run stops, in nanoseconds.
 const STOP: u64 = 10_000_000;
 
+/// The network of `SPLIT`, but that the first interface is of partition 1 and the second of 0.
+const SWAPPED: &str = r#"format = 1
+stop = 10000000
+mtu = 1500
+node = [ {name = "a", kind = "host", partition = 1},
+  {name = "b", kind = "host", partition = 0, ports = [9]} ]
+iface = [ {name = "a0", node = "a", address = "10.0.0.1", queue = 4},
+  {name = "b0", node = "b", address = "10.0.0.2", queue = 4} ]
+link = [ {a = "a0", b = "b0", rate = 8000000, delay = 1000000} ]
+route = [ {node = "a", to = "10.0.0.0/24", via = "a0"} ]
+source = [
+  {kind = "cbr", node = "a", to = "10.0.0.2", sport = 1000, dport = 9, size = 72, start = 0, interval = 1000000, count = 1} ]
+"#;
+
 /// What is said where all is certified.
 const CERTIFIED: &[u8] =
     b"certified\niface a0 records 1 octets 140\niface b0 records 1 octets 140\n";
 
 /// What a run leaves.
 fn left<R: Runtime + AllocGlobal>(rt: &R) -> io::Result<Ended> {
-    let inputs = MemInputs {
-        standard: SPLIT.as_bytes(),
-        files: &[],
-    };
-    run_line(rt, "run - d 1 1 keep", inputs, NAMES.len())
+    left_by(rt, SPLIT, NAMES.len())
 }
 
 /// What `certify` says of what a run left, with one file in place of that of this number.
@@ -215,6 +229,259 @@ fn missing<R: Runtime + AllocGlobal + Abort>(rt: &R) -> Result<(), Fail> {
     Ok(())
 }
 
+/// A copy of a file with one octet changed.
+fn changed<R: AllocGlobal>(rt: &R, octets: &[u8], at: usize) -> io::Result<Vec<u8>> {
+    let mut copy = octets.to_vec(rt.alloc())?;
+    change(&mut copy, at);
+    Ok(copy)
+}
+
+/// A copy of a file that goes on behind its end.
+fn longer<R: AllocGlobal>(rt: &R, octets: &[u8]) -> io::Result<Vec<u8>> {
+    let mut copy = octets.to_vec(rt.alloc())?;
+    copy.push(0)?;
+    Ok(copy)
+}
+
+/// `certify` says this line of the files of a network.
+fn says<R: Runtime + AllocGlobal + Abort>(
+    rt: &R,
+    network: &str,
+    files: &[(&str, &[u8])],
+    line: &str,
+) -> Result<(), Fail> {
+    let inputs = MemInputs {
+        standard: network.as_bytes(),
+        files,
+    };
+    let ended = run_line(rt, "certify - 2 d", inputs, 0)?;
+    assert!(rt; ended.errors.octets() == line.as_bytes(), "{line}");
+    assert!(rt; ended.out.octets().is_empty(), "{line}");
+    Ok(())
+}
+
+/// What a run of a network leaves, so many files.
+fn left_by<R: Runtime + AllocGlobal>(rt: &R, network: &str, room: usize) -> io::Result<Ended> {
+    let inputs = MemInputs {
+        standard: network.as_bytes(),
+        files: &[],
+    };
+    run_line(rt, "run - d 1 1 keep", inputs, room)
+}
+
+/// `certify` says this line where these are the trace files beside what the replicas of both
+/// partitions left.
+fn says_beside<R: Runtime + AllocGlobal + Abort>(
+    rt: &R,
+    network: &str,
+    left: &Ended,
+    a0: &[u8],
+    b0: &[u8],
+    line: &str,
+) -> Result<(), Fail> {
+    let files = [
+        (NAMES[0], a0),
+        (NAMES[1], b0),
+        (NAMES[2], left.file(2)),
+        (NAMES[3], left.file(3)),
+    ];
+    says(rt, network, &files, line)
+}
+
+/// Files of two partitions differ, in their headers, their records or behind them: the lesser
+/// interface is named, in whichever partition it is.
+fn two_partitions<R: Runtime + AllocGlobal + Abort>(rt: &R) -> Result<(), Fail> {
+    for network in [SPLIT, SWAPPED] {
+        let left = left_by(rt, network, NAMES.len())?;
+        for octet in [0, FIRST_RECORD, TRACE_OCTETS - 1, TRACE_OCTETS] {
+            let a0 = if octet == TRACE_OCTETS {
+                longer(rt, left.file(0))?
+            } else {
+                changed(rt, left.file(0), octet)?
+            };
+            let line = format!(in rt.alloc(); "nullsim: differs a0 {octet}\n")?;
+            for at in [0, FIRST_RECORD, TRACE_OCTETS - 1] {
+                let b0 = changed(rt, left.file(1), at)?;
+                let (a0, b0) = (a0.as_slice(), b0.as_slice());
+                says_beside(rt, network, &left, a0, b0, line.as_str())?;
+            }
+        }
+    }
+    Ok(())
+}
+
+/// What is said of the files of `SHIFT` where these are those of the first two interfaces, which are
+/// of one partition.
+fn shifted<R: Runtime + AllocGlobal + Abort>(
+    rt: &R,
+    left: &Ended,
+    first: &[u8],
+    second: &[u8],
+    line: &str,
+) -> Result<(), Fail> {
+    let files = [
+        ("d/a0.pcap", first),
+        ("d/r0.pcap", second),
+        ("d/r1.pcap", left.file(2)),
+        ("d/b0.pcap", left.file(3)),
+        ("d/0-0.known", left.file(4)),
+        ("d/1-0.known", left.file(5)),
+    ];
+    says(rt, SHIFT, &files, line)
+}
+
+/// Files of one partition differ, that of the greater interface first in the order of records, or
+/// in its header: the lesser interface is named.
+fn one_partition<R: Runtime + AllocGlobal + Abort>(rt: &R) -> Result<(), Fail> {
+    let left = left_by(rt, SHIFT, 6)?;
+    let (a0, r0) = (left.file(0), left.file(1));
+    let last = a0.len().saturating_sub(1);
+    let at_last = format!(in rt.alloc(); "nullsim: differs a0 {last}\n")?;
+    let behind = format!(in rt.alloc(); "nullsim: differs a0 {}\n", a0.len())?;
+    let first = changed(rt, a0, last)?;
+    let more = longer(rt, a0)?;
+    for octet in [0, FIRST_RECORD] {
+        let second = changed(rt, r0, octet)?;
+        let (first, more, second) = (first.as_slice(), more.as_slice(), second.as_slice());
+        shifted(rt, &left, first, second, at_last.as_str())?;
+        shifted(rt, &left, more, second, behind.as_str())?;
+        let line = format!(in rt.alloc(); "nullsim: differs r0 {octet}\n")?;
+        shifted(rt, &left, a0, second, line.as_str())?;
+    }
+    Ok(())
+}
+
+/// Trace files differ, one in its header, and the books are not certified.
+fn forged_beside<R: Runtime + AllocGlobal + Abort>(rt: &R) -> Result<(), Fail> {
+    let left = left(rt)?;
+    let other = changed(rt, left.file(3), PACKET)?;
+    for octet in [0, TRACE_OCTETS - 1] {
+        let (a0, b0) = (
+            changed(rt, left.file(0), octet)?,
+            changed(rt, left.file(1), 0)?,
+        );
+        let files = [
+            (NAMES[0], a0.as_slice()),
+            (NAMES[1], b0.as_slice()),
+            (NAMES[2], left.file(2)),
+            (NAMES[3], other.as_slice()),
+        ];
+        says(rt, SPLIT, &files, "nullsim: not certified 1\n")?;
+    }
+    Ok(())
+}
+
+/// Files with their names, of which one has these octets, and fails where they end.
+#[derive(Clone, Copy)]
+struct Failing<'a> {
+    files: &'a [(&'a str, &'a [u8])],
+    fails: &'a str,
+    octets: &'a [u8],
+}
+
+impl<'a> Inputs for Failing<'a> {
+    ghost use Rattle.std.specs.Prelude.{None};
+
+    type Standard = Broken<'a>;
+
+    type File = Broken<'a>;
+
+    ghost seen = { λ _. record { standard = None; file = λ _. None } };
+
+    fn standard(&self) -> Broken<'a> {
+        Broken {
+            left: SPLIT.as_bytes(),
+            fails: false,
+        }
+    }
+
+    fn open(&self, name: &str) -> io::Result<Broken<'a>> {
+        if name == self.fails {
+            return Ok(Broken {
+                left: self.octets,
+                fails: true,
+            });
+        }
+        for file in self.files {
+            if file.0 == name {
+                return Ok(Broken {
+                    left: file.1,
+                    fails: false,
+                });
+            }
+        }
+        Err(io::Error::from(ErrorKind::NotFound))
+    }
+}
+
+/// A read of the file of this name among these fails behind these octets.
+fn fails_among<R: Runtime + AllocGlobal + Abort>(
+    rt: &R,
+    files: &[(&str, &[u8])],
+    name: &str,
+    octets: &[u8],
+) -> Result<(), Fail> {
+    let inputs = Failing {
+        files,
+        fails: name,
+        octets,
+    };
+    let ended = run_line(rt, "certify - 2 d", inputs, 0)?;
+    assert!(rt;
+        ended.errors.octets() == b"nullsim: file\n".as_slice(),
+        "{name}"
+    );
+    assert!(rt; ended.out.octets().is_empty(), "{name}");
+    Ok(())
+}
+
+/// It does beside these trace files.
+fn fails_beside<R: Runtime + AllocGlobal + Abort>(
+    rt: &R,
+    left: &Ended,
+    a0: &[u8],
+    b0: &[u8],
+    name: &str,
+    octets: &[u8],
+) -> Result<(), Fail> {
+    let files = [
+        (NAMES[0], a0),
+        (NAMES[1], b0),
+        (NAMES[2], left.file(2)),
+        (NAMES[3], left.file(3)),
+    ];
+    fails_among(rt, &files, name, octets)
+}
+
+/// A read of the file of this name fails behind these octets, while the others are as they were
+/// left, or a trace file among them differs.
+fn fails<R: Runtime + AllocGlobal + Abort>(
+    rt: &R,
+    left: &Ended,
+    name: &str,
+    octets: &[u8],
+) -> Result<(), Fail> {
+    let a0 = changed(rt, left.file(0), TRACE_OCTETS - 1)?;
+    let b0 = changed(rt, left.file(1), TRACE_OCTETS - 1)?;
+    fails_beside(rt, left, left.file(0), left.file(1), name, octets)?;
+    fails_beside(rt, left, a0.as_slice(), left.file(1), name, octets)?;
+    fails_beside(rt, left, left.file(0), b0.as_slice(), name, octets)
+}
+
+/// A read of a trace file, or of a file of what is known, fails, also where only the end is left to
+/// be seen.
+fn unreadable<R: Runtime + AllocGlobal + Abort>(rt: &R) -> Result<(), Fail> {
+    let left = left(rt)?;
+    for number in 0..NAMES.len() {
+        let octets = left.file(number);
+        let last = octets.len().saturating_sub(1);
+        for count in [0, 1, FIRST_RECORD, last, octets.len()] {
+            fails(rt, &left, NAMES[number], front(octets, count))?;
+        }
+    }
+    Ok(())
+}
+
 /// All of these, one after another.
 fn all<
     R: Abort
@@ -232,7 +499,11 @@ fn all<
     no_replica(rt)?;
     forged(rt)?;
     clocks(rt)?;
-    missing(rt)
+    missing(rt)?;
+    two_partitions(rt)?;
+    one_partition(rt)?;
+    forged_beside(rt)?;
+    unreadable(rt)
 }
 
 #[test]

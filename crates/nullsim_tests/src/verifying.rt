@@ -138,9 +138,9 @@ fn some<R: Runtime + AllocGlobal + Abort>(rt: &R) -> Result<(), Fail> {
 
 /// A reader of these octets, which then ends, or fails.
 #[derive(Clone, Copy)]
-struct Broken<'a> {
-    left: &'a [u8],
-    fails: bool,
+pub(crate) struct Broken<'a> {
+    pub(crate) left: &'a [u8],
+    pub(crate) fails: bool,
 }
 
 impl Read for Broken<'_> {
