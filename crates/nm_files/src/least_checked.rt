@@ -1,7 +1,8 @@
 //! The trace files of interfaces that are there, read side by side for the least interface whose
 //! file differs.
 
-ghost use Rattle.std.specs.Prelude.{◌≡◌, ℕ, ◌≤◌, ◌++◌, ◌∷◌, [], All, List, OnOk, Option, Some, take};
+ghost use Rattle.std.specs.Prelude.{◌≡◌, ℕ, ◌≤◌, ◌++◌, ◌∷◌, [], All, List, OnOk, Option, Some};
+ghost use Rattle.std.specs.Prelude.{take};
 ghost use Rattle.nm_base.specs.declared.fault.Fault.TheVariants.{Refused};
 ghost use Rattle.nm_base.specs.declared.limits.TheConstants.{MAX_TIME};
 ghost use Rattle.nm_base.specs.declared.record.Record.{Record as TraceRecord};

@@ -20,8 +20,8 @@ use nm_topology::topology::accepted_topologies_are_in_order;
 use std::alloc::Global;
 use std::io::BufReader;
 
-/// Opens the trace files of a partition's interfaces in a folder, and reads their headers, up to the
-/// first that differs: none behind it can be that of the least interface.
+/// Opens the trace files of a partition's interfaces in a folder, and reads their headers, up to
+/// the first that differs: none behind it can be that of the least interface.
 ///
 /// # Errors
 ///

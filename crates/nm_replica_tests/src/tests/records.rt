@@ -13,8 +13,8 @@ use std::alloc::Global;
 use std::process::Abort;
 use std::sync::{Arc, Wait};
 
-/// One partition, with 10,000 packets, each recorded where it is sent and where it arrives: more than are written after one
-/// poll, and fewer than after two.
+/// One partition, with 10,000 packets, each recorded where it is sent and where it arrives: more
+/// records than are written after one poll, and fewer than after two.
 const MANY: &str = r#"format = 1
 stop = 20000000000
 mtu = 1500
@@ -24,13 +24,21 @@ iface = [ {name = "a0", node = "a", address = "10.0.0.1", queue = 4},
   {name = "b0", node = "b", address = "10.0.0.2", queue = 4} ]
 link = [ {a = "a0", b = "b0", rate = 8000000, delay = 1000000} ]
 route = [ {node = "a", to = "10.0.0.0/24", via = "a0"} ]
-source = [
-  {kind = "cbr", node = "a", to = "10.0.0.2", sport = 1000, dport = 9, size = 72, start = 0, interval = 1000000, count = 10000} ]
+[[source]]
+kind = "cbr"
+node = "a"
+to = "10.0.0.2"
+sport = 1000
+dport = 9
+size = 72
+start = 0
+interval = 1000000
+count = 10000
 "#;
 
 /// What a poll left: how many waits ran out so far, how many records were handed out, and whether a
 /// pool is told of news.
-#[derive(Clone, Copy, PartialEq, Eq)]
+#[derive(Clone, Copy)]
 struct Left {
     waited: u64,
     handed: u64,
