@@ -1,6 +1,8 @@
 -- Trace files that are there, read beside what they are to have. File n is that of interface n.
-use Rattle.std.specs.Prelude.{◌≡◌, ◌≢◌, ℕ, ◌+◌, ◌<◌, Bool, false, true, IfSome, IsSomeAnd, List, ◌++◌, get_or, length, map, slice_get, take, Option, None, Some, is_some}
+use Rattle.std.specs.Prelude.{◌≡◌, ◌≢◌, ◌⊎◌, ℕ, ◌+◌, ◌<◌, Bool, false, true, IfSome, IsSomeAnd, List, ◌++◌, get_or, length, map, slice_get, take, Option, None, Some, is_some}
 use Rattle.std.specs.Io.{StartsWith}
+use Rattle.std.specs.declared.io.ErrorKind.{ErrorKind}
+use Rattle.std.specs.declared.io.ErrorKind.TheVariants.{OutOfMemory}
 use Rattle.nm_base.specs.Count.{saturated}
 use Rattle.nm_base.specs.declared.fault.Fault.{Fault}
 use Rattle.nm_base.specs.declared.fault.Fault.TheVariants.{Memory, Refused}
@@ -10,6 +12,11 @@ use Rattle.nm_files.specs.TraceFile.{octets_after, records_at}
 use Rattle.nm_files.specs.declared.checked_file.CheckCause.{CheckCause}
 use Rattle.nm_files.specs.declared.checked_file.CheckCause.TheVariants.{Differs, Failed}
 use Rattle.nm_files.specs.declared.checked_file.CheckedFile.{CheckedFile}
+
+-- what an error of the system of this kind is: memory was refused, or else this
+abbrev pub IsFaultOfKind : {C : Type 0} → ErrorKind → (cause : C) → Fault C → Type 0
+IsFaultOfKind kind cause fault = ((kind ≡ OutOfMemory) × (fault ≡ Memory))
+    ⊎ ((kind ≡ OutOfMemory → ⊥) × (fault ≡ Refused cause))
 
 -- A text differs from these octets at octet n, counted from 0, and at none before it: there it has
 -- another one, or one of both ends.

@@ -1,11 +1,12 @@
 //! A trace file that is there, read beside what it is to have.
 
-ghost use Rattle.std.specs.Prelude.{◌≡◌, ◌≢◌, ◌⊎◌, ℕ, ◌+◌, ◌<◌, ◌≤◌, ◌++◌, IfErr, IfOk, IfSome, List};
+ghost use Rattle.std.specs.IoError.{error_kind};
+ghost use Rattle.std.specs.Prelude.{◌≡◌, ◌≢◌, ℕ, ◌+◌, ◌<◌, ◌≤◌, ◌++◌, IfErr, IfOk, IfSome, List};
 ghost use Rattle.std.specs.Prelude.{[], OnOk, Option, length, slice_get, take};
 ghost use Rattle.nm_base.specs.Count.{saturated};
-ghost use Rattle.nm_base.specs.declared.fault.Fault.TheVariants.{Memory, Refused};
+ghost use Rattle.nm_base.specs.declared.fault.Fault.TheVariants.{Refused};
 ghost use Rattle.nm_base.specs.declared.limits.TheConstants.{MAX_TIME};
-ghost use Rattle.nm_files.specs.Checked.{HasRead, IsLonger, IsUnlike, difference};
+ghost use Rattle.nm_files.specs.Checked.{HasRead, IsFaultOfKind, IsLonger, IsUnlike, difference};
 ghost use Rattle.nm_files.specs.declared.checked_file.CheckCause.TheVariants.{Differs, Failed};
 ghost use Rattle.nm_pcap.specs.Format.{file_header, record_octets};
 
@@ -39,16 +40,19 @@ pub struct ReadFailed;
 pub type ReadFault = Fault<ReadFailed>;
 
 /// What an error of the system is at a file that is read.
-pub fn read_fault(error: &io::Error) -> ReadFault {
-    match error.kind() {
-        ErrorKind::OutOfMemory => ReadFault::Memory,
-        _ => ReadFault::Refused(ReadFailed),
+pub fn read_fault(error: &io::Error) -> ReadFault
+    ensures { IsFaultOfKind (error_kind error.now) (record {}) result }
+{
+    if error.kind() == ErrorKind::OutOfMemory {
+        ReadFault::Memory
+    } else {
+        ReadFault::Refused(ReadFailed)
     }
 }
 
 /// What it is at a file that is compared.
 pub fn check_fault(error: &io::Error) -> CheckFault
-    ensures kinds { (result ≡ Memory) ⊎ (result ≡ Refused Failed) }
+    ensures kind { IsFaultOfKind (error_kind error.now) Failed result }
     ensures unlike { (n : ℕ) (texts : ℕ → Option (List ℕ)) (before next : List ℕ)
         → IsUnlike texts n before next result × IsLonger texts n before result }
 {

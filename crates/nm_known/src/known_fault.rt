@@ -1,7 +1,8 @@
 //! Why a file of what a replica knows was not written, or not read.
 
-ghost use Rattle.std.specs.Prelude.{◌≡◌, ◌⊎◌};
-ghost use Rattle.nm_base.specs.declared.fault.Fault.TheVariants.{Memory, Refused};
+ghost use Rattle.std.specs.IoError.{error_kind};
+ghost use Rattle.std.specs.Prelude.{◌≡◌};
+ghost use Rattle.nm_files.specs.Checked.{IsFaultOfKind};
 ghost use Rattle.nm_known.specs.declared.known_fault.KnownCause.TheVariants.{Failed};
 ghost use Rattle.nm_known.specs.Reading.{accept_fault, frame_fault};
 
@@ -38,11 +39,12 @@ pub type KnownFault = Fault<KnownCause>;
 
 /// What an error of the system is at a file.
 pub(crate) fn read_fault(error: &io::Error) -> KnownFault
-    ensures { (result ≡ Memory) ⊎ (result ≡ Refused Failed) }
+    ensures { IsFaultOfKind (error_kind error.now) Failed result }
 {
-    match error.kind() {
-        ErrorKind::OutOfMemory => KnownFault::Memory,
-        _ => KnownFault::Refused(KnownCause::Failed),
+    if error.kind() == ErrorKind::OutOfMemory {
+        KnownFault::Memory
+    } else {
+        KnownFault::Refused(KnownCause::Failed)
     }
 }
 

@@ -1,6 +1,7 @@
 //! The word `all`: the trace files of interfaces, all by one event list.
 
-ghost use Rattle.std.specs.Prelude.{◌≡◌, ◌⊎◌, ℕ, List, [], IfErr, IfOk, OnOk, map, string_bytes};
+ghost use Rattle.std.specs.Prelude.{◌≡◌, ◌⊎◌, ◌<◌, ℕ, List, [], IfErr, IfOk, OnOk, length, map};
+ghost use Rattle.std.specs.Prelude.{string_bytes};
 ghost use Rattle.nm_base.specs.declared.record.Record.{Record as TraceRecord};
 ghost use Rattle.nm_command.specs.Status.{ended};
 ghost use Rattle.nm_command.specs.declared.status.Status.TheVariants.{File, Memory};
@@ -54,13 +55,15 @@ fn record_all<S: Sink>(
     Err(Status::Memory)
 }
 
-/// Runs the network over the files that are asked for, which are closed then.
+/// Runs the network over the files that are asked for, which are closed then, in a folder that has a
+/// name.
 fn write_files<F: Outputs>(
     alloc: Global,
     folder: &Folder<'_, Asked<'_>>,
     outputs: &mut F,
     progress: &Progress,
 ) -> Result<ClosedFiles<F::Closed>, Status>
+    requires { 0 < length folder.now.name.now }
     ensures whole { (records : List (TraceRecord (List ℕ)))
         → IsTraceBefore folder.now.topology.now folder.now.topology.now.stop records
         → IfOk result (λ closed. AreWhole (F.made outputs.old)

@@ -1,9 +1,10 @@
 //! The word `certify`: whether the files that replicas left, on several machines or on one, are
 //! those of the one event list.
 
-ghost use Rattle.std.specs.Prelude.{◌≡◌, ◌≤◌, ◌<◌, ◌++◌, ℕ, List, IfErr, IfOk, Ok, codes, length};
-ghost use Rattle.std.specs.Prelude.{map, string_bytes};
+ghost use Rattle.std.specs.Prelude.{◌≡◌, ◌==◌, ◌≤◌, ◌<◌, ◌++◌, ℕ, List, IfErr, IfOk, Ok, codes};
+ghost use Rattle.std.specs.Prelude.{false, length, map, string_bytes};
 ghost use Rattle.std.specs.Arc.{arc_value};
+ghost use Rattle.std.specs.List.{list_any};
 ghost use Rattle.nm_base.specs.declared.fault.Fault.TheVariants.{Refused};
 ghost use Rattle.nm_base.specs.declared.limits.TheConstants.{MAX_WORKERS};
 ghost use Rattle.nm_certify.specs.declared.fault.CertifyCause.TheVariants.{Differs, Known};
@@ -55,7 +56,8 @@ fn certified_books<I: Inputs, R: Threads + Sync>(
 ) -> Result<Vec<Book>, CertifyFault>
 where
     I::File: Send,
-    requires { (1 ≤ words.now.workers) × (words.now.workers ≤ MAX_WORKERS) }
+    requires workers { (1 ≤ words.now.workers) × (words.now.workers ≤ MAX_WORKERS) }
+    requires folders { list_any (λ f. length (string_bytes f) == 0) words.now.folders.now ≡ false }
     ensures books { IfOk result (λ books. AreCertifiedBooks (inputs_seen I.seen inputs.now)
         (map (λ f. string_bytes f) words.now.folders.now) (arc_value topology.now)
         books.items) }
@@ -149,7 +151,9 @@ fn shown_fault(fault: &CertifyFault) -> Option<CertFault> {
 }
 
 /// Whether one of the folders has no name: its files would stand at the root.
-fn has_root(folders: &[String]) -> bool {
+fn has_root(folders: &[String]) -> bool
+    ensures { result ≡ list_any (λ f. length (string_bytes f) == 0) folders.now }
+{
     folders.iter().any(|folder| folder.is_empty())
 }
 

@@ -137,13 +137,15 @@ fn finish_all<B: BufRead + Drop>(
     Ok(())
 }
 
-/// Reads the trace files that are asked for beside the records of the network.
+/// Reads the trace files that are asked for beside the records of the network, in a folder that has
+/// a name.
 fn check_files<I: Inputs>(
     alloc: Global,
     folder: &Folder<'_, Asked<'_>>,
     inputs: &NamedInputs<I>,
     progress: &Progress,
 ) -> Result<CheckedFiles<BufReader<I::File>>, CheckFault>
+    requires { 0 < length folder.now.name.now }
     ensures looked { IfOk result (λ files. looked_at files.files.items
         ≡ map (is_asked_for (map (λ n. string_bytes n) folder.now.choice.names.now))
         folder.now.topology.now.ifaces) }
