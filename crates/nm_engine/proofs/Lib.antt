@@ -4,3 +4,4 @@ pub mod Givings
 pub mod Writings
 pub mod Turns
 pub mod Many
+pub mod Passes

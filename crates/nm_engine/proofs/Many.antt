@@ -18,7 +18,9 @@ use Rattle.nm_engine.specs.Acceptor.{AcceptorValue, session_with, taken_at}
 use Rattle.nm_engine.specs.Link.{LinkValue}
 use Rattle.nm_engine.specs.Lives.{LinkLives, frames_in, frames_out}
 use Rattle.nm_engine.specs.Many.{Accounts, GoesOn, HasDue}
+use Rattle.nm_engine.specs.Passes.{ByPass, LinkState, Owner, PassCounts, anyone, at, none_counted}
 use Rattle.nm_engine.specs.Turn.{Heard, Hears, Moves, Says, Turns, Went}
+use Rattle.nm_engine.proofs.Passes.{uncounted}
 use Rattle.nm_engine.proofs.Steps.{lives_append}
 
 -- octets in two parts, and the frames of both
@@ -76,8 +78,8 @@ turn_out ins outs = out-append (map Took ins) (map Gave outs) ∙ ap (λ l. l ++
 
 module _ {W : Type 0} (seen : W → WireSeen) where
   -- one turn's account
-  of_moves : (old new : LinkValue W) (rest left : List ℕ) → Moves seen old new rest left → (new.failed ≡ false → (rest ≡ new.rest) × (left ≡ new.out)) → Accounts seen old new
-  of_moves old new rest left m whole = record {
+  of_moves : (by : ByPass) (old new : LinkValue W) (rest left : List ℕ) → Moves seen by old new rest left → (new.failed ≡ false → (rest ≡ new.rest) × (left ≡ new.out)) → Accounts seen old new
+  of_moves by old new rest left m whole = record {
     steps = turn_steps m.ins m.outs;
     came = m.came;
     went = m.went;
@@ -85,7 +87,9 @@ module _ {W : Type 0} (seen : W → WireSeen) where
     left = left;
     came_in = m.came_in;
     framed = m.framed ∙ ap (λ fs. stream_octets fs ++ rest) (sym (turn_in m.ins m.outs));
-    lived = lives_append old.acceptor old.session m.mid new.session (map Took m.ins) (map Gave m.outs) m.took m.gave;
+    lived =
+        uncounted by.owner old.acceptor (at old.session by.before) (at new.session by.after) (turn_steps m.ins m.outs)
+        (lives_append by.owner old.acceptor (at old.session by.before) m.mid (at new.session by.after) (map Took m.ins) (map Gave m.outs) m.took m.gave);
     went_out = m.went_out;
     sent = m.sent ∙ ap (λ fs. old.out ++ stream_octets fs) (sym (turn_out m.ins m.outs));
     acceptor = m.acceptor;
@@ -123,8 +127,8 @@ module _ {W : Type 0} (seen : W → WireSeen) where
             join_in first.rest a.came b.came mid.rest b.rest (frames_in a.steps) (frames_in b.steps) (a.framed ∙ ap (λ l. stream_octets (frames_in a.steps) ++ l) held.0) b.framed
             ∙ ap (λ fs. stream_octets fs ++ b.rest) (sym (in-append a.steps b.steps));
         lived =
-            lives_append first.acceptor first.session mid.session last.session a.steps b.steps a.lived
-            (subst (λ (h : Option AcceptorValue). LinkLives h mid.session b.steps last.session) a.acceptor b.lived);
+            lives_append anyone first.acceptor (at first.session none_counted) (at mid.session none_counted) (at last.session none_counted) a.steps b.steps a.lived
+            (subst (λ (h : Option AcceptorValue). LinkLives anyone h (at mid.session none_counted) b.steps (at last.session none_counted)) a.acceptor b.lived);
         went_out = b.went_out ∙ ap (λ l. l ++ b.went) a.went_out ∙ append_assoc (seen first.wire).taken a.went b.went;
         sent =
             join_out a.went b.went first.out mid.out b.left (frames_out a.steps) (frames_out b.steps) (ap (λ l. a.went ++ l) (sym held.1) ∙ a.sent) b.sent
@@ -134,9 +138,9 @@ module _ {W : Type 0} (seen : W → WireSeen) where
       }
 
   -- a turn, or half of one, that went well in some way, broke, or found that the link had failed
-  module _ (old new : LinkValue W) (Well : Type 0) (moved : Well → ℕ) (moves : Well → Moves seen old new new.rest new.out) (whole : Well → new.failed ≡ false) where
+  module _ (by : ByPass) (old new : LinkValue W) (Well : Type 0) (moved : Well → ℕ) (moves : Well → Moves seen by old new new.rest new.out) (whole : Well → new.failed ≡ false) where
     -- a link that has failed stays as it is
-    stays_by : (turn : Turn) → old.failed ≡ true → Says seen old new Well moved turn → new ≡ old
+    stays_by : (turn : Turn) → old.failed ≡ true → Says seen by old new Well moved turn → new ≡ old
     stays_by Progress over t = absurd (true≢false (sym over ∙ (moves t.0).was_whole))
     stays_by Idle over t = absurd (true≢false (sym over ∙ (moves t.0).was_whole))
     stays_by Ended over t = absurd (true≢false (sym over ∙ (moves t.0).was_whole))
@@ -144,30 +148,30 @@ module _ {W : Type 0} (seen : W → WireSeen) where
     stays_by Failed over t = t.1
 
     of_well : Well → Accounts seen old new × ((new.failed ≡ false) ⊎ (new.failed ≡ true))
-    of_well w = (of_moves old new new.rest new.out (moves w) (λ e. (refl, refl)), inl (whole w))
+    of_well w = (of_moves by old new new.rest new.out (moves w) (λ e. (refl, refl)), inl (whole w))
 
-    of_answer : (turn : Turn) → Says seen old new Well moved turn → Accounts seen old new × ((new.failed ≡ false) ⊎ (new.failed ≡ true))
+    of_answer : (turn : Turn) → Says seen by old new Well moved turn → Accounts seen old new × ((new.failed ≡ false) ⊎ (new.failed ≡ true))
     of_answer Progress t = of_well t.0
     of_answer Idle t = of_well t.0
     of_answer Ended t = of_well t.0
-    of_answer (Broken cause) t = (of_moves old new t.rest t.left t.moves (λ e. absurd (true≢false (sym t.over ∙ e))), inr t.over)
+    of_answer (Broken cause) t = (of_moves by old new t.rest t.left t.moves (λ e. absurd (true≢false (sym t.over ∙ e))), inr t.over)
     of_answer Failed t = (subst (λ (x : LinkValue W). Accounts seen old x) (sym t.1) (of_none old), inr (ap (λ (l : LinkValue W). l.failed) t.1 ∙ t.0))
 
-  stays : (turn : Turn) (old new : LinkValue W) → old.failed ≡ true → Turns seen old new turn ⊎ Hears seen old new turn → new ≡ old
-  stays turn old new over (inl t) =
-      stays_by old new (Went seen old new) (λ w. length w.moves.came + length w.moves.went) (λ w. w.moves) (λ w. w.whole) turn over t
-  stays turn old new over (inr t) = stays_by old new (Heard seen old new) (λ h. length h.moves.came) (λ h. h.moves) (λ h. h.whole) turn over t
+  stays : (by : ByPass) (turn : Turn) (old new : LinkValue W) → old.failed ≡ true → Turns seen by old new turn ⊎ Hears seen by old new turn → new ≡ old
+  stays by turn old new over (inl t) =
+      stays_by by old new (Went seen by old new) (λ w. length w.moves.came + length w.moves.went) (λ w. w.moves) (λ w. w.whole) turn over t
+  stays by turn old new over (inr t) = stays_by by old new (Heard seen by old new) (λ h. length h.moves.came) (λ h. h.moves) (λ h. h.whole) turn over t
 
   stays_failed : (path : List (Turn × LinkValue W)) (old new : LinkValue W) → old.failed ≡ true → GoesOn seen old path new → new ≡ old
   stays_failed [] old new over g = g
   stays_failed (p ∷ path) old new over g =
-      let same = stays p.0 old p.1 over g.0 in
-      stays_failed path p.1 new (ap (λ (l : LinkValue W). l.failed) same ∙ over) g.1 ∙ same
+      let same = stays g.0 p.0 old p.1 over g.1 in
+      stays_failed path p.1 new (ap (λ (l : LinkValue W). l.failed) same ∙ over) g.2 ∙ same
 
-  of_step : (turn : Turn) (old new : LinkValue W) → Turns seen old new turn ⊎ Hears seen old new turn → Accounts seen old new × ((new.failed ≡ false) ⊎ (new.failed ≡ true))
-  of_step turn old new (inl t) =
-      of_answer old new (Went seen old new) (λ w. length w.moves.came + length w.moves.went) (λ w. w.moves) (λ w. w.whole) turn t
-  of_step turn old new (inr t) = of_answer old new (Heard seen old new) (λ h. length h.moves.came) (λ h. h.moves) (λ h. h.whole) turn t
+  of_step : (by : ByPass) (turn : Turn) (old new : LinkValue W) → Turns seen by old new turn ⊎ Hears seen by old new turn → Accounts seen old new × ((new.failed ≡ false) ⊎ (new.failed ≡ true))
+  of_step by turn old new (inl t) =
+      of_answer by old new (Went seen by old new) (λ w. length w.moves.came + length w.moves.went) (λ w. w.moves) (λ w. w.whole) turn t
+  of_step by turn old new (inr t) = of_answer by old new (Heard seen by old new) (λ h. length h.moves.came) (λ h. h.moves) (λ h. h.whole) turn t
 
   go_on : (path : List (Turn × LinkValue W)) (first mid last : LinkValue W) → Accounts seen first mid × ((mid.failed ≡ false) ⊎ (mid.failed ≡ true)) → GoesOn seen mid path last → Accounts seen mid last → Accounts seen first last
   go_on path first mid last (a, inl fine) g rest = of_both first mid last fine a rest
@@ -175,26 +179,27 @@ module _ {W : Type 0} (seen : W → WireSeen) where
 
   pub accounts : (path : List (Turn × LinkValue W)) (first last : LinkValue W) → GoesOn seen first path last → Accounts seen first last
   accounts [] first last e = subst (λ (x : LinkValue W). Accounts seen first x) (sym e) (of_none first)
-  accounts (p ∷ path) first last g = go_on path first p.1 last (of_step p.0 first p.1 g.0) g.1 (accounts path p.1 last g.1)
+  accounts (p ∷ path) first last g = go_on path first p.1 last (of_step g.0 p.0 first p.1 g.1) g.2 (accounts path p.1 last g.2)
 
 -- ---- the numbers of messages
-session_lives : (h : Option AcceptorValue) (steps : List SessionStep) (s : SessionValue) (t : Option SessionValue) → LinkLives h (Some s) steps t → (u : SessionValue) × (t ≡ Some u) × SessionLives s steps u
-session_lives h [] s t lives = (s, lives, refl)
-session_lives h (Took f ∷ r) s t lives = let more = session_lives h r lives.0 t lives.4 in (more.0, more.1, (lives.0, lives.1, more.2))
-session_lives h (Gave f ∷ r) s t lives =
+session_lives : (o : Owner) (h : Option AcceptorValue) (steps : List SessionStep) (s : SessionValue) (k : PassCounts) (y : LinkState) → LinkLives o h (at (Some s) k) steps y → (u : SessionValue) × (y.session ≡ Some u) × SessionLives s steps u
+session_lives o h [] s k y lives = (s, ap (λ (z : LinkState). z.session) lives, refl)
+session_lives o h (Took f ∷ r) s k y lives = let more = session_lives o h r lives.0 lives.1 y lives.5 in (more.0, more.1, (lives.0, lives.2, more.2))
+session_lives o h (Gave f ∷ r) s k y lives =
     let same : s ≡ lives.0 = some_same s lives.0 lives.2 in
     let owes : owed s lives.1 ≡ Some f = ap (λ (x : SessionValue). owed x lives.1) same ∙ lives.3 in
-    let after = subst (λ (x : SessionValue). LinkLives h (Some (after_giving x f)) r t) (sym same) lives.5 in
-    let more = session_lives h r (after_giving s f) t after in (more.0, more.1, (lives.1, owes, more.2))
-session_lives h (Broke ∷ r) s t lives = absurd lives
+    let after = subst (λ (x : SessionValue). LinkLives o h (at (Some (after_giving x f)) k) r y) (sym same) lives.6 in
+    let more = session_lives o h r (after_giving s f) k y after in (more.0, more.1, (lives.1, owes, more.2))
+session_lives o h (Broke ∷ r) s k y lives = absurd lives
 
 none_yet : (c : ℕ) (ds : List ℕ) → HasCursor c None (map new_outgoing ds)
 none_yet c [] = tt
 none_yet c (d ∷ ds) = (λ e. refl, none_yet c ds)
 
-of_session : (h : Option AcceptorValue) (s : SessionValue) (t : Option SessionValue) (steps : List SessionStep) (c : ℕ) (due : Option ℕ) → HasCursor c due s.outgoing → LinkLives h (Some s) steps t → AreConsecutive c due steps × HasDue c (due_after c due steps) t
-of_session h s t steps c due cursor lives =
-    let l = session_lives h steps s t lives in
+of_session : (o : Owner) (h : Option AcceptorValue) (s : SessionValue) (k : PassCounts) (y : LinkState) (steps : List SessionStep) (c : ℕ) (due : Option ℕ) → HasCursor c due s.outgoing → LinkLives o h (at (Some s) k) steps y
+    → AreConsecutive c due steps × HasDue c (due_after c due steps) y.session
+of_session o h s k y steps c due cursor lives =
+    let l = session_lives o h steps s k y lives in
     let n = from_cursor s l.0 steps c due cursor l.2 in
     (n.0, subst (λ (x : Option SessionValue). HasDue c (due_after c due steps) x) (sym l.1) n.1)
 
@@ -211,14 +216,18 @@ first_made (Some h) (Data x) m e = cc
 first_made (Some h) (Null x) m e = cc
 first_made (Some h) Bye m e = cc
 
-pub numbers : (h : Option AcceptorValue) (s t : Option SessionValue) (steps : List SessionStep) (c : ℕ) (due : Option ℕ) → HasDue c due s → LinkLives h s steps t → AreConsecutive c due steps × HasDue c (due_after c due steps) t
-numbers h (Some s) t steps c due cursor lives = of_session h s t steps c due cursor lives
-numbers h None t [] c due none lives = (tt, subst (λ (x : Option SessionValue). HasDue c due x) (sym lives) none)
-numbers h None t (Took f ∷ r) c due none lives =
-    let made = first_made h f lives.0 lives.1 in
-    let more = session_lives h r lives.0 t lives.4 in
+of_state : (o : Owner) (h : Option AcceptorValue) (s : Option SessionValue) (k : PassCounts) (y : LinkState) (steps : List SessionStep) (c : ℕ) (due : Option ℕ) → HasDue c due s → LinkLives o h (at s k) steps y
+    → AreConsecutive c due steps × HasDue c (due_after c due steps) y.session
+of_state o h (Some s) k y steps c due cursor lives = of_session o h s k y steps c due cursor lives
+of_state o h None k y [] c due none lives = (tt, subst (λ (z : LinkState). HasDue c due z.session) (sym lives) none)
+of_state o h None k y (Took f ∷ r) c due none lives =
+    let made = first_made h f lives.0 lives.2 in
+    let more = session_lives o h r lives.0 lives.1 y lives.5 in
     let n = from_cursor (session_with made.0 made.1) more.0 (Took f ∷ r) c None (none_yet c (channels_between made.0.topology made.0.me made.1)) (lives.0, made.2, more.2) in
-    subst (λ (x : Option ℕ). AreConsecutive c x (Took f ∷ r) × HasDue c (due_after c x (Took f ∷ r)) t) (sym none)
+    subst (λ (x : Option ℕ). AreConsecutive c x (Took f ∷ r) × HasDue c (due_after c x (Took f ∷ r)) y.session) (sym none)
     (n.0, subst (λ (x : Option SessionValue). HasDue c (due_after c None (Took f ∷ r)) x) (sym more.1) n.1)
-numbers h None t (Gave f ∷ r) c due none lives = absurd (not_some lives.0 lives.2)
-numbers h None t (Broke ∷ r) c due none lives = absurd lives
+of_state o h None k y (Gave f ∷ r) c due none lives = absurd (not_some lives.0 lives.2)
+of_state o h None k y (Broke ∷ r) c due none lives = absurd lives
+
+pub numbers : (o : Owner) (h : Option AcceptorValue) (x y : LinkState) (steps : List SessionStep) (c : ℕ) (due : Option ℕ) → HasDue c due x.session → LinkLives o h x steps y → AreConsecutive c due steps × HasDue c (due_after c due steps) y.session
+numbers o h x y steps c due = of_state o h x.session x.counts y steps c due

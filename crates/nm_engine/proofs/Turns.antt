@@ -16,6 +16,7 @@ use Rattle.nm_base.specs.declared.limits.TheConstants.{MAX_READ_OCTETS}
 use Rattle.nm_engine.specs.Giving.{GivesFrames, HoldsNone}
 use Rattle.nm_engine.specs.Link.{IsPart, LinkValue, bye_taken}
 use Rattle.nm_engine.specs.Lives.{LinkLives}
+use Rattle.nm_engine.specs.Passes.{ByPass, LinkState, Owner, PassCounts, at}
 use Rattle.nm_engine.specs.Reading.{Came, Reads}
 use Rattle.nm_engine.specs.Taking.{Stops, TakesAll}
 use Rattle.nm_engine.specs.Turn.{Breaks, HasEnded, Heard, IsReason, Moves, Says, TakesIn, Turns, Went, answer_of, faults_of, link_of}
@@ -37,13 +38,13 @@ each_mid [] back f each = each.0
 each_mid (x ∷ front) back f each = each_mid front back f each.1
 
 -- The frames that were read were taken, and nothing else was done with the parts of a link.
-module _ {W : Type 0} (seen : W → WireSeen) (old new : Parts W) (frames : List Frame) (e : Bool) (bye : e ≡ bye_taken old.party.session)
+module _ {W : Type 0} (seen : W → WireSeen) (by : ByPass) (old new : Parts W) (frames : List Frame) (e : Bool) (bye : e ≡ bye_taken old.party.session)
     (keeps : new.party.acceptor ≡ old.party.acceptor) (kept : (seen new.wire).taken ≡ (seen old.wire).taken) (same : new.out.items ≡ old.out.items) where
   abbrev Read : Result ℕ Cause → Type 0
   Read read = Reads (seen old.wire) (seen new.wire) e old.reader frames new.reader read
 
   abbrev TookAll : List Frame → Type 0
-  TookAll ins = LinkLives old.party.acceptor old.party.session (map Took ins) new.party.session
+  TookAll ins = LinkLives by.owner old.party.acceptor (at old.party.session by.before) (map Took ins) (at new.party.session by.after)
 
   -- what came, whatever the read's answer, and that the wire has not failed if there are frames
   read_came : (read : Result ℕ Cause) → Read read → (rest : List ℕ) × Came (seen old.wire) (seen new.wire) old.reader.rest frames rest × (((seen new.wire).failures ≡ (seen old.wire).failures) ⊎ (frames ≡ []))
@@ -58,14 +59,14 @@ module _ {W : Type 0} (seen : W → WireSeen) (old new : Parts W) (frames : List
   sound_if front back f split (inr e) = absurd (not_none front back f (sym split ∙ e))
 
   -- no octet went
-  abbrev still : (came rest : List ℕ) (ins : List Frame) (b : Bool) → length came ≤ MAX_READ_OCTETS → (seen new.wire).given ≡ (seen old.wire).given ++ came → old.reader.rest ++ came ≡ stream_octets ins ++ rest → TookAll ins → Moves seen (link_of old false) (link_of new b) rest new.out.items
+  abbrev still : (came rest : List ℕ) (ins : List Frame) (b : Bool) → length came ≤ MAX_READ_OCTETS → (seen new.wire).given ≡ (seen old.wire).given ++ came → old.reader.rest ++ came ≡ stream_octets ins ++ rest → TookAll ins → Moves seen by (link_of old false) (link_of new b) rest new.out.items
   still came rest ins b most came_in framed took = record {
     was_whole = refl;
     came = came;
     went = [];
     ins = ins;
     outs = [];
-    mid = new.party.session;
+    mid = at new.party.session by.after;
     most = most;
     came_in = came_in;
     framed = framed;
@@ -77,8 +78,8 @@ module _ {W : Type 0} (seen : W → WireSeen) (old new : Parts W) (frames : List
   }
 
   broke : (cause : Cause) (came rest : List ℕ) (ins : List Frame) → length came ≤ MAX_READ_OCTETS → (seen new.wire).given ≡ (seen old.wire).given ++ came → old.reader.rest ++ came ≡ stream_octets ins ++ rest → TookAll ins
-      → IsReason seen (link_of old false) (link_of new true) cause rest new.party.session → (seen new.wire).failures ≡ (seen old.wire).failures + faults_of cause
-      → Breaks seen (link_of old false) (link_of new true) cause
+      → IsReason seen by (link_of old false) (link_of new true) cause rest (at new.party.session by.after) → (seen new.wire).failures ≡ (seen old.wire).failures + faults_of cause
+      → Breaks seen by (link_of old false) (link_of new true) cause
   broke cause came rest ins most came_in framed took reason faults = record {
     rest = rest;
     left = new.out.items;
@@ -90,19 +91,19 @@ module _ {W : Type 0} (seen : W → WireSeen) (old new : Parts W) (frames : List
 
   -- a frame was not taken
   stopped_by : (cause : Cause) (rest : List ℕ) (c : Came (seen old.wire) (seen new.wire) old.reader.rest frames rest) (front back : List Frame) (f : Frame) → (seen new.wire).failures ≡ (seen old.wire).failures + faults_of cause
-      → (IsFrame f → IsReason seen (link_of old false) (link_of new true) cause (frame_octets f ++ (stream_octets back ++ rest)) new.party.session) → frames ≡ front ++ f ∷ back → TookAll front
-      → Breaks seen (link_of old false) (link_of new true) cause
+      → (IsFrame f → IsReason seen by (link_of old false) (link_of new true) cause (frame_octets f ++ (stream_octets back ++ rest)) (at new.party.session by.after)) → frames ≡ front ++ f ∷ back → TookAll front
+      → Breaks seen by (link_of old false) (link_of new true) cause
   stopped_by cause rest c front back f sound reason split took =
       broke cause c.came (frame_octets f ++ (stream_octets back ++ rest)) front c.most c.came_in (from_frame (old.reader.rest ++ c.came) rest frames front back f c.framed.parts split) took
       (reason (each_mid front back f (subst (λ (fs : List Frame). AllByRecursion IsFrame fs) split c.framed.each))) sound
 
   -- the link broke for this cause
   abbrev BreaksFor : Cause → Type 0
-  BreaksFor cause = Breaks seen (link_of old false) (link_of new true) cause
+  BreaksFor cause = Breaks seen by (link_of old false) (link_of new true) cause
 
   -- a frame was not taken, for any of its reasons
   stopped : (cause : Cause) (rest : List ℕ) (c : Came (seen old.wire) (seen new.wire) old.reader.rest frames rest) (front back : List Frame) (f : Frame) → (seen new.wire).failures ≡ (seen old.wire).failures + 0
-      → frames ≡ front ++ f ∷ back → TookAll front → Stops cause old.party.acceptor new.party.session f → BreaksFor cause
+      → frames ≡ front ++ f ∷ back → TookAll front → Stops by.owner old.party.acceptor cause (at new.party.session by.after) f → BreaksFor cause
   stopped cause rest c front back f sound split took (inl (is, refuses)) =
       subst BreaksFor (sym is) (stopped_by BadSession rest c front back f sound (λ fits. (f, stream_octets back ++ rest, fits, refl, refuses)) split took)
   stopped cause rest c front back f sound split took (inr (inl (is, refuses))) =
@@ -110,7 +111,7 @@ module _ {W : Type 0} (seen : W → WireSeen) (old new : Parts W) (frames : List
   stopped cause rest c front back f sound split took (inr (inr (is, short))) =
       subst BreaksFor (sym is) (stopped_by Memory rest c front back f sound (λ fits. tt) split took)
 
-  pub breaks_take : (read : Result ℕ Cause) (cause : Cause) → Read read → TakesAll old.party.acceptor old.party.session frames new.party.session (Err cause) → BreaksFor cause
+  pub breaks_take : (read : Result ℕ Cause) (cause : Cause) → Read read → TakesAll by.owner old.party.acceptor (at old.party.session by.before) frames (at new.party.session by.after) (Err cause) → BreaksFor cause
   breaks_take read cause reads (front, f, back, split, took, stops) =
       let c = read_came read reads in stopped cause c.0 c.1 front back f (sound_if front back f split c.2) split took stops
 
@@ -126,7 +127,7 @@ module _ {W : Type 0} (seen : W → WireSeen) (old new : Parts W) (frames : List
       subst BreaksFor (sym is) (broke Memory c.came rest frames c.most c.came_in c.framed.parts took tt (omega (arith, sound)))
 
   -- all frames were taken
-  pub took_in : (read : Result ℕ Cause) → Read read → TookAll frames → IsPart new.reader.rest → TakesIn seen old new read
+  pub took_in : (read : Result ℕ Cause) → Read read → TookAll frames → IsPart new.reader.rest → TakesIn seen by old new read
   took_in (Ok n) c took part = (
     record {
       moves = still c.came.came new.reader.rest frames false c.came.most c.came.came_in c.came.framed.parts took;
@@ -142,24 +143,27 @@ module _ {W : Type 0} (seen : W → WireSeen) (old new : Parts W) (frames : List
   took_in (Err cause) c took part = breaks_read cause c took
 
 -- The answer where all went well.
-module _ {W : Type 0} (seen : W → WireSeen) (old new : LinkValue W) (Well : Type 0) (moved : Well → ℕ) (well : Well) (n : ℕ) (count : moved well ≡ n) where
-  by_count : (HasEnded new.session new.out → ⊥) → (b : Bool) → nat_lt 0 n ≡ b → Says seen old new Well moved (if b then Progress else Idle)
+module _ {W : Type 0} (seen : W → WireSeen) (by : ByPass) (old new : LinkValue W) (Well : Type 0) (moved : Well → ℕ) (well : Well) (n : ℕ) (count : moved well ≡ n) where
+  by_count : (HasEnded new.session new.out → ⊥) → (b : Bool) → nat_lt 0 n ≡ b → Says seen by old new Well moved (if b then Progress else Idle)
   by_count on true is = (well, (grind (arith, nat_tests, is, count)), on)
   by_count on false is = (well, (grind (arith, nat_tests, is, count)), on)
 
-  pub says_well : (ended : Bool) → (ended ≡ true → HasEnded new.session new.out) → (HasEnded new.session new.out → ended ≡ true) → Says seen old new Well moved (answer_of ended n)
+  pub says_well : (ended : Bool) → (ended ≡ true → HasEnded new.session new.out) → (HasEnded new.session new.out → ended ≡ true) → Says seen by old new Well moved (answer_of ended n)
   says_well true over only = (well, over refl)
   says_well false over only = by_count (λ is. false≢true (only is)) (nat_lt 0 n) refl
 
 -- What was given, once the link had heard.
-module _ {W : Type 0} (seen : W → WireSeen) (old mid : LinkValue W) (h : Heard seen old mid) (z : Option SessionValue) (x : W) (p : List ℕ) where
+module _ {W : Type 0} (seen : W → WireSeen) (o : Owner) (k l n : PassCounts) (old mid : LinkValue W) (h : Heard seen (record { owner = o; before = k; after = l }) old mid) (z : Option SessionValue) (x : W) (p : List ℕ) where
   abbrev gone : List ℕ → Bool → LinkValue W
   gone out failed = record { wire = x; acceptor = mid.acceptor; session = z; rest = mid.rest; out = out; failed = failed }
 
-  took : LinkLives old.acceptor old.session (map Took h.moves.ins) mid.session
+  abbrev by : ByPass
+  by = record { owner = o; before = k; after = n }
+
+  took : LinkLives o old.acceptor (at old.session k) (map Took h.moves.ins) (at mid.session l)
   took =
-      let same : mid.session ≡ h.moves.mid = subst (λ (fs : List Frame). LinkLives old.acceptor h.moves.mid (map Gave fs) mid.session) h.none_given h.moves.gave in
-      subst (λ (m : Option SessionValue). LinkLives old.acceptor old.session (map Took h.moves.ins) m) (sym same) h.moves.took
+      let same : at mid.session l ≡ h.moves.mid = subst (λ (fs : List Frame). LinkLives o old.acceptor h.moves.mid (map Gave fs) (at mid.session l)) h.none_given h.moves.gave in
+      subst (λ (m : LinkState). LinkLives o old.acceptor (at old.session k) (map Took h.moves.ins) m) (sym same) h.moves.took
 
   kept : (seen mid.wire).taken ≡ (seen old.wire).taken
   kept = h.moves.went_out ∙ ap (λ l. (seen old.wire).taken ++ l) h.none_went ∙ append-nil (seen old.wire).taken
@@ -167,14 +171,14 @@ module _ {W : Type 0} (seen : W → WireSeen) (old mid : LinkValue W) (h : Heard
   same_out : mid.out ≡ old.out
   same_out = ap (λ l. l ++ mid.out) (sym h.none_went) ∙ h.moves.sent ∙ ap (λ fs. old.out ++ stream_octets fs) h.none_given ∙ append-nil old.out
 
-  abbrev gave_moves : (went left lost out : List ℕ) (b : Bool) → GivesFrames old.acceptor mid.session z mid.out p lost → (seen x).given ≡ (seen mid.wire).given → (seen x).taken ≡ (seen mid.wire).taken ++ went → went ++ left ≡ p ++ lost → Moves seen old (gone out b) mid.rest left
+  abbrev gave_moves : (went left lost out : List ℕ) (b : Bool) → GivesFrames o old.acceptor (at mid.session l) (at z n) mid.out p lost → (seen x).given ≡ (seen mid.wire).given → (seen x).taken ≡ (seen mid.wire).taken ++ went → went ++ left ≡ p ++ lost → Moves seen by old (gone out b) mid.rest left
   gave_moves went left lost out b g same went_out sent = record {
     was_whole = h.moves.was_whole;
     came = h.moves.came;
     went = went;
     ins = h.moves.ins;
     outs = g.outs;
-    mid = mid.session;
+    mid = at mid.session l;
     most = h.moves.most;
     came_in = same ∙ h.moves.came_in;
     framed = h.moves.framed;
@@ -186,7 +190,7 @@ module _ {W : Type 0} (seen : W → WireSeen) (old mid : LinkValue W) (h : Heard
   }
 
   -- memory for a frame was refused
-  pub breaks_give : (lost : List ℕ) × GivesFrames old.acceptor mid.session z mid.out p lost → x ≡ mid.wire → Breaks seen old (gone p true) Memory
+  pub breaks_give : (lost : List ℕ) × GivesFrames o old.acceptor (at mid.session l) (at z n) mid.out p lost → x ≡ mid.wire → Breaks seen by old (gone p true) Memory
   breaks_give g same =
       let fine : (seen x).failures ≡ (seen mid.wire).failures = ap (λ y. (seen y).failures) same in
       let sound = h.sound in
@@ -199,31 +203,31 @@ module _ {W : Type 0} (seen : W → WireSeen) (old mid : LinkValue W) (h : Heard
         over = refl;
       }
 
-  module _ (y : List ℕ) (gives : GivesFrames old.acceptor mid.session z mid.out p []) (same : (seen x).given ≡ (seen mid.wire).given) where
+  module _ (y : List ℕ) (gives : GivesFrames o old.acceptor (at mid.session l) (at z n) mid.out p []) (same : (seen x).given ≡ (seen mid.wire).given) where
     -- the wire failed as it took octets
-    pub breaks_write : (cause : Cause) → Writes (seen mid.wire) (seen x) p y (Err cause) → Breaks seen old (gone y true) cause
-    breaks_write cause (is, l, faults) =
+    pub breaks_write : (cause : Cause) → Writes (seen mid.wire) (seen x) p y (Err cause) → Breaks seen by old (gone y true) cause
+    breaks_write cause (is, wrote, faults) =
         let sound = h.sound in
-        subst (λ c. Breaks seen old (gone y true) c) (sym is) (record {
+        subst (λ c. Breaks seen by old (gone y true) c) (sym is) (record {
           rest = mid.rest;
           left = y;
-          moves = gave_moves l.went y [] y true gives same l.went_out (l.front ∙ sym (append-nil p));
+          moves = gave_moves wrote.went y [] y true gives same wrote.went_out (wrote.front ∙ sym (append-nil p));
           reason = tt;
           faults = omega (arith, faults, sound);
           over = refl;
         })
 
-    pub turned_well : (n m : ℕ) → length h.moves.came ≡ n → Writes (seen mid.wire) (seen x) p y (Ok m) → (seen x).ends ≡ (seen mid.wire).ends → HoldsNone z p → (ended : Bool) → (ended ≡ true → HasEnded z y) → (HasEnded z y → ended ≡ true)
-        → Turns seen old (gone y false) (answer_of ended (n + m))
-    turned_well n m count l still_on all ended over only =
-        let well : Went seen old (gone y false) = record {
-          moves = gave_moves l.0.went y [] y false gives same l.0.went_out (l.0.front ∙ sym (append-nil p));
-          sound = l.2 ∙ h.sound;
+    pub turned_well : (i j : ℕ) → length h.moves.came ≡ i → Writes (seen mid.wire) (seen x) p y (Ok j) → (seen x).ends ≡ (seen mid.wire).ends → HoldsNone o n z p → (ended : Bool) → (ended ≡ true → HasEnded z y) → (HasEnded z y → ended ≡ true)
+        → Turns seen by old (gone y false) (answer_of ended (i + j))
+    turned_well i j count wrote still_on all ended over only =
+        let well : Went seen by old (gone y false) = record {
+          moves = gave_moves wrote.0.went y [] y false gives same wrote.0.went_out (wrote.0.front ∙ sym (append-nil p));
+          sound = wrote.2 ∙ h.sound;
           no_end = λ is. still_on ∙ h.no_end is;
           part = h.part;
-          all = subst (λ (octets : List ℕ). HoldsNone z octets) (sym l.0.front) all;
+          all = subst (λ (octets : List ℕ). HoldsNone o n z octets) (sym wrote.0.front) all;
           whole = refl;
         } in
-        let went = l.1 in
-        let sum : length h.moves.came + length l.0.went ≡ n + m = omega (arith, count, went) in
-        says_well seen old (gone y false) (Went seen old (gone y false)) (λ w. length w.moves.came + length w.moves.went) well (n + m) sum ended over only
+        let went = wrote.1 in
+        let sum : length h.moves.came + length wrote.0.went ≡ i + j = omega (arith, count, went) in
+        says_well seen by old (gone y false) (Went seen by old (gone y false)) (λ w. length w.moves.came + length w.moves.went) well (i + j) sum ended over only

@@ -9,27 +9,29 @@ use Rattle.nm_frames.specs.Owed.{owed}
 use Rattle.nm_frames.specs.Session.{SessionValue}
 use Rattle.nm_engine.specs.Acceptor.{AcceptorValue}
 use Rattle.nm_engine.specs.Lives.{LinkLives}
+use Rattle.nm_engine.specs.Passes.{IsMet, LinkState, Owner, PassCounts}
 
 -- frames were given, and stand at the end of the buffer but for the lost octets
-pub record GivesFrames (h : Option AcceptorValue) (s t : Option SessionValue)
+pub record GivesFrames (o : Owner) (h : Option AcceptorValue) (x y : LinkState)
     (before after lost : List ℕ) : Type 0 where
   pub outs : List Frame
-  pub gave : LinkLives h s (map Gave outs) t
+  pub gave : LinkLives o h x (map Gave outs) y
   pub put : after ++ lost ≡ before ++ stream_octets outs
 
 -- the same of a call that is refused for memory alone
-abbrev pub GivesOr : {A E : Type 0} → Option AcceptorValue → Option SessionValue
-    → Option SessionValue → List ℕ → List ℕ → Result A E → Type 0
-GivesOr h s t before after (Ok x) = GivesFrames h s t before after []
-GivesOr h s t before after (Err e) = (lost : List ℕ) × GivesFrames h s t before after lost
+abbrev pub GivesOr : {A E : Type 0} → Owner → LinkState → LinkState → List ℕ → List ℕ → Result A E
+    → Type 0
+GivesOr o x y before after (Ok r) =
+    (h : Option AcceptorValue) → GivesFrames o h x y before after []
+GivesOr o x y before after (Err e) =
+    (h : Option AcceptorValue) → (lost : List ℕ) × GivesFrames o h x y before after lost
 
--- a session owes nothing of a book as it then was (which book, this does not say); where there
--- is no session, nothing is owed
-abbrev pub OwesNone : Option SessionValue → Type 0
-OwesNone None = Unit {0}
-OwesNone (Some s) = (b : BookValue) × (owed s b ≡ None)
+-- a session owes nothing of the book as it was met last; where there is no session, nothing is owed
+abbrev pub OwesNone : Owner → PassCounts → Option SessionValue → Type 0
+OwesNone o counts None = Unit {0}
+OwesNone o counts (Some s) = (b : BookValue) × IsMet o counts b × (owed s b ≡ None)
 
--- nothing is held back without a reason: the session owes nothing of some book, or the buffer is
+-- nothing is held back without a reason: the session owes nothing of the book, or the buffer is
 -- full
-abbrev pub HoldsNone : Option SessionValue → List ℕ → Type 0
-HoldsNone s waiting = OwesNone s ⊎ (FULL_OUT_OCTETS ≤ length waiting)
+abbrev pub HoldsNone : Owner → PassCounts → Option SessionValue → List ℕ → Type 0
+HoldsNone o counts s waiting = OwesNone o counts s ⊎ (FULL_OUT_OCTETS ≤ length waiting)

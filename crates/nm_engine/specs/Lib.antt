@@ -9,3 +9,4 @@ pub mod Writing
 pub mod Turn
 pub mod Many
 pub mod Out
+pub mod Passes

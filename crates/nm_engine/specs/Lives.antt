@@ -1,5 +1,5 @@
 -- What a link's session took and gave, step by step, and what was done with it.
-use Rattle.std.specs.Prelude.{◌≡◌, ℕ, Bool, true, false, List, [], ◌∷◌, ◌++◌, Option, Some, None, Ok, Err}
+use Rattle.std.specs.Prelude.{◌≡◌, List, [], ◌∷◌, Option, Some, Ok, Err}
 use Rattle.nm_knowledge.specs.declared.answer.Accepted.{Accepted}
 use Rattle.nm_knowledge.specs.declared.answer.KnowFault.TheVariants.{Memory}
 use Rattle.nm_book.specs.Book.{BookValue, message_channel}
@@ -14,44 +14,47 @@ use Rattle.nm_frames.specs.Frame.{IsFrame}
 use Rattle.nm_frames.specs.Lives.{SessionStep, Took, Gave, Broke}
 use Rattle.nm_frames.specs.Owed.{after_giving, owed}
 use Rattle.nm_frames.specs.Session.{SessionValue, purpose}
+use Rattle.nm_shared.specs.Known.{news}
 use Rattle.nm_engine.specs.Acceptor.{AcceptorValue, taken_at}
+use Rattle.nm_engine.specs.Passes.{CountsMore, IsMet, LinkState, Owner, PassCounts, at}
 
--- a book took the message in: what it then was is not known, since others may act on it before
--- and after
-abbrev pub IsTold : ChannelMessage → Type 0
-IsTold m = (b : BookValue) × (c : BookValue) × (a : Accepted)
-    × Takes b c (message_channel m) (message_taken b.knows m) (Ok a)
+-- Of a book of this owner, if counts are exact, by a pass.
+module _ (o : Owner) where
+  -- It took the message in. The pass had counted so much before, and counts it where it is new.
+  abbrev pub IsTold : (before after : PassCounts) → ChannelMessage → Type 0
+  IsTold before after m = (b : BookValue) × (c : BookValue) × (a : Accepted)
+      × IsMet o before b × Takes b c (message_channel m) (message_taken b.knows m) (Ok a)
+      × CountsMore o before (news (Ok a)) after
 
--- a book refused it, and not for want of memory
-abbrev pub IsRefused : ChannelMessage → Type 0
-IsRefused m =
-    (b : BookValue) × (c : BookValue) × (e : AcceptFault) × (e ≡ Known Memory → ⊥)
-    × Takes b c (message_channel m) (message_taken b.knows m) (Err e)
+  -- it refused it, and not for want of memory
+  abbrev pub IsRefused : PassCounts → ChannelMessage → Type 0
+  IsRefused counts m = (b : BookValue) × (c : BookValue) × (e : AcceptFault)
+      × (e ≡ Known Memory → ⊥) × IsMet o counts b
+      × Takes b c (message_channel m) (message_taken b.knows m) (Err e)
 
--- a book had no memory for it
-abbrev pub LacksMemory : ChannelMessage → Type 0
-LacksMemory m = (b : BookValue) × (c : BookValue)
-    × Takes b c (message_channel m) (message_taken b.knows m) (Err (Known Memory))
+  -- it had no memory for it
+  abbrev pub LacksMemory : PassCounts → ChannelMessage → Type 0
+  LacksMemory counts m = (b : BookValue) × (c : BookValue) × IsMet o counts b
+      × Takes b c (message_channel m) (message_taken b.knows m) (Err (Known Memory))
 
--- what a frame was for was done
-abbrev pub IsServed : Taken → Type 0
-IsServed Greeted = Unit {0}
-IsServed Cursor = Unit {0}
-IsServed (ForBook m) = IsTold m
-IsServed Ended = Unit {0}
+  -- what a frame was for was done
+  abbrev pub IsServed : (before after : PassCounts) → Taken → Type 0
+  IsServed before after Greeted = after ≡ before
+  IsServed before after Cursor = after ≡ before
+  IsServed before after (ForBook m) = IsTold before after m
+  IsServed before after Ended = after ≡ before
 
--- Step by step: each frame taken is one that the session takes, and what it was for was done;
--- each frame given is what the session owes of a book as it then was.
-abbrev pub LinkLives : Option AcceptorValue → Option SessionValue → List SessionStep
-    → Option SessionValue → Type 0
-LinkLives h s [] t = t ≡ s
-LinkLives h s (Took f ∷ r) t =
-    (m : SessionValue) × (taken_at h s f ≡ Ok m) × IsFrame f × IsServed (purpose f)
-    × LinkLives h (Some m) r t
-LinkLives h s (Gave f ∷ r) t =
-    (m : SessionValue) × (b : BookValue) × (s ≡ Some m) × (owed m b ≡ Some f) × IsFrame f
-    × LinkLives h (Some (after_giving m f)) r t
-LinkLives h s (Broke ∷ r) t = ⊥
+  -- Step by step: each frame taken is one that the session takes, and what it was for was done;
+  -- each frame given is what the session owes of the book as it then was.
+  abbrev pub LinkLives : Option AcceptorValue → LinkState → List SessionStep → LinkState → Type 0
+  LinkLives h x [] y = y ≡ x
+  LinkLives h x (Took f ∷ r) y =
+      (m : SessionValue) × (counts : PassCounts) × (taken_at h x.session f ≡ Ok m) × IsFrame f
+      × IsServed x.counts counts (purpose f) × LinkLives h (at (Some m) counts) r y
+  LinkLives h x (Gave f ∷ r) y =
+      (m : SessionValue) × (b : BookValue) × (x.session ≡ Some m) × (owed m b ≡ Some f)
+      × IsMet o x.counts b × IsFrame f × LinkLives h (at (Some (after_giving m f)) x.counts) r y
+  LinkLives h x (Broke ∷ r) y = ⊥
 
 -- the frames that were taken, in order, and those that were given
 abbrev pub frames_in : List SessionStep → List Frame

@@ -7,19 +7,23 @@ use Rattle.nm_frames.specs.Session.{SessionValue}
 use Rattle.nm_engine.specs.declared.answer.Turn.{Turn}
 use Rattle.nm_engine.specs.Link.{LinkValue}
 use Rattle.nm_engine.specs.Lives.{LinkLives, frames_in, frames_out}
+use Rattle.nm_engine.specs.Passes.{ByPass, anyone, at, none_counted}
 use Rattle.nm_engine.specs.Turn.{Hears, Turns}
 
--- turn by turn, or half of one in which the link only heard: each answer, and the link after it
+-- Turn by turn, or half of one in which the link only heard: each answer, and the link after it.
+-- Between turns the pass may count what others do.
 abbrev pub GoesOn : {W : Type 0} → (W → WireSeen) → LinkValue W → List (Turn × LinkValue W)
     → LinkValue W → Type 0
 GoesOn seen old [] new = new ≡ old
 GoesOn seen old (p ∷ path) new =
-    (Turns seen old p.1 p.0 ⊎ Hears seen old p.1 p.0) × GoesOn seen p.1 path new
+    (by : ByPass) × (Turns seen by old p.1 p.0 ⊎ Hears seen by old p.1 p.0)
+    × GoesOn seen p.1 path new
 
 -- What came over all turns, with the octets held at first, are the octets of the frames that
 -- were taken, and then the rest, which a link that has not failed holds. What went, and then
 -- what is left, which it holds too, is what waited at first and the octets of the frames that
--- were given. So nothing that was taken over is lost, and nothing is made up.
+-- were given. So nothing that was taken over is lost, and nothing is made up. Which book took and
+-- owed what, each turn says.
 pub record Accounts {W : Type 0} (seen : W → WireSeen) (first last : LinkValue W) : Type 0 where
   pub steps : List SessionStep
   pub came : List ℕ
@@ -28,7 +32,8 @@ pub record Accounts {W : Type 0} (seen : W → WireSeen) (first last : LinkValue
   pub left : List ℕ
   pub came_in : (seen last.wire).given ≡ (seen first.wire).given ++ came
   pub framed : first.rest ++ came ≡ stream_octets (frames_in steps) ++ rest
-  pub lived : LinkLives first.acceptor first.session steps last.session
+  pub lived : LinkLives anyone first.acceptor (at first.session none_counted) steps
+      (at last.session none_counted)
   pub went_out : (seen last.wire).taken ≡ (seen first.wire).taken ++ went
   pub sent : went ++ left ≡ first.out ++ stream_octets (frames_out steps)
   pub acceptor : last.acceptor ≡ first.acceptor

@@ -14,6 +14,7 @@ use Rattle.nm_base.specs.declared.limits.TheConstants.{MAX_READ_OCTETS}
 use Rattle.nm_engine.specs.Giving.{HoldsNone}
 use Rattle.nm_engine.specs.Link.{IsPart, LinkValue, bye_taken}
 use Rattle.nm_engine.specs.Lives.{LinkLives}
+use Rattle.nm_engine.specs.Passes.{ByPass, LinkState, at}
 use Rattle.nm_engine.specs.Reading.{ShowsFault}
 use Rattle.nm_engine.specs.Taking.{BookRefuses, SessionRefuses}
 
@@ -38,7 +39,8 @@ pub record HasEnded (session : Option SessionValue) (out : List ℕ) : Type 0 wh
 abbrev pub answer_of : Bool → ℕ → Turn
 answer_of ended moved = if ended then Ended else if nat_lt 0 moved then Progress else Idle
 
-module _ {W : Type 0} (seen : W → WireSeen) (old new : LinkValue W) where
+-- What acts of a pass were done in it.
+module _ {W : Type 0} (seen : W → WireSeen) (by : ByPass) (old new : LinkValue W) where
   -- What came, with the octets held before, are the octets of the frames that the session
   -- took, and then the rest. What went, and then what is left, is what waited before and the
   -- octets of the frames that the session gave once it had taken those.
@@ -48,12 +50,12 @@ module _ {W : Type 0} (seen : W → WireSeen) (old new : LinkValue W) where
     pub went : List ℕ
     pub ins : List Frame
     pub outs : List Frame
-    pub mid : Option SessionValue
+    pub mid : LinkState
     pub most : length came ≤ MAX_READ_OCTETS
     pub came_in : (seen new.wire).given ≡ (seen old.wire).given ++ came
     pub framed : old.rest ++ came ≡ stream_octets ins ++ rest
-    pub took : LinkLives old.acceptor old.session (map Took ins) mid
-    pub gave : LinkLives old.acceptor mid (map Gave outs) new.session
+    pub took : LinkLives by.owner old.acceptor (at old.session by.before) (map Took ins) mid
+    pub gave : LinkLives by.owner old.acceptor mid (map Gave outs) (at new.session by.after)
     pub went_out : (seen new.wire).taken ≡ (seen old.wire).taken ++ went
     pub sent : went ++ left ≡ old.out ++ stream_octets outs
     pub acceptor : new.acceptor ≡ old.acceptor
@@ -67,7 +69,7 @@ module _ {W : Type 0} (seen : W → WireSeen) (old new : LinkValue W) where
     pub sound : (seen new.wire).failures ≡ (seen old.wire).failures
     pub no_end : bye_taken old.session ≡ false → (seen new.wire).ends ≡ (seen old.wire).ends
     pub part : IsPart new.rest
-    pub all : HoldsNone new.session (moves.went ++ new.out)
+    pub all : HoldsNone by.owner by.after new.session (moves.went ++ new.out)
     pub whole : new.failed ≡ false
 
   -- the rest begins with a frame that was not taken, for this reason
@@ -76,13 +78,13 @@ module _ {W : Type 0} (seen : W → WireSeen) (old new : LinkValue W) where
       (f : Frame) × (more : List ℕ) × IsFrame f × (rest ≡ frame_octets f ++ more) × Refuses f
 
   -- the reason of a cause
-  abbrev pub IsReason : Cause → List ℕ → Option SessionValue → Type 0
+  abbrev pub IsReason : Cause → List ℕ → LinkState → Type 0
   IsReason End rest mid =
       ((seen new.wire).ends ≡ (seen old.wire).ends + 1) × (bye_taken old.session ≡ false)
   IsReason Fault rest mid = Unit {0}
   IsReason BadFrame rest mid = ShowsFault rest
-  IsReason BadSession rest mid = StopsAt (SessionRefuses old.acceptor mid) rest
-  IsReason Book rest mid = StopsAt BookRefuses rest
+  IsReason BadSession rest mid = StopsAt (SessionRefuses old.acceptor mid.session) rest
+  IsReason Book rest mid = StopsAt (BookRefuses by.owner mid.counts) rest
   IsReason Memory rest mid = Unit {0}
 
   -- a turn at which the link broke: the rest was not taken, and what is left has not gone
@@ -131,24 +133,24 @@ link_of parts failed = record {
 }
 
 -- the parts of a link that has not failed
-module _ {W : Type 0} (seen : W → WireSeen) (old new : Parts W) where
+module _ {W : Type 0} (seen : W → WireSeen) (by : ByPass) (old new : Parts W) where
   -- this, or the link broke
   abbrev pub OrBreaks : {A : Type 0} → (A → Type 0) → Result A Cause → Type 0
   OrBreaks Fine (Ok x) = Fine x
   OrBreaks Fine (Err cause) =
-      Breaks seen (link_of old false) (link_of new true) cause
+      Breaks seen by (link_of old false) (link_of new true) cause
 
   -- the link heard, and so many octets came
   abbrev pub TakesIn : Result ℕ Cause → Type 0
   TakesIn result = OrBreaks
-      (λ n. (h : Heard seen (link_of old false) (link_of new false))
+      (λ n. (h : Heard seen by (link_of old false) (link_of new false))
       × (length h.moves.came ≡ n))
       result
 
   abbrev pub Listens : Result Turn Cause → Type 0
   Listens result =
-      OrBreaks (Hears seen (link_of old false) (link_of new false)) result
+      OrBreaks (Hears seen by (link_of old false) (link_of new false)) result
 
   abbrev pub Works : Result Turn Cause → Type 0
   Works result =
-      OrBreaks (Turns seen (link_of old false) (link_of new false)) result
+      OrBreaks (Turns seen by (link_of old false) (link_of new false)) result

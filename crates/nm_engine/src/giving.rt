@@ -2,8 +2,7 @@
 
 ghost use Rattle.std.specs.Prelude.{◌≡◌, ◌+◌, ◌<◌, ◌≤◌, true, false, Ok, IfOk, length};
 ghost use Rattle.nm_engine.specs.Giving.{GivesOr, HoldsNone, OwesNone};
-ghost use Rattle.nm_engine.specs.Acceptor.{AcceptorValue};
-ghost use Rattle.std.specs.Prelude.{Option};
+ghost use Rattle.nm_engine.specs.Passes.{counted_by, owner_if, reached};
 
 use crate::acts::NextOut;
 use crate::out::OutBuffer;
@@ -21,9 +20,12 @@ fn give_one<C: Counts, R: Wait>(
     pass: &mut Pass<C>,
     out: &mut OutBuffer,
 ) -> Result<bool, AllocError>
-    ensures gives { (h : Option AcceptorValue) → GivesOr h session.old session.new out.old.items
-        out.new.items result }
-    ensures none { result ≡ Ok false → OwesNone session.new }
+    ensures gives { GivesOr (owner_if C.exact C.home)
+        (reached C.exact C.messages_of C.events_of session.old pass.old.share)
+        (reached C.exact C.messages_of C.events_of session.new pass.new.share)
+        out.old.items out.new.items result }
+    ensures none { result ≡ Ok false → OwesNone (owner_if C.exact C.home)
+        (counted_by C.exact C.messages_of C.events_of pass.new.share) session.new }
     ensures more { result ≡ Ok true → length out.old.items < length out.new.items }
     ensures most { length out.new.items ≤ length out.old.items + MAX_FRAME_OCTETS }
 {
@@ -51,9 +53,12 @@ pub(crate) fn give_all<C: Counts, R: Wait>(
     out: &mut OutBuffer,
 ) -> Result<(), AllocError>
     requires { length out.old.items ≤ MAX_OUT_OCTETS }
-    ensures gives { (h : Option AcceptorValue) → GivesOr h session.old session.new out.old.items
-        out.new.items result }
-    ensures all { IfOk result (λ _. HoldsNone session.new out.new.items) }
+    ensures gives { GivesOr (owner_if C.exact C.home)
+        (reached C.exact C.messages_of C.events_of session.old pass.old.share)
+        (reached C.exact C.messages_of C.events_of session.new pass.new.share)
+        out.old.items out.new.items result }
+    ensures all { IfOk result (λ _. HoldsNone (owner_if C.exact C.home)
+        (counted_by C.exact C.messages_of C.events_of pass.new.share) session.new out.new.items) }
     ensures most { length out.new.items ≤ MAX_OUT_OCTETS }
 {
     while out.len() < FULL_OUT_OCTETS {

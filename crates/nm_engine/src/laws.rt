@@ -15,6 +15,7 @@ ghost use Rattle.nm_engine.specs.Giving.{OwesNone};
 ghost use Rattle.nm_engine.specs.Link.{LinkValue};
 ghost use Rattle.nm_engine.specs.Lives.{LinkLives};
 ghost use Rattle.nm_engine.specs.Many.{Accounts, GoesOn, HasDue};
+ghost use Rattle.nm_engine.specs.Passes.{ByPass, IsMet, LinkState, Owner};
 ghost use Rattle.nm_engine.specs.Turn.{Hears, Turns, Went};
 ghost use Rattle.nm_frames.specs.declared.frame.Frame.TheVariants.{Data, Null};
 ghost use Rattle.nm_frames.specs.Lives.{AreConsecutive, SessionStep, Took, due_after};
@@ -34,35 +35,38 @@ pub fn nothing_is_lost<W>()
 /// is due there: that of the session's cursor or of the peer's last Have, and then one more each
 /// time.
 pub fn messages_are_consecutive()
-    ensures { (h : Option AcceptorValue) (s t : Option SessionValue) (steps : List SessionStep)
-        (c : ℕ) (due : Option ℕ) → HasDue c due s → LinkLives h s steps t
-        → AreConsecutive c due steps × HasDue c (due_after c due steps) t }
+    ensures { (o : Owner) (h : Option AcceptorValue) (x y : LinkState)
+        (steps : List SessionStep) (c : ℕ) (due : Option ℕ) → HasDue c due x.session
+        → LinkLives o h x steps y
+        → AreConsecutive c due steps × HasDue c (due_after c due steps) y.session }
 {}
 
 /// What turns leave. After one that answers `Ended` all octets are out, and both sides have said
 /// Bye. One that went well read at most 65,536 octets, and held frames back only where 131,072
 /// octets or more stood in the buffer before it wrote.
 pub fn what_turns_leave<W>()
-    ensures ended { (seen : W → WireSeen) (old new : LinkValue W) → Turns seen old new Ended
-        → (new.out ≡ []) × (s : SessionValue) × (new.session ≡ Some s)
+    ensures ended { (seen : W → WireSeen) (by : ByPass) (old new : LinkValue W)
+        → Turns seen by old new Ended → (new.out ≡ []) × (s : SessionValue) × (new.session ≡ Some s)
         × (s.bye_given ≡ true) × (s.bye_taken ≡ true) }
-    ensures heard { (seen : W → WireSeen) (old new : LinkValue W) → Hears seen old new Ended
-        → (new.out ≡ []) × (s : SessionValue) × (new.session ≡ Some s)
+    ensures heard { (seen : W → WireSeen) (by : ByPass) (old new : LinkValue W)
+        → Hears seen by old new Ended → (new.out ≡ []) × (s : SessionValue) × (new.session ≡ Some s)
         × (s.bye_given ≡ true) × (s.bye_taken ≡ true) }
-    ensures read { (seen : W → WireSeen) (old new : LinkValue W) (w : Went seen old new)
-        → length w.moves.came ≤ 65_536 }
-    ensures given { (seen : W → WireSeen) (old new : LinkValue W) (w : Went seen old new)
-        → length (w.moves.went ++ new.out) < 131_072 → OwesNone new.session }
+    ensures read { (seen : W → WireSeen) (by : ByPass) (old new : LinkValue W)
+        (w : Went seen by old new) → length w.moves.came ≤ 65_536 }
+    ensures given { (seen : W → WireSeen) (by : ByPass) (old new : LinkValue W)
+        (w : Went seen by old new) → length (w.moves.went ++ new.out) < 131_072
+        → OwesNone by.owner by.after new.session }
 {}
 
-/// Each message and each null message that a link's session took was taken in by a book.
+/// Each message and each null message that a link's session took was taken in by a book, which is
+/// that of the pass's replica where counts are exact, and had no less than the pass had counted.
 pub fn what_is_taken_is_told()
-    ensures message { (h : Option AcceptorValue) (s t : Option SessionValue)
-        (steps : List SessionStep) (d : DataValue) → LinkLives h s (Took (Data d) ∷ steps) t
-        → (b c : BookValue) × (a : Accepted)
+    ensures message { (o : Owner) (h : Option AcceptorValue) (x y : LinkState)
+        (steps : List SessionStep) (d : DataValue) → LinkLives o h x (Took (Data d) ∷ steps) y
+        → (b c : BookValue) × (a : Accepted) × IsMet o x.counts b
         × Takes b c d.channel (message_taken b.knows (message.Data d)) (Ok a) }
-    ensures null { (h : Option AcceptorValue) (s t : Option SessionValue)
-        (steps : List SessionStep) (n : NullValue) → LinkLives h s (Took (Null n) ∷ steps) t
-        → (b c : BookValue) × (a : Accepted)
+    ensures null { (o : Owner) (h : Option AcceptorValue) (x y : LinkState)
+        (steps : List SessionStep) (n : NullValue) → LinkLives o h x (Took (Null n) ∷ steps) y
+        → (b c : BookValue) × (a : Accepted) × IsMet o x.counts b
         × Takes b c n.channel (message_taken b.knows (message.Null n)) (Ok a) }
 {}

@@ -2,6 +2,7 @@
 
 ghost use Rattle.std.specs.Prelude.{◌≡◌, Some, None, [], false};
 ghost use Rattle.nm_engine.specs.Link.{IsBounded, greeted_by, has_greeted};
+ghost use Rattle.nm_engine.specs.Passes.{by_pass};
 ghost use Rattle.nm_engine.specs.Turn.{Hears, Turns};
 
 use crate::acceptor::Acceptor;
@@ -179,7 +180,8 @@ impl<W: Wire> Link<W> {
         pass: &mut Pass<C>,
         buffer: &mut ReadBuffer,
     ) -> Turn
-        ensures hears { Hears W.seen self.old self.new result }
+        ensures hears { Hears W.seen (by_pass C.exact C.home C.messages_of C.events_of
+            pass.old.share pass.new.share) self.old self.new result }
         ensures bounded { IsBounded self.new.rest self.new.out }
     {
         if self.failed {
@@ -196,7 +198,8 @@ impl<W: Wire> Link<W> {
 
     /// Reads at most 65,536 octets once and takes the frames that came whole; then puts the frames
     /// that the session owes into the buffer, until it has 131,072 octets or more; then writes
-    /// once. What the frames were for is told the book.
+    /// once. What the frames were for is told the book, which has no less than the pass has counted,
+    /// and a message that is new to it is counted by the pass.
     pub fn turn<C: Counts, R: Wait>(
         &mut self,
         rt: &R,
@@ -205,7 +208,8 @@ impl<W: Wire> Link<W> {
         pass: &mut Pass<C>,
         buffer: &mut ReadBuffer,
     ) -> Turn
-        ensures turns { Turns W.seen self.old self.new result }
+        ensures turns { Turns W.seen (by_pass C.exact C.home C.messages_of C.events_of
+            pass.old.share pass.new.share) self.old self.new result }
         ensures bounded { IsBounded self.new.rest self.new.out }
     {
         if self.failed {

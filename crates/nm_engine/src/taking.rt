@@ -4,6 +4,7 @@ ghost use Rattle.std.specs.Prelude.{◌≡◌, Option, Some};
 ghost use Rattle.std.specs.List.{AllByRecursion};
 ghost use Rattle.nm_frames.specs.Frame.{IsFrame};
 ghost use Rattle.nm_engine.specs.Acceptor.{AcceptorValue};
+ghost use Rattle.nm_engine.specs.Passes.{counted_by, owner_if, reached};
 ghost use Rattle.nm_engine.specs.Taking.{TakesAll, TakesOne, Tells};
 
 use crate::answer::Cause;
@@ -15,14 +16,16 @@ use nm_shared::{Counts, Pass, SharedBook};
 use std::alloc::Global;
 use std::sync::Wait;
 
-/// Hands a message to the book.
+/// Hands a message to the book. The pass counts it where it is new.
 fn tell<C: Counts, R: Wait>(
     rt: &R,
     book: &SharedBook<C>,
     pass: &mut Pass<C>,
     message: &ChannelMessage,
 ) -> Result<(), Cause>
-    ensures { Tells message.now result }
+    ensures { Tells (owner_if C.exact C.home)
+        (counted_by C.exact C.messages_of C.events_of pass.old.share)
+        (counted_by C.exact C.messages_of C.events_of pass.new.share) message.now result }
 {
     match book.accept(rt, pass, message) {
         Ok(_) => Ok(()),
@@ -40,7 +43,9 @@ fn take_later<C: Counts, R: Wait>(
     frame: Frame,
 ) -> Result<(), Cause>
     ensures { (h : Option AcceptorValue)
-        → TakesOne h (Some session.old) frame (Some session.new) result }
+        → TakesOne (owner_if C.exact C.home) h
+        (reached C.exact C.messages_of C.events_of (Some session.old) pass.old.share) frame
+        (reached C.exact C.messages_of C.events_of (Some session.new) pass.new.share) result }
 {
     match session.take(frame) {
         Err(_) => Err(Cause::Session),
@@ -58,7 +63,9 @@ fn take_one<C: Counts, R: Wait>(
     pass: &mut Pass<C>,
     frame: Frame,
 ) -> Result<(), Cause>
-    ensures takes { TakesOne party.old.acceptor party.old.session frame party.new.session result }
+    ensures takes { TakesOne (owner_if C.exact C.home) party.old.acceptor
+        (reached C.exact C.messages_of C.events_of party.old.session pass.old.share) frame
+        (reached C.exact C.messages_of C.events_of party.new.session pass.new.share) result }
     ensures keeps { party.new.acceptor ≡ party.old.acceptor }
 {
     if let Some(session) = &mut party.session {
@@ -81,8 +88,9 @@ pub(crate) fn take_all<C: Counts, R: Wait>(
     frames: Vec<Frame>,
 ) -> Result<(), Cause>
     requires { AllByRecursion IsFrame frames.items }
-    ensures takes { TakesAll party.old.acceptor party.old.session frames.items party.new.session
-        result }
+    ensures takes { TakesAll (owner_if C.exact C.home) party.old.acceptor
+        (reached C.exact C.messages_of C.events_of party.old.session pass.old.share) frames.items
+        (reached C.exact C.messages_of C.events_of party.new.session pass.new.share) result }
     ensures keeps { party.new.acceptor ≡ party.old.acceptor }
 {
     for frame in frames {

@@ -3,6 +3,7 @@
 ghost use Rattle.std.specs.Prelude.{◌≡◌, false, true, IfOk};
 ghost use Rattle.nm_engine.specs.Turn.{HasEnded, Listens, TakesIn, Works, answer_of};
 ghost use Rattle.nm_engine.specs.Link.{IsBounded, bye_taken};
+ghost use Rattle.nm_engine.specs.Passes.{by_pass};
 
 use crate::answer::{Cause, Turn};
 use crate::giving::give_all;
@@ -62,7 +63,8 @@ fn take_in<W: Wire, C: Counts, R: Wait>(
 ) -> Result<usize, Cause>
     requires sound { parts.old.reader.failed ≡ false }
     requires bounded { IsBounded parts.old.reader.rest parts.old.out.items }
-    ensures takes { TakesIn W.seen parts.old parts.new result }
+    ensures takes { TakesIn W.seen (by_pass C.exact C.home C.messages_of C.events_of
+        pass.old.share pass.new.share) parts.old parts.new result }
     ensures bounded { IsBounded parts.new.reader.rest parts.new.out.items }
     ensures sound { IfOk result (λ _. parts.new.reader.failed ≡ false) }
 {
@@ -91,7 +93,8 @@ pub(crate) fn listen<W: Wire, C: Counts, R: Wait>(
 ) -> Result<Turn, Cause>
     requires sound { parts.old.reader.failed ≡ false }
     requires bounded { IsBounded parts.old.reader.rest parts.old.out.items }
-    ensures hears { Listens W.seen parts.old parts.new result }
+    ensures hears { Listens W.seen (by_pass C.exact C.home C.messages_of C.events_of
+        pass.old.share pass.new.share) parts.old parts.new result }
     ensures bounded { IsBounded parts.new.reader.rest parts.new.out.items }
     ensures sound { IfOk result (λ _. parts.new.reader.failed ≡ false) }
 {
@@ -111,7 +114,8 @@ pub(crate) fn work<W: Wire, C: Counts, R: Wait>(
 ) -> Result<Turn, Cause>
     requires sound { parts.old.reader.failed ≡ false }
     requires bounded { IsBounded parts.old.reader.rest parts.old.out.items }
-    ensures works { Works W.seen parts.old parts.new result }
+    ensures works { Works W.seen (by_pass C.exact C.home C.messages_of C.events_of
+        pass.old.share pass.new.share) parts.old parts.new result }
     ensures bounded { IsBounded parts.new.reader.rest parts.new.out.items }
     ensures sound { IfOk result (λ _. parts.new.reader.failed ≡ false) }
 {
