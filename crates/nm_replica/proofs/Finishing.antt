@@ -9,7 +9,10 @@ use Rattle.nm_sim.specs.Network.{net_of}
 use Rattle.nm_book.specs.Book.{BookValue, replica_of, state_of}
 use Rattle.nm_shared.specs.Counted.{Meets}
 use Rattle.nm_shared.specs.Home.{Home, home_of}
-use Rattle.nm_replica.specs.Served.{WasFinished, WasSeen, WereFinished, is_handed_out}
+use Rattle.nm_policy.specs.Contacts.{ContactsValue}
+use Rattle.nm_policy.specs.Stays.{leaves, stayed}
+use Rattle.nm_policy.specs.declared.staying.Stay.{Stay}
+use Rattle.nm_replica.specs.Served.{AllWereFinished, HasStayed, WasFinished, WasSeen, WereFinished, is_handed_out}
 use Rattle.nm_replica.specs.Finished.{IsDone}
 use Rattle.nm_replica.specs.declared.acts.Standing.{Standing}
 
@@ -58,3 +61,12 @@ was_last exact own c is_last home is last =
     let equal = both.1 in
     let all : c.handed ≡ length (state_of c).records = grind (arith, nat_tests) in
     (c, home, both.0, (λ no. all))
+
+-- of each replica, whatever was counted of it
+pub all_finished : (exact : Bool) (replicas : ℕ) (counted : List ℕ) → 0 < replicas → WereFinished exact replicas counted → AllWereFinished replicas
+all_finished exact replicas counted some all = (some, λ n low. let is = all n low in (is.0, is.2))
+
+-- a replica that stayed, and may leave
+pub has_stayed : (ran_out : Bool) (contacts : ContactsValue) (old mid new : Stay) (may : Bool) → mid ≡ old → new ≡ stayed ran_out contacts mid → may ≡ leaves contacts new → may ≡ true
+    → HasStayed ran_out contacts old new
+has_stayed ran_out contacts old mid new may same stays is left = (stays ∙ ap (stayed ran_out contacts) same, sym is ∙ left)

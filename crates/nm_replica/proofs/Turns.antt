@@ -7,13 +7,14 @@ use Rattle.slab.proofs.SlabLemmas.{Updates-with_value}
 use Rattle.nm_base.specs.Count.{saturated}
 use Rattle.nm_base.specs.Wire.{WireSeen}
 use Rattle.nm_engine.specs.Link.{LinkValue}
+use Rattle.nm_engine.specs.Passes.{ByPass, Owner}
 use Rattle.nm_engine.specs.declared.answer.Turn.{Turn}
 use Rattle.nm_engine.specs.declared.answer.Turn.TheVariants as turn
 use Rattle.nm_policy.specs.Contact.{does_count}
 use Rattle.nm_policy.specs.Contacts.{contact_at, is_slot}
 use Rattle.nm_replica.specs.Connections.{WaitsOnce}
 use Rattle.nm_replica.specs.Moved.{CountsMoves, CountsMovesAt}
-use Rattle.nm_replica.specs.Turns.{GivesTurns, HasTurns, HasTurnsAt, Progresses, ServesAll, ServesKeys, ServesTwice, SettlesKey, TurnsAs, WaitsAndServes, has_moved}
+use Rattle.nm_replica.specs.Turns.{GivesTurns, HasTurns, HasTurnsAt, Links, Progresses, ServesAll, ServesKeys, ServesTwice, SettlesKey, TurnsAs, WaitsAndServes, has_moved}
 use Rattle.nm_replica.specs.declared.connection.Connection.{Connection}
 use Rattle.nm_replica.specs.declared.connections.Connections.{Connections}
 use Rattle.nm_replica.specs.declared.limits.TheConstants.{MAX_TURNS}
@@ -29,31 +30,32 @@ is_progress turn.Ended is = absurd (true≢false (sym is))
 is_progress (turn.Broken cause) is = absurd (true≢false (sym is))
 is_progress turn.Failed is = absurd (true≢false (sym is))
 
-module _ {W : Type 0} (seen : W → WireSeen) where
+module _ {W : Type 0} (seen : W → WireSeen) (o : Owner) where
   -- one more turn of a link, in which something moved
-  pub progresses_more : (does : Does) (n : ℕ) (old mid new : LinkValue W) (last : Turn) → Progresses seen does n old mid → TurnsAs seen does mid new last → has_moved last ≡ true
-      → Progresses seen does (n + 1) old new
-  progresses_more does n old mid new last before one is = rw add-one (mid, before, subst (TurnsAs seen does mid new) (is_progress last is) one)
+  pub progresses_more : (by : ByPass) (does : Does) (n : ℕ) (old mid new : LinkValue W) (last : Turn) → by.owner ≡ o → Progresses seen o does n old mid → TurnsAs seen by does mid new last → has_moved last ≡ true
+      → Progresses seen o does (n + 1) old new
+  progresses_more by does n old mid new last own before one is = rw add-one (mid, before, (by, own, subst (TurnsAs seen by does mid new) (is_progress last is) one))
 
   -- it has had all its turns
-  pub has_had_all : (does : Does) (n most : ℕ) (old new : LinkValue W) → n ≡ most → Progresses seen does n old new → HasTurns seen does most old new turn.Progress
-  has_had_all does n most old new all before = inl (n, all, before, refl)
+  pub has_had_all : (does : Does) (n : ℕ) (old new : LinkValue W) → n ≡ MAX_TURNS → Progresses seen o does n old new → HasTurns seen o does old new turn.Progress
+  has_had_all does n old new all before = inl (n, all, before, refl)
 
   -- in its last turn nothing moved, or it was over
-  pub has_had_last : (does : Does) (n most : ℕ) (old mid new : LinkValue W) (last : Turn) → n < most → Progresses seen does n old mid → TurnsAs seen does mid new last → has_moved last ≡ false
-      → HasTurns seen does most old new last
-  has_had_last does n most old mid new last low before one other = inr (n, mid, low, before, one, other)
+  pub has_had_last : (by : ByPass) (does : Does) (n : ℕ) (old mid new : LinkValue W) (last : Turn) → by.owner ≡ o → n < MAX_TURNS → Progresses seen o does n old mid → TurnsAs seen by does mid new last → has_moved last ≡ false
+      → HasTurns seen o does old new last
+  has_had_last by does n old mid new last own low before one other = inr (n, mid, low, before, (by, own, one), other)
 
+module _ {W : Type 0} (l : Links W) where
   -- a connection had its turns, and what moved was counted
   pub gives_turns : (does : Does) (key : ℕ) (old : Connections W) (was now : Connection W) (link : LinkValue _) (counts : Bool) (last : Turn) (m : Moves) → get old.open key ≡ Some was
-      → counts ≡ is_slot does_count (contact_at old.contacts.connections key) → now.link ≡ link → HasTurns (λ w. seen w.wire) does MAX_TURNS was.link link last
-      → CountsMoves counts (record was { link = link }) now m → GivesTurns key old (record old { «open» = with_value old.open key now }) seen does last m
+      → counts ≡ is_slot does_count (contact_at old.contacts.connections key) → now.link ≡ link → HasTurns (λ w. l.seen w.wire) l.owner does was.link link last
+      → CountsMoves counts (record was { link = link }) now m → GivesTurns key old (record old { «open» = with_value old.open key now }) l does last m
   gives_turns does key old was now link counts last m at is same turns counted =
       let up = Updates-with_value old.open key now (subst IsSome (sym at) refl) in
       record {
-        talked = subst (λ o. HasTurnsAt seen does o (get (with_value old.open key now) key) last) (sym at)
-            (subst (λ o. IsSomeAnd o (λ c. HasTurns (λ w. seen w.wire) does MAX_TURNS was.link c.link last)) (sym up.changed)
-            (subst (λ l. HasTurns (λ w. seen w.wire) does MAX_TURNS was.link l last) (sym same) turns));
+        talked = subst (λ o. HasTurnsAt l does o (get (with_value old.open key now) key) last) (sym at)
+            (subst (λ o. IsSomeAnd o (λ c. HasTurns (λ w. l.seen w.wire) l.owner does was.link c.link last)) (sym up.changed)
+            (subst (λ k. HasTurns (λ w. l.seen w.wire) l.owner does was.link k last) (sym same) turns));
         moved = subst (λ b. CountsMovesAt b (get old.open key) (get (with_value old.open key now) key) m) is
             (subst (λ o. CountsMovesAt counts o (get (with_value old.open key now) key) m) (sym at)
             (subst (λ o. IsSomeAnd o (λ c. CountsMoves counts was c m)) (sym up.changed)
@@ -72,23 +74,23 @@ module _ {W : Type 0} (seen : W → WireSeen) where
 
   -- one more key was served
   pub serves_one_more : (does : Does) (key : ℕ) (old mid turned new : Connections W) (told counted : ℕ) (last : Turn) (m : Moves) (moved octets : ℕ)
-      → ServesKeys seen does key old mid told counted → GivesTurns key mid turned seen does last m → SettlesKey key turned new last m.has_heard
-      → moved ≡ saturated (told + m.moved) → octets ≡ saturated (counted + m.octets) → ServesKeys seen does (key + 1) old new moved octets
+      → ServesKeys l does key old mid told counted → GivesTurns key mid turned l does last m → SettlesKey key turned new last m.has_heard
+      → moved ≡ saturated (told + m.moved) → octets ≡ saturated (counted + m.octets) → ServesKeys l does (key + 1) old new moved octets
   serves_one_more does key old mid turned new told counted last m moved octets so_far had settled sum sum' =
       rw add-one (mid, told, counted, m, so_far, (turned, last, had, settled), sum, sum')
 
   -- all keys were served
-  pub serves_all : (does : Does) (old new : Connections W) (key end moved octets : ℕ) → length old.open.slots ≤ end → key ≡ end → ServesKeys seen does key old new moved octets
-      → ServesAll seen does old new moved octets
-  serves_all does old new key end moved octets most last served = (end, most, subst (λ (n : ℕ). ServesKeys seen does n old new moved octets) last served)
+  pub serves_all : (does : Does) (old new : Connections W) (key end moved octets : ℕ) → length old.open.slots ≤ end → key ≡ end → ServesKeys l does key old new moved octets
+      → ServesAll l does old new moved octets
+  serves_all does old new key end moved octets most last served = (end, most, subst (λ (n : ℕ). ServesKeys l does n old new moved octets) last served)
 
   -- all keys were served, and then once more
-  pub serves_twice : (old heard new : Connections W) (told counted told' counted' moved octets : ℕ) → ServesAll seen Hear old heard told counted
-      → ServesAll seen Speak heard new told' counted' → moved ≡ saturated (told + told') → octets ≡ saturated (counted + counted') → ServesTwice seen old new moved octets
+  pub serves_twice : (old heard new : Connections W) (told counted told' counted' moved octets : ℕ) → ServesAll l Hear old heard told counted
+      → ServesAll l Speak heard new told' counted' → moved ≡ saturated (told + told') → octets ≡ saturated (counted + counted') → ServesTwice l old new moved octets
   serves_twice old heard new told counted told' counted' moved octets first second sum sum' = (heard, told, counted, told', counted', first, second, sum, sum')
 
   -- all keys were served twice after a wait, and nothing was done with connections since
   pub waits_and_serves : (ran_out : Bool) (old waited served new : Connections W) (moved octets : ℕ) → WaitsOnce ran_out old.contacts waited.contacts
-      → ServesTwice seen waited served moved octets → new ≡ served → WaitsAndServes seen ran_out old new moved octets
+      → ServesTwice l waited served moved octets → new ≡ served → WaitsAndServes l ran_out old new moved octets
   waits_and_serves ran_out old waited served new moved octets waits serves same =
-      (waited, waits, subst (λ (c : Connections W). ServesTwice seen waited c moved octets) (sym same) serves)
+      (waited, waits, subst (λ (c : Connections W). ServesTwice l waited c moved octets) (sym same) serves)

@@ -1,6 +1,9 @@
 -- What polls come to: how long nothing was ready or done, and when serving ends by it.
-use Rattle.std.specs.Prelude.{ℕ, ◌+◌, Bool, true, false, nat_le, nat_lt, ◌||◌, Option, Some, None, if◌then◌else◌}
+use Rattle.std.specs.Prelude.{ℕ, ◌+◌, Bool, true, false, nat_le, nat_lt, ◌||◌, Option, Some, None, Result, Ok, Err, if◌then◌else◌}
+use Rattle.std.specs.declared.alloc.AllocError.{AllocError}
 use Rattle.nm_base.specs.Count.{saturated}
+use Rattle.nm_book.specs.declared.running.Ran.{Ran}
+use Rattle.nm_book.specs.declared.running.Ran.TheVariants.{All, Limit, Memory}
 use Rattle.nm_replica.specs.declared.served.Served.{Served}
 use Rattle.nm_replica.specs.declared.served.Served.TheVariants.{Ended, Stalled}
 
@@ -13,6 +16,12 @@ is_active octets written was_run = nat_lt 0 octets || nat_lt 0 written || was_ru
 abbrev pub idle_after : (before : ℕ) → (was_active ran_out : Bool) → ℕ
 idle_after before true ran_out = 0
 idle_after before false ran_out = if ran_out then saturated (before + 1) else before
+
+-- whether a run of the book left events to do, or memory was refused to it
+abbrev pub was_cut : Ran → Result Bool AllocError
+was_cut (All n) = Ok false
+was_cut (Limit n) = Ok true
+was_cut (Memory n) = Err (record {})
 
 -- how serving ends after a poll, if it does: it is done, or so many periods in a row were idle as
 -- its limit says

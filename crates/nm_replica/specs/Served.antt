@@ -14,6 +14,9 @@ use Rattle.nm_replica.specs.declared.acts.Standing.{Standing}
 use Rattle.nm_replica.specs.declared.served.Served.{Served}
 use Rattle.nm_replica.specs.declared.serving.Polled.{Polled}
 use Rattle.nm_replica.specs.declared.served.Served.TheVariants.{Ended, Net, Memory, File, Stalled}
+use Rattle.nm_policy.specs.Contacts.{ContactsValue}
+use Rattle.nm_policy.specs.Stays.{leaves, stayed}
+use Rattle.nm_policy.specs.declared.staying.Stay.{Stay}
 use Rattle.nm_replica.specs.Finished.{IsDone}
 use Rattle.nm_replica.specs.Polls.{ending_of, idle_after, is_active}
 use Rattle.nm_replica.specs.declared.limits.TheConstants.{MAX_POLLS}
@@ -59,6 +62,17 @@ abbrev pub WereFinished : (exact : Bool) → (replicas : ℕ) → (counted : Lis
 WereFinished exact replicas counted =
     (n : ℕ) → n < replicas
     → (b : BookValue) × (exact ≡ true → slice_index_or counted n 0 ≤ b.events) × IsDone b
+
+-- There are other replicas, so many with the own, and of each a book was seen to be done.
+abbrev pub AllWereFinished : (replicas : ℕ) → Type 0
+AllWereFinished replicas =
+    (0 < replicas) × ((n : ℕ) → n < replicas → (b : BookValue) × IsDone b)
+
+-- At a poll, which ran out or not, a replica has stayed for one period more or for none, as its
+-- contacts then are, and may leave.
+abbrev pub HasStayed : (ran_out : Bool) → ContactsValue → (old new : Stay) → Type 0
+HasStayed ran_out contacts old new =
+    (new ≡ stayed ran_out contacts old) × (leaves contacts new ≡ true)
 
 -- A replica's book was seen to have something left to do; or there is no other replica, or not a
 -- pass for each.

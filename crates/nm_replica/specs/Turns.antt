@@ -3,11 +3,13 @@ use Rattle.std.specs.Prelude.{◌≡◌, ◌≢◌, ◌⊎◌, ℕ, suc, zero, �
 use Rattle.nm_base.specs.Count.{saturated}
 use Rattle.nm_base.specs.Wire.{WireSeen}
 use Rattle.nm_engine.specs.Link.{LinkValue}
+use Rattle.nm_engine.specs.Passes.{ByPass, Owner, owner_if}
 use Rattle.nm_engine.specs.Turn.{Hears, Turns}
 use Rattle.nm_engine.specs.declared.answer.Turn.{Turn}
 use Rattle.nm_engine.specs.declared.answer.Turn.TheVariants as turn
 use Rattle.nm_policy.specs.Contact.{does_count}
 use Rattle.nm_policy.specs.Contacts.{contact_at, is_slot}
+use Rattle.nm_shared.specs.Home.{Home}
 use Rattle.slab.specs.Slab.{Slab, get}
 use Rattle.nm_replica.specs.Connections.{SettlesAs, WaitsOnce, is_abandoned, known_after}
 use Rattle.nm_replica.specs.Moved.{CountsMovesAt}
@@ -26,31 +28,46 @@ has_moved turn.Ended = false
 has_moved (turn.Broken cause) = false
 has_moved turn.Failed = false
 
+-- What its links do, of a replica: what is seen of their wires, and whose book they act on.
+pub record Links (W : Type 0) : Type 0 where
+  pub seen : W → WireSeen
+  pub owner : Owner
+
+abbrev pub links : {W : Type 0} → (W → WireSeen) → Bool → Home → Links W
+links seen exact home = record { seen = seen; owner = owner_if exact home }
+
 -- The turns of one link, in each of which it only hears, or speaks too.
 module _ {W : Type 0} (seen : W → WireSeen) where
-  abbrev pub TurnsAs : Does → (old new : LinkValue W) → Turn → Type 0
-  TurnsAs Hear old new turn = Hears seen old new turn
-  TurnsAs Speak old new turn = Turns seen old new turn
+  -- one turn, by the pass of the replica's book
+  abbrev pub TurnsAs : ByPass → Does → (old new : LinkValue W) → Turn → Type 0
+  TurnsAs by Hear old new turn = Hears seen by old new turn
+  TurnsAs by Speak old new turn = Turns seen by old new turn
 
-  -- so many, in each of which something moved
-  abbrev pub Progresses : Does → ℕ → (old new : LinkValue W) → Type 0
-  Progresses does zero old new = new ≡ old
-  Progresses does (suc n) old new =
-      (mid : LinkValue W) × Progresses does n old mid × TurnsAs does mid new turn.Progress
+  module _ (o : Owner) where
+    -- whatever the pass had counted
+    abbrev pub TurnsOnce : Does → (old new : LinkValue W) → Turn → Type 0
+    TurnsOnce does old new turn =
+        (by : ByPass) × (by.owner ≡ o) × TurnsAs by does old new turn
 
-  -- as many as it may have, or up to the first in which nothing moved or which was the last
-  abbrev pub HasTurns : Does → (most : ℕ) → (old new : LinkValue W) → Turn → Type 0
-  HasTurns does most old new last =
-      ((n : ℕ) × (n ≡ most) × Progresses does n old new × (last ≡ turn.Progress))
-      ⊎ ((n : ℕ) × (mid : LinkValue W) × (n < most) × Progresses does n old mid
-      × TurnsAs does mid new last × (has_moved last ≡ false))
+    -- so many, in each of which something moved
+    abbrev pub Progresses : Does → ℕ → (old new : LinkValue W) → Type 0
+    Progresses does zero old new = new ≡ old
+    Progresses does (suc n) old new =
+        (mid : LinkValue W) × Progresses does n old mid × TurnsOnce does mid new turn.Progress
+
+    -- as many as it may have, or up to the first in which nothing moved or which was the last
+    abbrev pub HasTurns : Does → (old new : LinkValue W) → Turn → Type 0
+    HasTurns does old new last =
+        ((n : ℕ) × (n ≡ MAX_TURNS) × Progresses does n old new × (last ≡ turn.Progress))
+        ⊎ ((n : ℕ) × (mid : LinkValue W) × (n < MAX_TURNS) × Progresses does n old mid
+        × TurnsOnce does mid new last × (has_moved last ≡ false))
 
 -- the same under a key: no turn where no connection has it
-abbrev pub HasTurnsAt : {W : Type 0} → (W → WireSeen) → Does → (old new : Option (Connection W))
-    → Turn → Type 0
-HasTurnsAt seen does None new last = last ≡ turn.Idle
-HasTurnsAt seen does (Some old) new last =
-    IsSomeAnd new (λ c. HasTurns (λ w. seen w.wire) does MAX_TURNS old.link c.link last)
+abbrev pub HasTurnsAt : {W : Type 0} → Links W → Does → (old new : Option (Connection W)) → Turn
+    → Type 0
+HasTurnsAt l does None new last = last ≡ turn.Idle
+HasTurnsAt l does (Some old) new last =
+    IsSomeAnd new (λ c. HasTurns (λ w. l.seen w.wire) l.owner does old.link c.link last)
 
 -- no other key has another connection than before
 abbrev pub KeepsOthers : {W : Type 0} → ℕ → (old new : Slab (Connection W)) → Type 0
@@ -69,8 +86,8 @@ kept_after turn.Failed abandoned connection = connection
 module _ {W : Type 0} (key : ℕ) (old new : Connections W) where
   -- the connection with the key, if there is one, has its turns, of which this was the last, and its
   -- octets count once its greeting is over; nothing else changes
-  pub record GivesTurns (seen : W → WireSeen) (does : Does) (last : Turn) (m : Moves) : Type 0 where
-    pub talked : HasTurnsAt seen does (get old.open key) (get new.open key) last
+  pub record GivesTurns (l : Links W) (does : Does) (last : Turn) (m : Moves) : Type 0 where
+    pub talked : HasTurnsAt l does (get old.open key) (get new.open key) last
     pub moved : CountsMovesAt (is_slot does_count (contact_at old.contacts.connections key))
         (get old.open key) (get new.open key) m
     pub others : KeepsOthers key old.open new.open
@@ -87,12 +104,12 @@ module _ {W : Type 0} (key : ℕ) (old new : Connections W) where
         (get old.open key)) (get old.open key)
     pub others : KeepsOthers key old.open new.open
 
-module _ {W : Type 0} (seen : W → WireSeen) where
+module _ {W : Type 0} (l : Links W) where
   -- a key is served: its connection has its turns, and what the last of them asks for is done
   abbrev pub ServesKey : Does → ℕ → (old new : Connections W) → Moves → Type 0
   ServesKey does key old new m =
       (turned : Connections W) × (last : Turn)
-      × GivesTurns key old turned seen does last m × SettlesKey key turned new last m.has_heard
+      × GivesTurns key old turned l does last m × SettlesKey key turned new last m.has_heard
 
   -- So many keys are served, one after another. So many octets moved with peers in all, and so many
   -- of them count as activity.

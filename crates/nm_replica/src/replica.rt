@@ -1,12 +1,13 @@
 //! A replica over a transport, until it ends.
 
-ghost use Rattle.std.specs.Prelude.{◌≡◌, ◌==◌, ◌+◌, IfErr, IfOk, OnOk, length, not, true};
+ghost use Rattle.std.specs.Prelude.{◌≡◌, ◌==◌, ◌+◌, ◌⊎◌, IfErr, IfOk, OnOk, length, not, true};
 ghost use Rattle.nm_base.specs.Count.{saturated};
 ghost use Rattle.nm_replica.specs.Polls.{ending_of, idle_after, is_active};
 ghost use Rattle.nm_replica.specs.Recording.{Streamed, Streams, WroteAsCounted};
 ghost use Rattle.nm_replica.specs.Seats.{AreKept, StandOnBoard};
-ghost use Rattle.nm_replica.specs.Served.{EndsEarly, EndsWith, PolledOnce, WasFinished, took_all};
-ghost use Rattle.nm_replica.specs.Turns.{WaitsAndServes};
+ghost use Rattle.nm_replica.specs.Served.{AllWereFinished, EndsEarly, EndsWith, HasStayed};
+ghost use Rattle.nm_replica.specs.Served.{PolledOnce, WasFinished, took_all};
+ghost use Rattle.nm_replica.specs.Turns.{WaitsAndServes, links};
 ghost use Rattle.nm_replica.specs.declared.served.Served.TheVariants.{Net};
 
 use crate::lending::Lending;
@@ -171,12 +172,15 @@ pub fn poll_replica<C: Counts, S: Sink, T: Transport, R: Wait>(
     // Connections waited and had their turns, records were written, and the book did events or not.
     // What is counted of idle periods, and whether serving ends by it, follow from that.
     ensures exact { IfOk result (PolledOnce (λ p.
-        WaitsAndServes T.Connection.seen p.ran_out running.old.serving.connections
-        running.new.serving.connections p.moved p.octets
+        WaitsAndServes (links T.Connection.seen C.exact C.home) p.ran_out
+        running.old.serving.connections running.new.serving.connections p.moved p.octets
         × WroteAsCounted S.seen C.exact C.home p.written
         holdings.old.files.files.items holdings.new.files.files.items
         × (p.was_run ≡ not (running.new.serving.events == running.old.serving.events))
-        × (p.is_done ≡ true → WasFinished C.exact C.home service.now.keeps_records))
+        × (p.is_done ≡ true → WasFinished C.exact C.home service.now.keeps_records)
+        × (p.is_done ≡ true → HasStayed p.ran_out running.new.serving.connections.contacts
+        running.old.serving.stay running.new.serving.stay
+        ⊎ AllWereFinished (length service.now.books.now)))
         service.now.idle_limit running.new.polls (running.old.idle, running.new.idle)
         (T.elapsed_periods transport.old, T.elapsed_periods transport.new)) }
     ensures polls { OnOk result (running.new.polls ≡ saturated (running.old.polls + 1)) }

@@ -1,6 +1,7 @@
 //! One poll of a replica, and what follows it.
 
-ghost use Rattle.std.specs.Prelude.{◌%◌, ◌&&◌, ◌+◌, ◌-◌, ◌==◌, ◌||◌, ◌≡◌, IfErr, IfOk, IfSome};
+ghost use Rattle.std.specs.Prelude.{◌%◌, ◌&&◌, ◌+◌, ◌-◌, ◌==◌, ◌||◌, ◌≡◌, ◌⊎◌, IfErr, IfOk};
+ghost use Rattle.std.specs.Prelude.{IfSome};
 ghost use Rattle.std.specs.Prelude.{OnOk, false, if◌then◌else◌, is_some, length, not, position};
 ghost use Rattle.std.specs.Prelude.{true};
 ghost use Rattle.std.specs.Arc.{arc_value};
@@ -10,13 +11,14 @@ ghost use Rattle.nm_policy.specs.Lasting.{has_lasted, lasted_after};
 ghost use Rattle.nm_policy.specs.Laws.{at_first};
 ghost use Rattle.nm_policy.specs.Stays.{leaves, stayed};
 ghost use Rattle.nm_replica.specs.Connections.{DropsSome, WaitsOnce};
-ghost use Rattle.nm_replica.specs.Polls.{is_active};
+ghost use Rattle.nm_replica.specs.Polls.{is_active, was_cut};
 ghost use Rattle.nm_replica.specs.Recording.{Streamed, Streams, WroteAsCounted};
 ghost use Rattle.nm_replica.specs.Seats.{AreKept, StandOnBoard};
-ghost use Rattle.nm_replica.specs.Served.{EndsEarly, IsInterrupted, WasFinished, WasSeen};
+ghost use Rattle.nm_replica.specs.Served.{AllWereFinished, EndsEarly, HasStayed, IsInterrupted};
+ghost use Rattle.nm_replica.specs.Served.{WasFinished, WasSeen};
 ghost use Rattle.nm_replica.specs.Sessions.{first_sessions};
 ghost use Rattle.nm_replica.specs.Sisters.{MergesSister, is_sister_of, replica_name};
-ghost use Rattle.nm_replica.specs.Turns.{ServesAll, ServesTwice, WaitsAndServes};
+ghost use Rattle.nm_replica.specs.Turns.{ServesAll, ServesTwice, WaitsAndServes, links};
 ghost use Rattle.nm_replica.specs.declared.served.Served.TheVariants.{Net};
 ghost use Rattle.nm_transport.specs.Transport.{elapsed_after};
 
@@ -150,8 +152,9 @@ fn serve_all<T: Transport, C: Counts, R: Wait>(
     ensures counted { IfOk result
         (λ m. serving.new.counted ≡ saturated (serving.old.counted + m.octets)) }
     ensures events { serving.new.events ≡ serving.old.events }
-    ensures served { IfOk result (λ m. ServesAll T.Connection.seen does serving.old.connections
-        serving.new.connections m.moved m.octets) }
+    ensures stay { serving.new.stay ≡ serving.old.stay }
+    ensures served { IfOk result (λ m. ServesAll (links T.Connection.seen C.exact C.home) does
+        serving.old.connections serving.new.connections m.moved m.octets) }
 {
     let talk = Talk {
         alloc: serving.alloc,
@@ -221,7 +224,8 @@ fn bear_shortage<T: Transport>(
         serving.new.connections.contacts }
     ensures kept { (serving.new.moved ≡ serving.old.moved)
         × (serving.new.counted ≡ serving.old.counted)
-        × (serving.new.events ≡ serving.old.events) }
+        × (serving.new.events ≡ serving.old.events)
+        × (serving.new.stay ≡ serving.old.stay) }
 {
     if !transport.is_short() || !serving.connections.contacts.are_missing() {
         serving.short = Lasted::new();
@@ -256,7 +260,8 @@ fn await_transport<T: Transport, C: Counts>(
         serving.new.connections.contacts) }
     ensures kept { (serving.new.moved ≡ serving.old.moved)
         × (serving.new.counted ≡ serving.old.counted)
-        × (serving.new.events ≡ serving.old.events) }
+        × (serving.new.events ≡ serving.old.events)
+        × (serving.new.stay ≡ serving.old.stay) }
 {
     serving.connections.dial_all(alloc, transport)?;
     let may_wait = !serving.is_busy;
@@ -288,6 +293,21 @@ fn goes_on<C: Counts>(service: &Service<'_, C>) -> bool {
     !is_lent
 }
 
+/// Whether a run of the book left events to do.
+///
+/// # Errors
+///
+/// Where memory was refused to it.
+fn was_cut(ran: Ran) -> Result<bool, AllocError>
+    ensures { result ≡ was_cut ran }
+{
+    match ran {
+        Ran::All(_) => Ok(false),
+        Ran::Limit(_) => Ok(true),
+        Ran::Memory(_) => Err(AllocError),
+    }
+}
+
 /// Runs the book, if the replica is to, and looks how far it is: that, and whether it may run on at
 /// once.
 ///
@@ -302,18 +322,12 @@ fn run_book<C: Counts, R: Wait>(
 ) -> Result<(Standing, bool), AllocError>
     ensures { IfOk result (λ s. WasSeen C.exact C.home s.0) }
 {
-    let mut was_cut = false;
     let limit = own_limit(service.lending.is_lent(), service.run_limit);
-    if limit > 0 {
-        match service.book.run(rt, pass, alloc, limit) {
-            Ran::All(_) => {}
-            Ran::Limit(_) => was_cut = goes_on(service),
-            Ran::Memory(_) => return Err(AllocError),
-        }
-    }
+    let is_left = limit > 0 && was_cut(service.book.run(rt, pass, alloc, limit))?;
+    let runs_on = is_left && goes_on(service);
     let standing = service.book.act(rt, pass, Stand);
     note_progress(service, standing.safe, standing.records);
-    Ok((standing, was_cut))
+    Ok((standing, runs_on))
 }
 
 /// Merges what the sister knows after so many polls, where that is to be done then: whether it was,
@@ -401,6 +415,7 @@ fn serve_and_act<C: Counts, S, T: Transport, R: Wait>(
     ensures files { holdings.new.files ≡ holdings.old.files }
     ensures seats { holdings.new.seats ≡ holdings.old.seats }
     ensures passes { length holdings.new.passes.items ≡ length holdings.old.passes.items }
+    ensures stay { serving.new.stay ≡ serving.old.stay }
 
     // What it answers was seen of the book, and an early ending is no success.
     ensures seen { IfOk result (λ a. WasSeen C.exact C.home a.standing) }
@@ -412,8 +427,8 @@ fn serve_and_act<C: Counts, S, T: Transport, R: Wait>(
         (λ a. serving.new.moved ≡ saturated (serving.old.moved + a.moves.moved)) }
     ensures counted { IfOk result
         (λ a. serving.new.counted ≡ saturated (serving.old.counted + a.moves.octets)) }
-    ensures served { IfOk result (λ a. ServesTwice T.Connection.seen serving.old.connections
-        serving.new.connections a.moves.moved a.moves.octets) }
+    ensures served { IfOk result (λ a. ServesTwice (links T.Connection.seen C.exact C.home)
+        serving.old.connections serving.new.connections a.moves.moved a.moves.octets) }
     ensures run { IfOk result (λ a. (serving.new.events ≡ a.standing.events)
         × (a.was_run ≡ not (a.standing.events == serving.old.events))) }
 {
@@ -496,8 +511,8 @@ pub(crate) fn poll<C: Counts, S: Sink, T: Transport, R: Wait>(
         (λ p. serving.new.moved ≡ saturated (serving.old.moved + p.moved)) }
     ensures counted { IfOk result
         (λ p. serving.new.counted ≡ saturated (serving.old.counted + p.octets)) }
-    ensures served { IfOk result (λ p. WaitsAndServes T.Connection.seen p.ran_out
-        serving.old.connections serving.new.connections p.moved p.octets) }
+    ensures served { IfOk result (λ p. WaitsAndServes (links T.Connection.seen C.exact C.home)
+        p.ran_out serving.old.connections serving.new.connections p.moved p.octets) }
     ensures run { IfOk result
         (λ p. p.was_run ≡ not (serving.new.events == serving.old.events)) }
     ensures written { IfOk result (λ p. WroteAsCounted S.seen C.exact C.home p.written
@@ -508,6 +523,9 @@ pub(crate) fn poll<C: Counts, S: Sink, T: Transport, R: Wait>(
         ≡ elapsed_after (T.elapsed_periods transport.old) p.ran_out) }
     ensures done { IfOk result (λ p. p.is_done ≡ true
         → WasFinished C.exact C.home service.now.keeps_records) }
+    ensures leaves { IfOk result (λ p. p.is_done ≡ true
+        → HasStayed p.ran_out serving.new.connections.contacts serving.old.stay serving.new.stay
+        ⊎ AllWereFinished (length service.now.books.now)) }
     ensures early { IfErr result EndsEarly }
 {
     let ran_out = await_transport(alloc, service, transport, serving)?;

@@ -3,9 +3,9 @@
 ghost use Rattle.std.specs.Prelude.{◌+◌, ◌≡◌, None};
 ghost use Rattle.slab.specs.Slab.{get};
 ghost use Rattle.nm_base.specs.Count.{saturated};
+ghost use Rattle.nm_engine.specs.Passes.{by_pass, owner_if};
 ghost use Rattle.nm_replica.specs.Moved.{CountsMoves};
-ghost use Rattle.nm_replica.specs.Turns.{GivesTurns, HasTurns, TurnsAs, has_moved};
-ghost use Rattle.nm_replica.specs.declared.limits.TheConstants.{MAX_TURNS};
+ghost use Rattle.nm_replica.specs.Turns.{GivesTurns, HasTurns, TurnsAs, has_moved, links};
 
 use crate::connection::Connection;
 use crate::connections::Connections;
@@ -87,7 +87,9 @@ fn turn_of<W: Wire, C: Counts, R: Wait>(
     link: &mut Link<CountingWire<W>>,
     buffer: &mut ReadBuffer,
 ) -> Turn
-    ensures { TurnsAs (λ w. W.seen w.wire) talk.now.does link.old link.new result }
+    ensures { TurnsAs (λ w. W.seen w.wire) (by_pass C.exact C.home C.messages_of C.events_of
+        pass.old.share pass.new.share)
+        talk.now.does link.old link.new result }
 {
     match talk.does {
         Does::Hear => link.hear(rt, talk.alloc, talk.book, pass, buffer),
@@ -104,7 +106,8 @@ fn turns_of<W: Wire, C: Counts, R: Wait>(
     link: &mut Link<CountingWire<W>>,
     buffer: &mut ReadBuffer,
 ) -> Turn
-    ensures { HasTurns (λ w. W.seen w.wire) talk.now.does MAX_TURNS link.old link.new result }
+    ensures { HasTurns (λ w. W.seen w.wire) (owner_if C.exact C.home) talk.now.does link.old
+        link.new result }
 {
     for _had in 0..MAX_TURNS {
         let turn = turn_of(rt, talk, pass, link, buffer);
@@ -140,8 +143,8 @@ pub(crate) fn turns<W: Wire, C: Counts, R: Wait>(
     buffer: &mut ReadBuffer,
     key: usize,
 ) -> (Moves, Turn)
-    ensures turned { GivesTurns key connections.old connections.new W.seen talk.now.does
-        result.1 result.0 }
+    ensures turned { GivesTurns key connections.old connections.new
+        (links W.seen C.exact C.home) talk.now.does result.1 result.0 }
     ensures absent { get connections.old.open key ≡ None → connections.new ≡ connections.old }
 {
     let counts = connections.contacts.does_count(key);

@@ -1,7 +1,8 @@
-use Rattle.std.proofs.Common.{◌≡◌, ap, subst, sym, ◌∙◌}
+use Rattle.std.proofs.Common.{◌≡◌, ◌⊎◌, inl, inr, true, length, ap, subst, sym, ◌∙◌, true≢false}
 use Rattle.nm_replica.specs.Recording.{Streamed, Streams}
+use Rattle.nm_replica.specs.Served.{AllWereFinished, HasStayed}
 use Rattle.nm_replica.proofs.Endings.{is_no_net}
-use Rattle.nm_replica.proofs.Finishing.{is_finished}
+use Rattle.nm_replica.proofs.Finishing.{all_finished, has_stayed, is_finished}
 use Rattle.nm_replica.proofs.Recordings.{on_error, on_such_error, streamed_none, streams_none}
 use Rattle.nm_replica.proofs.Turns.{waits_and_serves}
 use Rattle.nm_replica.specs.declared.connections.Connections.{Connections}
@@ -63,3 +64,20 @@ returns-in_err-standing-clause-net g c =
 
 pub returns-in-Err-clause-net : goal.returns-in-Err-clause-net
 returns-in-Err-clause-net g c = λ net. is_no_net c.in-Err.fault (sym c.file_served.ensures.value ∙ net)
+
+pub returns-clause-leaves : goal.returns-clause-leaves
+returns-clause-leaves g c = λ done. elim c.if-may_end.branch [
+  | then-may_end w ↦
+      let may : c.if-standing.may_end ≡ true = w.if-may_end.true in
+      elim c.if-standing.branch [
+        | then-standing+then-may_leave v ↦
+            subst (λ (s : Serving _). HasStayed c.in_ok-ran_out.ran_out s.connections.contacts c.args.serving.now.stay s.stay ⊎ AllWereFinished (length c.args.service.now.books.now)) (sym v.serving-is)
+            (inl (has_stayed c.in_ok-ran_out.ran_out c.serve_and_act.new.serving.connections.contacts c.args.serving.now.stay c.serve_and_act.new.serving.stay v.may_leave.new.stay v.may_leave.result
+            (c.in_ok-standing.ensures.stay ∙ c.in_ok-ran_out.ensures.kept.3) v.may_leave.ensures.stays v.may_leave.ensures.leaves v.if-may_leave.true))
+        | then-standing+else-may_leave v ↦
+            let all : v.all_are_done.result ≡ true = sym v.may_end-is ∙ may in
+            inr (all_finished _ _ _ (v.all_are_done.ensures.some all) (v.all_are_done.ensures.all all))
+        | else-standing v ↦ absurd (true≢false (sym may ∙ v.may_end-is ∙ v.if-standing.false))
+      ]
+  | else-may_end w ↦ absurd cc
+]

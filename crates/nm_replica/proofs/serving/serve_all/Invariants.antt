@@ -1,5 +1,5 @@
 use Rattle.std.proofs.Common.{◌≡◌}
-use Rattle.nm_replica.specs.Turns.{ServesKeys}
+use Rattle.nm_replica.specs.Turns.{ServesKeys, links}
 use Rattle.nm_replica.proofs.serving.serve_all.Given as goal
 
 abbrev pub invariant-loop-key : goal.invariant-loop-key
@@ -8,6 +8,7 @@ invariant-loop-key g l = record {
   moved : l.serving.moved ≡ l.fn.serving.moved;
   counted : l.serving.counted ≡ l.fn.serving.counted;
   events : l.serving.events ≡ l.fn.serving.events;
+  stay : l.serving.stay ≡ l.fn.serving.stay;
   does : l.talk.does ≡ l.fn.does;
-  served : ServesKeys g.T.Connection.Wire.seen l.fn.does l.key l.fn.serving.connections l.serving.connections l.all.moved l.all.octets;
+  served : ServesKeys (links g.T.Connection.Wire.seen g.C.Counts.exact g.C.Counts.home) l.fn.does l.key l.fn.serving.connections l.serving.connections l.all.moved l.all.octets;
 }
