@@ -1,7 +1,7 @@
 -- What a process comes to.
-use Rattle.std.specs.Prelude.{◌≡◌, ◌⊎◌, ℕ, ◌<◌, Bool, true, false}
-use Rattle.std.specs.declared.io.ErrorKind.{ErrorKind}
-use Rattle.std.specs.declared.io.ErrorKind.TheVariants.{OutOfMemory}
+use Rattle.std.specs.Prelude.{◌≡◌, ◌⊎◌, ℕ, ◌<◌, Bool, true, false, List, map}
+use Rattle.std.specs.List.{filter}
+use Rattle.std.specs.declared.net.socket_addr.SocketAddr.{SocketAddr}
 use Rattle.nm_base.specs.declared.fault.Fault.{Fault}
 use Rattle.nm_base.specs.declared.fault.Fault.TheVariants.{Memory, Refused}
 use Rattle.nm_topology.specs.TopologyValue.{TopologyValue}
@@ -10,8 +10,8 @@ use Rattle.nm_model.specs.Certificate.{is_done}
 use Rattle.nm_shared.specs.Home.{Home, home_of}
 use Rattle.nm_sim.specs.Network.{net_of}
 use Rattle.nm_replica.specs.Finished.{IsDone}
-use Rattle.nm_replica.specs.declared.served.Served.{Served}
-use Rattle.nm_replica.specs.declared.served.Served.TheVariants as served
+use Rattle.nm_peers.specs.Peers.{is_called, socket_of}
+use Rattle.nm_peers.specs.declared.listener.Listener.{Listener}
 use Rattle.nm_process.specs.declared.fault.ProcessCause.{ProcessCause}
 use Rattle.nm_process.specs.declared.fault.ProcessCause.TheVariants as cause
 
@@ -24,13 +24,10 @@ pub record IsDoneReplica (t : TopologyValue) (p r : ℕ) (b : BookValue) : Type 
   pub finished : IsDone b
   pub whole : b.handed ≡ 0
 
--- why a replica is not done whose serving came to this
-abbrev pub unfinished_fault : Served → Fault ProcessCause
-unfinished_fault served.Ended = Refused cause.Stalled
-unfinished_fault (served.Stalled polls) = Refused cause.Stalled
-unfinished_fault served.Net = Refused cause.Net
-unfinished_fault (served.File iface written) = Refused cause.Broken
-unfinished_fault served.Memory = Memory
+-- these are the addresses of all replicas that a replica of partition p calls, in their order
+abbrev pub AreCalled : TopologyValue → ℕ → List Listener → List SocketAddr → Type 0
+AreCalled t p listeners addresses =
+    addresses ≡ map socket_of (filter (is_called t p) listeners)
 
 -- a replica is told that it is stalled
 abbrev pub is_stall : Fault ProcessCause → Bool
@@ -44,9 +41,3 @@ abbrev pub IsUnfinished : Home → Type 0
 IsUnfinished home =
     (b : BookValue) × (home_of b ≡ home)
     × ((is_done (net_of b.topology) b.partition (replica_of b) ≡ false) ⊎ (0 < b.handed))
-
--- what an error of the system of this kind is to a process: memory was refused, or else the network
--- failed
-abbrev pub IsFaultOf : ErrorKind → Fault ProcessCause → Type 0
-IsFaultOf kind fault = ((kind ≡ OutOfMemory) × (fault ≡ Memory))
-    ⊎ ((kind ≡ OutOfMemory → ⊥) × (fault ≡ Refused cause.Net))

@@ -1,7 +1,9 @@
 //! Why the replica of a process is not done.
 
 ghost use Rattle.std.specs.IoError.{error_kind};
-ghost use Rattle.nm_process.specs.Process.{IsFaultOf, is_stall};
+ghost use Rattle.nm_files.specs.Checked.{IsFaultOfKind};
+ghost use Rattle.nm_process.specs.Process.{is_stall};
+ghost use Rattle.nm_process.specs.declared.fault.ProcessCause.TheVariants.{Net};
 ghost use Rattle.std.specs.Prelude.{◌≡◌, false};
 
 use nm_base::Fault;
@@ -29,7 +31,7 @@ pub type ProcessFault = Fault<ProcessCause>;
 
 /// What an error of the system is to a process.
 pub(crate) fn fault_of(error: io::Error) -> ProcessFault
-    ensures kind { IsFaultOf (error_kind error) result }
+    ensures kind { IsFaultOfKind (error_kind error) Net result }
     ensures stall { is_stall result ≡ false }
 {
     if error.kind() == ErrorKind::OutOfMemory {

@@ -1,16 +1,14 @@
 //! One replica over TCP, until it is done.
 
-ghost use Rattle.std.specs.Prelude.{◌≡◌, ◌^◌, IfErr, IfOk, IfSome, None, Some, [], false};
-ghost use Rattle.std.specs.Prelude.{true};
+ghost use Rattle.std.specs.Prelude.{◌≡◌, ◌^◌, IfErr, IfOk, IfSome, None, Some, false, true};
 ghost use Rattle.std.specs.Arc.{arc_value};
-ghost use Rattle.nm_peers.specs.Peers.{ArePeers, own_address};
-ghost use Rattle.nm_peers.specs.declared.peers.Peers.{Peers};
+ghost use Rattle.nm_peers.specs.Peers.{own_address};
 ghost use Rattle.nm_replica.specs.Finished.{IsDone};
-ghost use Rattle.nm_process.specs.Process.{IsDoneReplica, IsUnfinished, is_stall};
-ghost use Rattle.nm_process.specs.Process.{unfinished_fault};
+ghost use Rattle.nm_process.specs.Process.{AreCalled, IsDoneReplica, IsUnfinished, is_stall};
 ghost use Rattle.nm_shared.specs.Counted.{IsBlankOf};
 ghost use Rattle.nm_shared.specs.Home.{home_at, home_of};
 
+use crate::ending::{Ending, ProcessEnd, process_end, serve_over};
 use crate::fault::{ProcessCause, ProcessFault, fault_of};
 use mio::Poll;
 use mio::net::TcpListener;
@@ -20,9 +18,9 @@ use nm_files::TraceFiles;
 use nm_peers::peers::own_address;
 use nm_peers::{Listener, Peers, peers_of};
 use nm_progress::Progress;
-use nm_replica::{Holdings, Lending, OwnSeats, Served, Service, run_replica};
+use nm_replica::{Holdings, Lending, OwnSeats, Service};
 use nm_shared::counts::PARTS;
-use nm_shared::{ClockBoard, Counts, Ledgers, Naming, OpenGate, Pass, SharedBook};
+use nm_shared::{ClockBoard, Counts, Ledgers, Naming, Pass, SharedBook};
 use nm_topology::Topology;
 use nm_transport::TcpTransport;
 use std::alloc::Global;
@@ -34,7 +32,7 @@ use std::sync::{Arc, Wait};
 use std::time::Clock;
 
 /// How many events a process does at most after each poll.
-const RUN_EVENTS: u64 = 4_096;
+pub(crate) const RUN_EVENTS: u64 = 4_096;
 
 /// A replica of a partition that is a process of its own, and where the replicas of the network
 /// listen.
@@ -52,70 +50,49 @@ pub struct Process<'a> {
     pub progress: &'a Progress,
 }
 
-/// What the replica of a process came to.
-#[derive(Drop)]
-pub struct ProcessEnd {
-    /// It knows all and did all of its events.
-    pub book: Book,
-    /// What serving it came to: it may have ended otherwise than as done, as where a peer was gone
-    /// for the last minute, or broke the rules.
-    pub served: Served,
+/// Listens at this address, which the replica of a book has.
+fn listen_at<C: Counts, R: Net>(
+    rt: &R,
+    process: &Process<'_>,
+    book: &SharedBook<C>,
+    own: SocketAddr,
+) -> io::Result<TcpListener>
+    requires { Some own ≡ own_address process.now.listeners.now book.now.partition
+        book.now.replica }
+{
+    TcpListener::bind(rt, own)
 }
 
-/// Listens at the address that the replica of a book has among these, and calls these peers.
+/// Calls the peers at these addresses: all that a replica of the book's partition calls.
+fn transport_to<C: Counts, R: Net + Clock + Drop + Copy>(
+    rt: &R,
+    alloc: Global,
+    process: &Process<'_>,
+    book: &SharedBook<C>,
+    listener: TcpListener,
+    addresses: Vec<SocketAddr>,
+) -> io::Result<TcpTransport<R>>
+    requires { AreCalled (arc_value process.now.topology.now) book.now.partition
+        process.now.listeners.now addresses.items }
+{
+    TcpTransport::new(*rt, alloc, Poll::new(rt)?, listener, addresses)
+}
+
+/// Listens at the address that the replica of a book has among these, and calls its peers at those.
 fn open_transport<C: Counts, R: Net + Clock + Drop + Copy>(
     rt: &R,
     alloc: Global,
     process: &Process<'_>,
     book: &SharedBook<C>,
-    peers: &Peers,
-) -> io::Result<TcpTransport<R>> {
+    addresses: Vec<SocketAddr>,
+) -> io::Result<TcpTransport<R>>
+    requires { AreCalled (arc_value process.now.topology.now) book.now.partition
+        process.now.listeners.now addresses.items }
+{
     let own = own_address(process.listeners, book.partition, book.replica);
     let own = own.ok_or(ErrorKind::AddrNotAvailable)?;
-    listen_at(rt, alloc, process, book, own, peers)
-}
-
-/// Listens at this address, and calls these peers.
-fn listen_at<C: Counts, R: Net + Clock + Drop + Copy>(
-    rt: &R,
-    alloc: Global,
-    process: &Process<'_>,
-    book: &SharedBook<C>,
-    own: SocketAddr,
-    peers: &Peers,
-) -> io::Result<TcpTransport<R>>
-    requires { Some own ≡ own_address process.now.listeners.now book.now.partition
-        book.now.replica }
-{
-    let listener = TcpListener::bind(rt, own)?;
-    let addresses = peers.addresses.as_slice().to_vec(alloc)?;
-    TcpTransport::new(*rt, alloc, Poll::new(rt)?, listener, addresses)
-}
-
-/// Serves a replica over this transport, which is shared with nobody else.
-fn serve_over<C: Counts, R: Net + Wait + Clock + Drop + Copy>(
-    rt: &R,
-    alloc: Global,
-    process: &Process<'_>,
-    service: &Service<'_, C>,
-    holdings: &mut Holdings<'_, C, MemSink>,
-    transport: &mut TcpTransport<R>,
-) -> Served
-    // It speaks with all neighbours that its book's replica has among the listeners.
-    requires topology { service.now.topology ≡ process.now.topology }
-    requires peers { (peers : Peers)
-        × ArePeers (arc_value process.now.topology.now) service.now.book.now.partition
-        process.now.listeners.now peers
-        × (service.now.peers.now ≡ peers.partitions.items)
-        × (service.now.callers.now ≡ peers.callers.items) }
-
-    // It is stalled after as many periods as the process says, merges with nobody, and its book
-    // keeps its records.
-    requires limits { (service.now.idle_limit ≡ process.now.idle_limit)
-        × (service.now.run_limit ≡ RUN_EVENTS) × (service.now.keeps_records ≡ true) }
-    requires alone { (service.now.books.now ≡ []) × (service.now.lending.now.has_pool ≡ false) }
-{
-    run_replica(rt, alloc, service, holdings, transport, &OpenGate)
+    let listener = listen_at(rt, process, book, own)?;
+    transport_to(rt, alloc, process, book, listener, addresses)
 }
 
 /// Serves a replica that is shared with nobody else: what that came to, whether it is done or not.
@@ -129,17 +106,21 @@ fn serve<C: Counts, R: Net + Wait + Clock + Drop + Copy>(
     process: &Process<'_>,
     book: &SharedBook<C>,
     holdings: &mut Holdings<'_, C, MemSink>,
-) -> Result<Served, ProcessFault>
+) -> Result<Ending, ProcessFault>
     ensures { IfErr result (λ f. is_stall f ≡ false) }
 {
-    let peers = peers_of(alloc, process.topology, book.partition, process.listeners)?;
-    let mut transport = open_transport(rt, alloc, process, book, &peers).map_err(fault_of)?;
+    let Peers {
+        partitions,
+        addresses,
+        callers,
+    } = peers_of(alloc, process.topology, book.partition, process.listeners)?;
+    let mut transport = open_transport(rt, alloc, process, book, addresses).map_err(fault_of)?;
     let lending = Lending::alone();
     let service = Service {
         topology: process.topology,
         book,
-        peers: peers.partitions.as_slice(),
-        callers: peers.callers.as_slice(),
+        peers: partitions.as_slice(),
+        callers: callers.as_slice(),
         books: &[],
         idle_limit: process.idle_limit,
         run_limit: RUN_EVENTS,
@@ -182,7 +163,7 @@ fn serve_with<C: Counts, R: Net + Wait + Clock + Drop + Copy>(
     process: &Process<'_>,
     book: &SharedBook<C>,
     pass: Pass<C>,
-) -> Result<(Pass<C>, Served), ProcessFault>
+) -> Result<(Pass<C>, Ending), ProcessFault>
     ensures { IfErr result (λ f. is_stall f ≡ false) }
 {
     let (board, owners, _) = ClockBoard::new(alloc, process.topology)?;
@@ -195,20 +176,8 @@ fn serve_with<C: Counts, R: Net + Wait + Clock + Drop + Copy>(
         // The book keeps its trace: files are made of it once it is done.
         files: TraceFiles::new(alloc),
     };
-    let served = serve(rt, alloc, process, book, &mut holdings)?;
-    Ok((holdings.pass, served))
-}
-
-/// Why a replica is not done whose serving came to this.
-fn unfinished_fault(served: Served) -> ProcessFault
-    ensures { result ≡ unfinished_fault served }
-{
-    match served {
-        Served::Ended | Served::Stalled { .. } => ProcessFault::Refused(ProcessCause::Stalled),
-        Served::Net => ProcessFault::Refused(ProcessCause::Net),
-        Served::File { .. } => ProcessFault::Refused(ProcessCause::Broken),
-        Served::Memory => ProcessFault::Memory,
-    }
+    let ending = serve(rt, alloc, process, book, &mut holdings)?;
+    Ok((holdings.pass, ending))
 }
 
 /// The book of a replica that was served with this one pass, if it is done, whatever serving came
@@ -255,11 +224,8 @@ fn run_named<M: Naming + Send + Sync, E: Ledger + Send + Sync, R: Net + Wait + C
 {
     let shared = shared_of::<M, E>(alloc, process, messages, events)?;
     let pass = shared.pass(rt)?;
-    let (pass, served) = serve_with(rt, alloc, process, &shared, pass)?;
-    match close(alloc, shared, pass)? {
-        Some(book) => Ok(ProcessEnd { book, served }),
-        None => Err(unfinished_fault(served)),
-    }
+    let (pass, ending) = serve_with(rt, alloc, process, &shared, pass)?;
+    process_end(close(alloc, shared, pass)?, ending)
 }
 
 /// Serves one replica of a partition over TCP until it is done and all its links have ended, or

@@ -5,3 +5,5 @@ pub mod ClosedFiles
 pub mod Kept
 pub mod Replicas
 pub mod Words
+pub mod Watching
+pub mod Dealing

@@ -1,5 +1,7 @@
 -- Why a run has no report.
 use Rattle.std.specs.Prelude.{◌≡◌, ◌⊎◌, ℕ}
+use Rattle.std.specs.declared.io.ErrorKind.{ErrorKind}
+use Rattle.std.specs.declared.io.ErrorKind.TheVariants.{OutOfMemory}
 use Rattle.nm_base.specs.declared.fault.Fault.{Fault}
 use Rattle.nm_base.specs.declared.fault.Fault.TheVariants.{Memory, Refused}
 use Rattle.nm_topology.specs.TopologyValue.{TopologyValue}
@@ -28,6 +30,16 @@ HasReason t replicas (Refused cause.Net) = Unit {0}
 HasReason t replicas (Refused (cause.NotCertified fault)) = IsNotCertified t replicas fault
 HasReason t replicas (Refused (cause.Stalled polls)) = Unit {0}
 HasReason t replicas (Refused cause.Broken) = Unit {0}
+
+-- what an error of the system of this kind is told as: that memory was refused, or else the network
+-- failed
+abbrev pub IsToldAs : {A : Type 0} → ErrorKind → (memory net told : A) → Type 0
+IsToldAs kind memory net told = ((kind ≡ OutOfMemory) × (told ≡ memory))
+    ⊎ ((kind ≡ OutOfMemory → ⊥) × (told ≡ net))
+
+-- why a run stops whose call of the system failed so
+abbrev pub IsStopOf : ErrorKind → Stop → Type 0
+IsStopOf kind s = IsToldAs kind stop.Memory stop.Net s
 
 -- why a run stops whose trace files have this fault
 abbrev pub files_stop : Fault FileFault → Stop

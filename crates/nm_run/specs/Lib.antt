@@ -6,3 +6,4 @@ pub mod Leaving
 pub mod Sides
 pub mod Took
 pub mod Replicas
+pub mod Watching

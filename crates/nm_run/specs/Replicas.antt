@@ -17,6 +17,11 @@ pub record AreAllReplicas (partitions replicas : ℕ) (names : List (ℕ × ℕ)
   pub count : length names ≡ partitions * replicas
   pub each : (i : ℕ) (name : ℕ × ℕ) → slice_get names i ≡ Some name → IsAt replicas i name
 
+-- no two are one replica
+abbrev pub HaveDistinctNames : List (ℕ × ℕ) → Type 0
+HaveDistinctNames names = (i j : ℕ) (name : ℕ × ℕ) → slice_get names i ≡ Some name
+    → slice_get names j ≡ Some name → i ≡ j
+
 -- the replica of a listener
 abbrev pub listener_pair : Listener → ℕ × ℕ
 listener_pair a = (a.partition, a.replica)

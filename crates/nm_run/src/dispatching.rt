@@ -1,12 +1,14 @@
 //! The dispatcher: it gives jobs to a pool as long as there are any.
 
-ghost use Rattle.std.specs.Prelude.{◌≡◌, ◌<◌, ◌≤◌, All, length};
+ghost use Rattle.std.specs.Prelude.{◌≡◌, ◌<◌, ◌≤◌, All, IfErr, IfOk, OnOk, is_some, length, true};
 ghost use Rattle.std.specs.List.{list_all};
+ghost use Rattle.nm_run.specs.Watching.{AreOwns, names_of, owns_of};
 ghost use Rattle.nm_shared.specs.Board.{IsSeatOf};
 
 use crate::jobs::{Watched, jobs_for};
-use crate::stations::Own;
-use crate::threads::Threaded;
+use crate::stations::{Own, Woken};
+use crate::threads::{AllWoken, Threaded};
+use crate::told::Told;
 use mio::{Events, Poll};
 use nm_base::Time;
 use nm_book::Ran;
@@ -52,22 +54,36 @@ impl<'a> Dispatcher<'a> {
     }
 }
 
-/// Notes the answer of the job of a book, and wakes its replica: how many events it was. Where that
-/// is asked for the job is counted, and whether the book is lent still.
-fn note<G>(
+/// The answer of a job was noted: how many events it was, and that its book's replica was woken.
+#[derive(Clone, Copy)]
+struct Noted<'a> {
+    events: u64,
+    woken: Woken<'a>,
+}
+
+/// Notes the answer of the job of a book, and wakes its replica. Where that is asked for the job is
+/// counted, and whether the book is lent still.
+fn note<'a, G>(
     threaded: &Threaded<'_, G>,
-    watched: &mut Watched<'_>,
+    watched: &mut Watched<'a>,
+    job: &Job,
     answer: Ran,
-) -> Result<u64, AllocError> {
-    let count = watched.note(answer)?;
+) -> Result<Noted<'a>, AllocError>
+    requires { watched.old.own.index ≡ job.now.book }
+    ensures woken { IfOk result (λ n. n.woken.station ≡ watched.old.own.station) }
+    ensures own { watched.new.own ≡ watched.old.own }
+{
+    let events = watched.note(job, answer)?;
     let Own { station, book, .. } = watched.own;
     if let Some(figures) = threaded.plan.progress.figures() {
         let own = figures.of(book.partition, book.replica);
         own.add(Figure::Jobs, 1);
         own.set(Figure::IsLent, u64::from(station.lending.is_lent()));
     }
-    station.wake();
-    Ok(count)
+    Ok(Noted {
+        events,
+        woken: station.wake(),
+    })
 }
 
 /// Notes the answers of jobs: how many events they were.
@@ -77,12 +93,15 @@ fn note_all<G>(
     jobs: &[Job],
     answers: &[Ran],
 ) -> Result<u64, AllocError>
-    ensures { dispatcher.new.seat ≡ dispatcher.old.seat }
+    requires { AreOwns (names_of threaded.now) (owns_of dispatcher.old.watched.items) }
+    ensures seat { dispatcher.new.seat ≡ dispatcher.old.seat }
+    ensures owns { OnOk result
+        (owns_of dispatcher.new.watched.items ≡ owns_of dispatcher.old.watched.items) }
 {
     let mut events = 0u64;
     for (job, answer) in jobs.iter().zip(answers) {
         if let Some(watched) = dispatcher.watched.get_mut(job.book) {
-            events = events.saturating_add(note(threaded, watched, *answer)?);
+            events = events.saturating_add(note(threaded, watched, job, *answer)?.events);
         }
     }
     Ok(events)
@@ -95,15 +114,18 @@ fn do_in_turn<G: Gate, R: Wait>(
     dispatcher: &mut Dispatcher<'_>,
     jobs: &[Job],
 ) -> Result<u64, AllocError>
-    ensures { dispatcher.new.seat ≡ dispatcher.old.seat }
+    requires { AreOwns (names_of threaded.now) (owns_of dispatcher.old.watched.items) }
+    ensures seat { dispatcher.new.seat ≡ dispatcher.old.seat }
+    ensures owns { OnOk result
+        (owns_of dispatcher.new.watched.items ≡ owns_of dispatcher.old.watched.items) }
 {
     let mut events = 0u64;
     for (number, job) in jobs.iter().enumerate() {
         if let Some(watched) = dispatcher.watched.get_mut(job.book) {
             threaded.gate.enter(number);
-            let answer = watched.run(rt, threaded.alloc, job.limit);
+            let answer = watched.run(rt, threaded.alloc, job);
             threaded.gate.leave(number);
-            events = events.saturating_add(note(threaded, watched, answer)?);
+            events = events.saturating_add(note(threaded, watched, job, answer)?.events);
         }
     }
     Ok(events)
@@ -129,7 +151,10 @@ fn give_to_pool<G: Gate + Sync, R: Threads + Wait + Sync>(
 ) -> Result<u64, AllocError>
     requires workers { (1 ≤ threaded.now.plan.now.workers) × (threaded.now.plan.now.workers ≤ 64) }
     requires named { All (λ j. j.book < length threaded.now.books.now) jobs.now }
-    ensures { dispatcher.new.seat ≡ dispatcher.old.seat }
+    requires owns { AreOwns (names_of threaded.now) (owns_of dispatcher.old.watched.items) }
+    ensures seat { dispatcher.new.seat ≡ dispatcher.old.seat }
+    ensures owns { OnOk result
+        (owns_of dispatcher.new.watched.items ≡ owns_of dispatcher.old.watched.items) }
 {
     let (alloc, workers) = (threaded.alloc, threaded.plan.workers);
     let report = pool(rt, alloc, threaded.books, jobs, workers, threaded.gate)?;
@@ -147,7 +172,10 @@ fn give_jobs<G: Gate + Sync, R: Threads + Wait + Sync>(
 ) -> Result<u64, AllocError>
     requires workers { (1 ≤ threaded.now.plan.now.workers) × (threaded.now.plan.now.workers ≤ 64) }
     requires seat { IsSeatOf threaded.now.board.now dispatcher.old.seat }
-    ensures { IsSeatOf threaded.now.board.now dispatcher.new.seat }
+    requires owns { AreOwns (names_of threaded.now) (owns_of dispatcher.old.watched.items) }
+    ensures seat { IsSeatOf threaded.now.board.now dispatcher.new.seat }
+    ensures owns { OnOk result
+        (owns_of dispatcher.new.watched.items ≡ owns_of dispatcher.old.watched.items) }
 {
     let jobs = jobs_for(
         rt,
@@ -181,9 +209,13 @@ fn note_progress<G>(threaded: &Threaded<'_, G>, all: &[Watched<'_>]) {
         .note(Time::from_nanoseconds(time), records);
 }
 
-/// Waits until it is woken, or the time is over.
-fn listen(dispatcher: &mut Dispatcher<'_>)
-    ensures { dispatcher.new.seat ≡ dispatcher.old.seat }
+/// Waits until it is woken, or the time is over. No replica is left asleep then whose run is done:
+/// once all books are, all were woken.
+fn listen(dispatcher: &mut Dispatcher<'_>, woken: Option<AllWoken>)
+    requires { list_all (λ w. w.is_done) dispatcher.old.watched.items ≡ true
+        → is_some woken ≡ true }
+    ensures seat { dispatcher.new.seat ≡ dispatcher.old.seat }
+    ensures watched { dispatcher.new.watched ≡ dispatcher.old.watched }
 {
     let limit = Duration::from_millis(PERIOD_MILLISECONDS);
     let waited = dispatcher.poll.poll(&mut dispatcher.events, Some(limit));
@@ -197,36 +229,48 @@ fn are_done(watched: &[Watched<'_>]) -> bool
     watched.iter().all(|watched| watched.is_done)
 }
 
+/// Wakes all replicas once all books are done, unless they were woken since.
+fn wake_done<G>(
+    threaded: &Threaded<'_, G>,
+    watched: &[Watched<'_>],
+    woken: Option<AllWoken>,
+) -> Option<AllWoken>
+    ensures { list_all (λ w. w.is_done) watched.now ≡ true → is_some result ≡ true }
+{
+    if woken.is_none() && are_done(watched) {
+        return Some(threaded.wake_all());
+    }
+    woken
+}
+
 /// Gives jobs until all replicas have ended.
 ///
 /// # Errors
 ///
-/// Where memory was refused, to a job or to the pool. The replicas are told then.
+/// Where memory was refused, to a job or to the pool: that all replicas were told so.
 pub(crate) fn dispatch<G: Gate + Sync, R: Threads + Wait + Sync>(
     rt: &R,
     threaded: &Threaded<'_, G>,
     dispatcher: &mut Dispatcher<'_>,
-) -> Result<Dispatched, AllocError>
+) -> Result<Dispatched, Told>
     requires workers { (1 ≤ threaded.now.plan.now.workers) × (threaded.now.plan.now.workers ≤ 64) }
     requires seat { IsSeatOf threaded.now.board.now dispatcher.old.seat }
+    requires owns { AreOwns (names_of threaded.now) (owns_of dispatcher.old.watched.items) }
+    ensures { IfErr result (λ told. told.are_all ≡ true) }
 {
-    let mut were_done = false;
+    let mut woken: Option<AllWoken> = None;
     for _ in 0..u64::MAX {
         if threaded.are_over() {
             return Ok(Dispatched(()));
         }
         let Ok(events) = give_jobs(rt, threaded, dispatcher) else {
-            let _ = threaded.fail();
-            return Err(AllocError);
+            return Err(threaded.fail(rt));
         };
         note_progress(threaded, dispatcher.watched.as_slice());
-        if !were_done && are_done(dispatcher.watched.as_slice()) {
-            were_done = true;
-            threaded.wake_all();
-        }
+        woken = wake_done(threaded, dispatcher.watched.as_slice(), woken);
         dispatcher.looks_at_all = false;
         if events == 0 {
-            listen(dispatcher);
+            listen(dispatcher, woken);
         }
     }
     Ok(Dispatched(()))

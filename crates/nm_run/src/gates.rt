@@ -1,19 +1,28 @@
 //! The gate of one replica of a run.
 
+ghost use Rattle.std.specs.Prelude.{◌≡◌, ◌&&◌, not};
+
 use mio::Waker;
 use nm_replica::Lending;
 use nm_shared::Gate;
-use std::sync::atomic::{AtomicBool, Ordering};
+use std::sync::OnceLock;
 
 /// Lets a replica go on as long as the run's own gate does and no other replica has failed, and
 /// wakes the dispatcher where there is something new for it to do.
 #[derive(Drop)]
 pub(crate) struct SideGate<'a, G> {
     pub gate: &'a G,
-    pub has_failed: &'a AtomicBool,
+    pub has_failed: &'a OnceLock<()>,
     pub dispatcher: &'a Waker,
     /// Whose turn it is to run the replica's book.
     pub lending: &'a Lending,
+}
+
+/// Whether a replica goes on: the run's own gate lets it, and the run has not failed.
+fn goes_on(may: bool, has_failed: bool) -> bool
+    ensures { result ≡ (may && not has_failed) }
+{
+    may && !has_failed
 }
 
 impl<'a, G: Gate> Gate for SideGate<'a, G> {
@@ -30,6 +39,6 @@ impl<'a, G: Gate> Gate for SideGate<'a, G> {
         if self.lending.take_news() {
             let _ = self.dispatcher.wake();
         }
-        self.gate.poll(moved) && !self.has_failed.load(Ordering::SeqCst)
+        goes_on(self.gate.poll(moved), self.has_failed.get().is_some())
     }
 }

@@ -1,9 +1,10 @@
 //! Which books have something to do.
 
 ghost use Rattle.std.specs.Prelude.{◌≡◌, ◌⊎◌, ◌↔◌, ℕ, ◌-◌, ◌<◌, All, IfOk, IsTrue, MatchResult};
-ghost use Rattle.std.specs.Prelude.{length};
+ghost use Rattle.std.specs.Prelude.{OnOk, length};
 ghost use Rattle.nm_book.specs.declared.running.Ran.TheVariants.{All as AllDone, Limit, Memory};
 ghost use Rattle.nm_run.specs.Replicas.{AreWordsOf};
+ghost use Rattle.nm_run.specs.Watching.{AreOwns, names_of, owns_of};
 ghost use Rattle.nm_shared.specs.Board.{IsSeatOf};
 
 use crate::stations::Own;
@@ -91,7 +92,9 @@ impl<'a> Watched<'a> {
         replicas: u8,
         own: Own<'a>,
         pass: Pass<Plain>,
-    ) -> Result<Self, AllocError> {
+    ) -> Result<Self, AllocError>
+        ensures { IfOk result (λ w. w.own ≡ own.entry) }
+    {
         Ok(Watched {
             words: words_of(alloc, topology, own.book.partition, replicas)?,
             own,
@@ -122,7 +125,8 @@ impl<'a> Watched<'a> {
         looks_at_all: bool,
     ) -> bool
         requires { IsSeatOf board.now seat.old }
-        ensures { IsSeatOf board.now seat.new }
+        ensures seat { IsSeatOf board.now seat.new }
+        ensures own { self.new.own ≡ self.old.own }
     {
         if self.is_done {
             return false;
@@ -140,19 +144,34 @@ impl<'a> Watched<'a> {
         is_lent && !self.is_done && !is_full(standing)
     }
 
-    /// Does a job of the book with its own pass.
-    pub(crate) fn run<R: Wait>(&mut self, rt: &R, alloc: Global, limit: u64) -> Ran {
-        self.own.book.run(rt, &mut self.pass, alloc, limit)
+    /// A job of its book.
+    fn job(&self) -> Job
+        ensures { result.book ≡ self.now.own.index }
+    {
+        Job {
+            book: self.own.index,
+            limit: JOB_EVENTS,
+        }
     }
 
-    /// Its job was done: how many events it was. A job that left none gives the book back.
+    /// Does a job of its book with its own pass.
+    pub(crate) fn run<R: Wait>(&mut self, rt: &R, alloc: Global, job: &Job) -> Ran
+        requires { self.old.own.index ≡ job.now.book }
+        ensures { self.new.own ≡ self.old.own }
+    {
+        self.own.book.run(rt, &mut self.pass, alloc, job.limit)
+    }
+
+    /// A job of its book was done: how many events it was. One that left none gives the book back.
     ///
     /// # Errors
     ///
     /// Where memory was refused to the job.
-    pub(crate) fn note(&mut self, answer: Ran) -> Result<u64, AllocError>
-        ensures { MatchResult result (λ n. (answer ≡ AllDone n) ⊎ (answer ≡ Limit n))
+    pub(crate) fn note(&mut self, job: &Job, answer: Ran) -> Result<u64, AllocError>
+        requires { self.old.own.index ≡ job.now.book }
+        ensures events { MatchResult result (λ n. (answer ≡ AllDone n) ⊎ (answer ≡ Limit n))
             (λ _. (n : ℕ) × (answer ≡ Memory n)) }
+        ensures own { self.new.own ≡ self.old.own }
     {
         self.is_stale = true;
         match answer {
@@ -174,10 +193,12 @@ pub(crate) fn jobs_for<G, R: Wait>(
     watched: &mut Vec<Watched<'_>>,
     looks_at_all: bool,
 ) -> Result<Vec<Job>, AllocError>
-    requires { IsSeatOf threaded.now.board.now seat.old }
+    requires seat { IsSeatOf threaded.now.board.now seat.old }
+    requires owns { AreOwns (names_of threaded.now) (owns_of watched.old.items) }
     ensures seat { IsSeatOf threaded.now.board.now seat.new }
     ensures named { IfOk result
         (λ jobs. All (λ j. j.book < length threaded.now.books.now) jobs.items) }
+    ensures owns { OnOk result (owns_of watched.new.items ≡ owns_of watched.old.items) }
 {
     let mut jobs = Vec::new(threaded.alloc);
     for number in 0..threaded.books.len() {
@@ -185,10 +206,7 @@ pub(crate) fn jobs_for<G, R: Wait>(
             break;
         };
         if one.wants(rt, threaded.board, seat, looks_at_all) {
-            jobs.push(Job {
-                book: number,
-                limit: JOB_EVENTS,
-            })?;
+            jobs.push(one.job())?;
         }
     }
     Ok(jobs)

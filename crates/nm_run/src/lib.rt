@@ -18,6 +18,7 @@ mod sides;
 mod stations;
 pub mod stop;
 mod threads;
+mod told;
 
 pub use fault::{RunCause, RunFault};
 pub use report::{IfaceTotals, Report};

@@ -14,6 +14,7 @@ use nm_shared::{Plain, SharedBook};
 use std::alloc::Global;
 use std::io;
 use std::net::{Ipv4Addr, Net, SocketAddr};
+use std::sync::OnceLock;
 
 /// The token of wakers. Connections have their keys, and the listener the greatest token.
 const WOKEN: Token = Token(usize::MAX - 1);
@@ -82,7 +83,11 @@ fn open_one<R: Net>(
     let (poll, waker) = woken_poll(net)?;
     posts.posts.push(Post { socket, poll })?;
     posts.listeners.push(listener)?;
-    posts.stations.push(Station { lending, waker })?;
+    posts.stations.push(Station {
+        lending,
+        waker,
+        ended: OnceLock::new(),
+    })?;
     Ok(())
 }
 

@@ -4,13 +4,16 @@ ghost use Rattle.std.specs.Prelude.{◌≡◌, ◌⊎◌, ◌≤◌, All, IfErr,
 ghost use Rattle.std.specs.Arc.{arc_value};
 ghost use Rattle.nm_files.specs.Files.{AreCounted};
 ghost use Rattle.nm_run.specs.Faults.{HasReason, IsOfFiles};
-ghost use Rattle.nm_replica.specs.Seats.{board_of};
+ghost use Rattle.std.specs.List.{filter};
+ghost use Rattle.nm_replica.specs.Seats.{board_of, words_of};
+ghost use Rattle.nm_replica.specs.Words.{is_word_of};
 ghost use Rattle.nm_peers.specs.Peers.{ArePeers};
 ghost use Rattle.nm_rounds.specs.Certify.{AreCertified};
 ghost use Rattle.nm_run.specs.Files.{AreClosed, AreKeptBooks, AreNamed, AreOwnFiles, HaveFiles};
 ghost use Rattle.nm_run.specs.Leaving.{leaving};
-ghost use Rattle.nm_run.specs.Replicas.{AreAllReplicas};
-ghost use Rattle.nm_shared.specs.Board.{AreFirstOwners};
+ghost use Rattle.nm_run.specs.Replicas.{AreAllReplicas, HaveDistinctNames};
+ghost use Rattle.nm_run.specs.Watching.{AreOwns, names_of, owns_of};
+ghost use Rattle.nm_shared.specs.Board.{AreFirstOwners, owned_word};
 ghost use Rattle.nm_run.specs.Report.{AreOfRun, IsCertifiedRun};
 
 use crate::closing::{certify_all, close_run};
@@ -40,8 +43,7 @@ use nm_shared::{ClockBoard, Gate, OwnerSeat, Pass, Plain, Seat, SharedBook};
 use nm_topology::Topology;
 use std::alloc::{AllocError, Global};
 use std::net::Net;
-use std::sync::atomic::{AtomicBool, AtomicUsize};
-use std::sync::{Arc, Wait};
+use std::sync::{Arc, OnceLock, Wait};
 
 /// A network whose partitions run at once.
 #[derive(Clone, Copy)]
@@ -169,21 +171,27 @@ fn sides_of<'a, F: Outputs, G, R: Wait>(
     posts: Vec<Post>,
     outputs: &mut F,
 ) -> Result<Vec<Side<'a, F::File>>, Stop>
-    requires { AreFirstOwners threaded.now.board.now owners.items }
+    requires owners { AreFirstOwners threaded.now.board.now owners.items }
+    requires names { HaveDistinctNames (names_of threaded.now) }
+    ensures own { IfOk result (λ sides. AreOwns (names_of threaded.now)
+        (map (λ s. s.own) sides.items)) }
     ensures board { IfOk result
         (λ sides. All (λ s. board_of s.holdings.seats ≡ threaded.now.board.now) sides.items) }
+
+    // Each has the seats of its own words, of all.
+    ensures seats { IfOk result (λ sides. All (λ s. words_of s.holdings.seats
+        ≡ filter (is_word_of (arc_value threaded.now.plan.now.topology.now)
+        s.own.book.now.partition s.own.book.now.replica) (map owned_word owners.items))
+        sides.items) }
     ensures counted { IfOk result (λ sides. All (λ s. AreCounted F.File.seen
         (F.made outputs.old) s.holdings.files.files.items) sides.items) }
     ensures same { F.made outputs.new ≡ F.made outputs.old }
 {
     let mut sides = Vec::new(threaded.alloc);
     let mut rest = OwnSeats::all(threaded.board, owners);
-    let replicas = threaded.stations.iter().zip(threaded.books);
-    for (post, (station, book)) in posts.into_iter().zip(replicas) {
-        let own = Own {
-            index: sides.len(),
-            station,
-            book,
+    for post in posts {
+        let Some(own) = threaded.own_at(sides.len()) else {
+            break;
         };
         let topology = threaded.plan.topology;
         let Dealt { own: seats, others } = rest.deal(threaded.alloc, topology, own.name())?;
@@ -197,16 +205,17 @@ fn sides_of<'a, F: Outputs, G, R: Wait>(
 fn watch_all<'a, G, R: Wait>(
     rt: &R,
     threaded: &Threaded<'a, G>,
-) -> Result<Vec<Watched<'a>>, AllocError> {
+) -> Result<Vec<Watched<'a>>, AllocError>
+    ensures { IfOk result (λ watched. AreOwns (names_of threaded.now) (owns_of watched.items)) }
+{
     let (topology, replicas) = (threaded.plan.topology, threaded.plan.replicas);
     let mut watched = Vec::new(threaded.alloc);
-    for (station, book) in threaded.stations.iter().zip(threaded.books) {
-        let own = Own {
-            index: watched.len(),
-            station,
-            book,
+    for _ in 0..threaded.books.len() {
+        let Some(own) = threaded.own_at(watched.len()) else {
+            break;
         };
-        watched.push(Watched::new(threaded.alloc, topology, replicas, own, book.pass(rt)?)?)?;
+        let pass = own.book.pass(rt)?;
+        watched.push(Watched::new(threaded.alloc, topology, replicas, own, pass)?)?;
     }
     Ok(watched)
 }
@@ -218,7 +227,8 @@ fn dispatcher_of<'a, G, R: Wait>(
     poll: Poll,
     seat: Seat,
 ) -> Result<Dispatcher<'a>, AllocError>
-    ensures { IfOk result (λ d. d.seat ≡ seat) }
+    ensures seat { IfOk result (λ d. d.seat ≡ seat) }
+    ensures owns { IfOk result (λ d. AreOwns (names_of threaded.now) (owns_of d.watched.items)) }
 {
     Ok(Dispatcher {
         watched: watch_all(rt, threaded)?,
@@ -243,7 +253,8 @@ fn run_books<'x, F: Outputs, G: Gate + Sync, R>(
 where
     F::File: Send,
     R: Runtime,
-    requires { (1 ≤ plan.now.workers) × (plan.now.workers ≤ 64) }
+    requires workers { (1 ≤ plan.now.workers) × (plan.now.workers ≤ 64) }
+    requires names { HaveDistinctNames (map (λ b. (b.partition, b.replica)) books.now) }
     ensures counted { IfOk result (λ run. All (λ end. AreCounted F.File.seen
         (F.made outputs.old) end.files.files.items) run.0.items) }
     ensures same { F.made outputs.new ≡ F.made outputs.old }
@@ -258,7 +269,7 @@ where
         listeners,
     } = open_posts(rt, alloc, plan.topology.partitions(), books)?;
     let (poll, waker) = woken_poll(rt)?;
-    let (ended, has_failed) = (AtomicUsize::new(0), AtomicBool::new(false));
+    let has_failed = OnceLock::new();
     let threaded = Threaded {
         alloc,
         plan: &*plan,
@@ -267,7 +278,6 @@ where
         listeners: listeners.as_slice(),
         board: &board,
         dispatcher: &waker,
-        ended: &ended,
         has_failed: &has_failed,
         gate: &*gate,
     };

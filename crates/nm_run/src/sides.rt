@@ -1,20 +1,24 @@
 //! The replicas of a run, each in a thread of its own.
 
-ghost use Rattle.std.specs.Prelude.{◌≡◌, ◌⊎◌, ◌≤◌, All, IfOk, Option, false, true};
+ghost use Rattle.std.specs.Prelude.{◌≡◌, ◌⊎◌, ◌≤◌, All, IfOk, Option, Some, false, true};
 ghost use Rattle.nm_replica.specs.declared.served.Served.TheVariants.{Ended, Memory, Net};
 ghost use Rattle.nm_files.specs.Files.{AreCounted};
 ghost use Rattle.nm_files.specs.Outputs.{Files};
+ghost use Rattle.std.specs.IoError.{error_kind};
+ghost use Rattle.nm_run.specs.Faults.{IsToldAs};
 ghost use Rattle.nm_run.specs.Sides.{StillCounts};
 ghost use Rattle.nm_run.specs.Took.{TookSome};
+ghost use Rattle.nm_run.specs.Watching.{AreOwns, names_of, owns_of};
 ghost use Rattle.nm_shared.specs.Board.{IsSeatOf};
 
 use crate::dispatching::{Dispatcher, dispatch};
 use crate::gates::SideGate;
 use crate::posts::Post;
 use crate::runtime::Runtime;
-use crate::stations::Own;
+use crate::stations::{Counted, Own};
 use crate::stop::Stop;
-use crate::threads::{Threaded, Told};
+use crate::threads::Threaded;
+use crate::told::Told;
 use nm_base::{PartNo, Sink};
 use nm_files::TraceFiles;
 use nm_frames::ReplicaName;
@@ -53,6 +57,8 @@ pub(crate) struct SideEnd<S> {
     pub served: Served,
     /// The others were told, where it was not done.
     pub told: Told,
+    /// It was counted among those that have ended.
+    pub counted: Counted,
     /// The pass of its book.
     pub pass: Pass<Plain>,
     /// A pass of each book of the run, in the order of the books.
@@ -102,6 +108,8 @@ fn serve_as<S: Sink, G: Gate, R: Net + Wait + Clock + Drop + Copy>(
     // It is stalled after a minute, and its records leave its book while it runs.
     requires limits { (service.now.idle_limit ≡ MAX_IDLE_PERIODS)
         × (service.now.run_limit ≡ OWN_EVENTS) × (service.now.keeps_records ≡ false) }
+    requires notes { (service.now.progress ≡ Some threaded.now.plan.now.progress)
+        × (service.now.notes_progress ≡ false) }
     ensures took { result ≡ Ended → TookSome S.seen
         holdings.old.files.files.items holdings.new.files.files.items }
 {
@@ -143,7 +151,8 @@ fn serve<S: Sink, G: Gate, R: Net + Wait + Clock + Drop + Copy>(
 
 /// How serving ends where there is no transport.
 fn served_of(error: &io::Error) -> Served
-    ensures { (result ≡ Memory) ⊎ (result ≡ Net) }
+    ensures kind { IsToldAs (error_kind error.now) Memory Net result }
+    ensures either { (result ≡ Memory) ⊎ (result ≡ Net) }
 {
     if error.kind() == ErrorKind::OutOfMemory {
         Served::Memory
@@ -153,11 +162,11 @@ fn served_of(error: &io::Error) -> Served
 }
 
 /// Tells all other replicas to end too, where one ended so that was not done.
-fn tell_others<G>(threaded: &Threaded<'_, G>, served: &Served) -> Told
+fn tell_others<G, R: Wait>(rt: &R, threaded: &Threaded<'_, G>, served: &Served) -> Told
     ensures { (served.now ≡ Ended) ⊎ (result.are_all ≡ true) }
 {
     if *served != Served::Ended {
-        return threaded.fail();
+        return threaded.fail(rt);
     }
     Told::NOBODY
 }
@@ -169,6 +178,7 @@ pub(crate) fn run_side<S: Sink, G: Gate, R: Net + Wait + Clock + Drop + Copy>(
     side: Side<'_, S>,
 ) -> SideEnd<S>
     ensures told { (result.served ≡ Ended) ⊎ (result.told.are_all ≡ true) }
+    ensures counted { result.counted.index ≡ side.entry.own.index }
     ensures took { result.served ≡ Ended → TookSome S.seen
         side.entry.holdings.files.files.items result.files.files.items }
 {
@@ -196,8 +206,8 @@ pub(crate) fn run_side<S: Sink, G: Gate, R: Net + Wait + Clock + Drop + Copy>(
             serve(rt, threaded, role, &mut holdings, &mut transport)
         }
     };
-    let told = tell_others(threaded, &served);
-    threaded.count_end();
+    let told = tell_others(rt, threaded, &served);
+    let counted = threaded.count_end(rt, &own);
     let Holdings {
         pass,
         passes,
@@ -208,6 +218,7 @@ pub(crate) fn run_side<S: Sink, G: Gate, R: Net + Wait + Clock + Drop + Copy>(
         index,
         served,
         told,
+        counted,
         pass,
         passes,
         files,
@@ -230,6 +241,7 @@ pub(crate) fn run_threads<S: Sink + Drop + Send, G: Gate + Sync, R: Runtime>(
 ) -> Result<(Vec<SideEnd<S>>, Vec<BookPass<Plain>>), Stop>
     requires workers { (1 ≤ threaded.now.plan.now.workers) × (threaded.now.plan.now.workers ≤ 64) }
     requires seat { IsSeatOf threaded.now.board.now dispatcher.seat }
+    requires owns { AreOwns (names_of threaded.now) (owns_of dispatcher.watched.items) }
     ensures counted { (made : Option Files)
         → All (λ s. AreCounted S.seen made s.holdings.files.files.items) sides.entry.items
         → IfOk result (λ run. All (StillCounts S.seen made) run.0.items) }
@@ -241,6 +253,7 @@ pub(crate) fn run_threads<S: Sink + Drop + Send, G: Gate + Sync, R: Runtime>(
             requires workers { (1 ≤ threaded.now.plan.now.workers)
                 × (threaded.now.plan.now.workers ≤ 64) }
             requires seat { IsSeatOf threaded.now.board.now dispatcher.seat }
+            requires owns { AreOwns (names_of threaded.now) (owns_of dispatcher.watched.items) }
             ensures counted { (made : Option Files)
                 → All (λ s. AreCounted S.seen made s.holdings.files.files.items) sides.entry.items
                 → IfOk result (λ run. All (StillCounts S.seen made) run.0.items) }
@@ -257,15 +270,17 @@ pub(crate) fn run_threads<S: Sink + Drop + Send, G: Gate + Sync, R: Runtime>(
                     { run_side(rt, threaded, side) },
                 );
                 let Ok(thread) = begun else {
-                    let _ = threaded.fail();
+                    let _ = threaded.fail(rt);
                     return Err(Stop::Net);
                 };
                 if threads.push(thread).is_err() {
-                    let _ = threaded.fail();
+                    let _ = threaded.fail(rt);
                     return Err(Stop::Memory);
                 }
             }
-            let dispatched = dispatch(rt, threaded, &mut dispatcher)?;
+            let Ok(dispatched) = dispatch(rt, threaded, &mut dispatcher) else {
+                return Err(Stop::Memory);
+            };
             let mut ends = Vec::new(threaded.alloc);
             for thread in threads {
                 ends.push(thread.join(rt))?;

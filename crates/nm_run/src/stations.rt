@@ -6,6 +6,7 @@ use mio::Waker;
 use nm_frames::ReplicaName;
 use nm_replica::Lending;
 use nm_shared::{Plain, SharedBook};
+use std::sync::{OnceLock, OnceToken, Wait};
 
 /// What a run keeps of a replica beside its book.
 #[derive(Drop)]
@@ -14,12 +15,28 @@ pub(crate) struct Station {
     pub lending: Lending,
     /// Wakes it.
     pub waker: Waker,
+    /// It has ended. Nothing takes that back.
+    pub ended: OnceLock<()>,
+}
+
+/// The replica of this station was woken: only `Station::wake` makes it.
+#[derive(Clone, Copy)]
+pub(crate) struct Woken<'a> {
+    station: &'a Station,
 }
 
 impl Station {
     /// Wakes the replica.
-    pub(crate) fn wake(&self) {
+    pub(crate) fn wake(&self) -> Woken<'_>
+        ensures { result.station ≡ self.entry }
+    {
         let _ = self.waker.wake();
+        Woken { station: self }
+    }
+
+    /// Whether the replica has ended.
+    pub(crate) fn has_ended(&self) -> bool {
+        self.ended.get().is_some()
     }
 }
 
@@ -42,5 +59,28 @@ impl<'a> Own<'a> {
             partition: self.book.partition,
             replica: self.book.replica,
         }
+    }
+
+    /// It has ended.
+    pub(crate) fn end<R: Wait>(&self, rt: &R) -> Counted
+        ensures { result.index ≡ self.now.index }
+    {
+        Counted::at(self, &self.station.ended.init(rt, || ()))
+    }
+}
+
+/// The replica with this number is among those that have ended: only `Own::end` makes it.
+#[derive(Clone, Copy)]
+pub(crate) struct Counted {
+    index: usize,
+}
+
+impl Counted {
+    /// It was noted at the replica's station that it has ended.
+    fn at(own: &Own<'_>, noted: &OnceToken<'_, ()>) -> Self
+        requires { noted.now.of ≡ own.now.station.now.ended.id }
+        ensures { result.index ≡ own.now.index }
+    {
+        Counted { index: own.index }
     }
 }

@@ -43,6 +43,11 @@ impl<T: Drop> From<AllocFailed<T>> for Stop {
 }
 
 impl From<io::Error> for Stop {
+    ghost use Rattle.std.specs.IoError.{error_kind};
+    ghost use Rattle.nm_run.specs.Faults.{IsStopOf};
+
+    ghost from_gives = { λ error s. IsStopOf (error_kind error) s };
+
     fn from(error: io::Error) -> Self {
         if error.kind() == ErrorKind::OutOfMemory {
             Stop::Memory

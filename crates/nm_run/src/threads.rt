@@ -1,14 +1,16 @@
 //! What the threads of a run share.
 
-ghost use Rattle.std.specs.Prelude.{◌≡◌, nat_le, true};
+ghost use Rattle.std.specs.Prelude.{◌≡◌, IfSome, nat_le, true};
+ghost use Rattle.nm_run.specs.Watching.{IsOwnAt, names_of};
 
 use crate::run::RunPlan;
-use crate::stations::Station;
+use crate::stations::{Counted, Own, Station};
+use crate::told::Told;
 use mio::Waker;
 use nm_peers::Listener;
 use nm_shared::{ClockBoard, Plain, SharedBook};
 use std::alloc::Global;
-use std::sync::atomic::{AtomicBool, AtomicUsize, Ordering};
+use std::sync::{OnceLock, Wait};
 
 /// What all threads of a run share.
 #[derive(Clone, Copy)]
@@ -25,10 +27,9 @@ pub(crate) struct Threaded<'a, G> {
     pub board: &'a ClockBoard,
     /// Wakes the dispatcher.
     pub dispatcher: &'a Waker,
-    /// How many replicas have ended.
-    pub ended: &'a AtomicUsize,
-    /// A replica has ended before it was done, or memory was refused to the dispatcher.
-    pub has_failed: &'a AtomicBool,
+    /// A replica has ended before it was done, or memory was refused to the dispatcher. Nothing
+    /// takes it back.
+    pub has_failed: &'a OnceLock<()>,
     pub gate: &'a G,
 }
 
@@ -39,42 +40,50 @@ fn is_over(ended: usize, replicas: usize) -> bool
     ended >= replicas
 }
 
-/// Whether all replicas were told that the run has failed: only `Threaded::fail` says so.
+/// All replicas were woken: only `Threaded::wake_all` makes it.
 #[derive(Clone, Copy)]
-pub(crate) struct Told {
-    are_all: bool,
-}
-
-impl Told {
-    /// Nobody was told.
-    pub(crate) const NOBODY: Told = Told { are_all: false };
-}
+pub(crate) struct AllWoken(());
 
 impl<'a, G> Threaded<'a, G> {
+    /// The replica that has this number among those of the run.
+    pub(crate) fn own_at(&self, number: usize) -> Option<Own<'a>>
+        ensures { IfSome result (IsOwnAt (names_of self.now) number) }
+    {
+        Some(Own {
+            index: number,
+            station: self.stations.get(number)?,
+            book: self.books.get(number)?,
+        })
+    }
+
     /// Wakes all replicas.
-    pub(crate) fn wake_all(&self) {
+    pub(crate) fn wake_all(&self) -> AllWoken {
         for station in self.stations {
-            station.wake();
+            let _ = station.wake();
         }
+        AllWoken(())
     }
 
     /// Tells all replicas that the run has failed.
-    pub(crate) fn fail(&self) -> Told
+    pub(crate) fn fail<R: Wait>(&self, rt: &R) -> Told
         ensures { result.are_all ≡ true }
     {
-        self.has_failed.store(true, Ordering::SeqCst);
-        self.wake_all();
-        Told { are_all: true }
+        let noted = self.has_failed.init(rt, || ());
+        Told::all(self.has_failed, &noted, self.wake_all())
     }
 
     /// One more replica has ended.
-    pub(crate) fn count_end(&self) {
-        let _ = self.ended.fetch_add(1, Ordering::SeqCst);
+    pub(crate) fn count_end<R: Wait>(&self, rt: &R, own: &Own<'_>) -> Counted
+        ensures { result.index ≡ own.now.index }
+    {
+        let counted = own.end(rt);
         let _ = self.dispatcher.wake();
+        counted
     }
 
     /// Whether all replicas have ended.
     pub(crate) fn are_over(&self) -> bool {
-        is_over(self.ended.load(Ordering::SeqCst), self.stations.len())
+        let ended = self.stations.iter().filter(|one| one.has_ended());
+        is_over(ended.count(), self.stations.len())
     }
 }

@@ -1,5 +1,9 @@
 use Rattle.std.proofs.Common.{◌≡◌}
+use Rattle.nm_run.specs.Watching.{owns_of}
 use Rattle.nm_run.proofs.dispatching.do_in_turn.Given as goal
 
 abbrev pub invariant-loop-number : goal.invariant-loop-number
-invariant-loop-number g l = l.dispatcher.seat ≡ l.fn.dispatcher.seat
+invariant-loop-number g l = record {
+  seat : l.dispatcher.seat ≡ l.fn.dispatcher.seat;
+  owns : owns_of l.dispatcher.watched.items ≡ owns_of l.fn.dispatcher.watched.items;
+}

@@ -1,5 +1,9 @@
 use Rattle.std.proofs.Common.{◌≡◌}
+use Rattle.nm_run.specs.Watching.{owns_of}
 use Rattle.nm_run.proofs.dispatching.note_all.Given as goal
 
 abbrev pub invariant-loop-job : goal.invariant-loop-job
-invariant-loop-job g l = l.dispatcher.seat ≡ l.fn.dispatcher.seat
+invariant-loop-job g l = record {
+  seat : l.dispatcher.seat ≡ l.fn.dispatcher.seat;
+  owns : owns_of l.dispatcher.watched.items ≡ owns_of l.fn.dispatcher.watched.items;
+}

@@ -9,7 +9,7 @@ pub run_threads-requires-clause-seat : goal.run_threads-requires-clause-seat
 run_threads-requires-clause-seat g c = λ κs bounds.
     let board = c.in_ok-board.board in
     let last : c.in_ok-board.seats.items ≡ c.pop.new.self.items ++ c.in-Some.seat ∷ [] = search rules in
-    subst (IsSeatOf board) (sym c.in_ok-dispatcher.ensures)
+    subst (IsSeatOf board) (sym c.in_ok-dispatcher.ensures.seat)
     (each_back (λ _ s. IsSeatOf board s) c.in_ok-board.seats.items c.pop.new.self.items c.in-Some.seat last c.in_ok-board.ensures.seats)
 
 pub returns-clause-counted : goal.returns-clause-counted

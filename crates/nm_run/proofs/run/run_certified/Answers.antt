@@ -5,7 +5,14 @@ use Rattle.nm_files.specs.Outputs.{AreWhole}
 use Rattle.nm_rounds.specs.Certify.{AreCertified}
 use Rattle.nm_run.specs.Files.{AreClosed, kept_files}
 use Rattle.nm_run.specs.Leaving.{leaving}
+use Rattle.nm_run.specs.Replicas.{HaveDistinctNames}
+use Rattle.nm_run.proofs.Dealing.{all_distinct}
 use Rattle.nm_run.proofs.run.run_certified.Goals as goal
+
+pub run_books-requires-clause-names : goal.run_books-requires-clause-names
+run_books-requires-clause-names g c = λ κs bounds.
+    subst (λ l. HaveDistinctNames (map (λ b. (b.partition, b.replica)) l)) (sym c.as_slice.ensures.value)
+    (all_distinct _ _ _ c.in_ok-shared.ensures)
 
 pub close_all-requires-clause-counted : goal.close_all-requires-clause-counted
 close_all-requires-clause-counted g c =

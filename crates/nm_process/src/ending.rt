@@ -1,0 +1,90 @@
+//! What serving a replica comes to, and what its process does.
+
+ghost use Rattle.std.specs.Prelude.{◌≡◌, Some, [], false, true};
+ghost use Rattle.std.specs.Arc.{arc_value};
+ghost use Rattle.nm_peers.specs.Peers.{ArePeers};
+ghost use Rattle.nm_peers.specs.declared.peers.Peers.{Peers};
+ghost use Rattle.nm_process.specs.Ending.{process_end, unfinished_fault};
+
+use crate::fault::{ProcessCause, ProcessFault};
+use crate::process::{Process, RUN_EVENTS};
+use nm_base::MemSink;
+use nm_book::Book;
+use nm_replica::{Holdings, Served, Service, run_replica};
+use nm_shared::{Counts, OpenGate};
+use nm_transport::TcpTransport;
+use std::alloc::Global;
+use std::net::Net;
+use std::sync::Wait;
+use std::time::Clock;
+
+/// What serving a replica came to: only `serve_over` makes it, so that nobody tells another.
+#[derive(Clone, Copy)]
+pub(crate) struct Ending {
+    served: Served,
+}
+
+/// What the replica of a process came to.
+#[derive(Drop)]
+pub struct ProcessEnd {
+    /// It knows all and did all of its events.
+    pub book: Book,
+    /// What serving it came to: it may have ended otherwise than as done, as where a peer was gone
+    /// for the last minute, or broke the rules.
+    pub served: Served,
+}
+
+/// Serves a replica over this transport, which is shared with nobody else.
+pub(crate) fn serve_over<C: Counts, R: Net + Wait + Clock + Drop + Copy>(
+    rt: &R,
+    alloc: Global,
+    process: &Process<'_>,
+    service: &Service<'_, C>,
+    holdings: &mut Holdings<'_, C, MemSink>,
+    transport: &mut TcpTransport<R>,
+) -> Ending
+    // It speaks with all neighbours that its book's replica has among the listeners.
+    requires topology { service.now.topology ≡ process.now.topology }
+    requires peers { (peers : Peers)
+        × ArePeers (arc_value process.now.topology.now) service.now.book.now.partition
+        process.now.listeners.now peers
+        × (service.now.peers.now ≡ peers.partitions.items)
+        × (service.now.callers.now ≡ peers.callers.items) }
+
+    // It is stalled after as many periods as the process says, merges with nobody, and its book
+    // keeps its records.
+    requires limits { (service.now.idle_limit ≡ process.now.idle_limit)
+        × (service.now.run_limit ≡ RUN_EVENTS) × (service.now.keeps_records ≡ true) }
+    requires alone { (service.now.books.now ≡ []) × (service.now.lending.now.has_pool ≡ false) }
+    requires notes { (service.now.progress ≡ Some process.now.progress)
+        × (service.now.notes_progress ≡ true) }
+{
+    Ending {
+        served: run_replica(rt, alloc, service, holdings, transport, &OpenGate),
+    }
+}
+
+/// Why a replica is not done whose serving came to this.
+fn unfinished_fault(served: Served) -> ProcessFault
+    ensures { result ≡ unfinished_fault served }
+{
+    match served {
+        Served::Ended | Served::Stalled { .. } => ProcessFault::Refused(ProcessCause::Stalled),
+        Served::Net => ProcessFault::Refused(ProcessCause::Net),
+        Served::File { .. } => ProcessFault::Refused(ProcessCause::Broken),
+        Served::Memory => ProcessFault::Memory,
+    }
+}
+
+/// What the process comes to whose replica left this book, if it is done.
+pub(crate) fn process_end(closed: Option<Book>, ending: Ending) -> Result<ProcessEnd, ProcessFault>
+    ensures { result ≡ process_end closed ending.served }
+{
+    match closed {
+        Some(book) => Ok(ProcessEnd {
+            book,
+            served: ending.served,
+        }),
+        None => Err(unfinished_fault(ending.served)),
+    }
+}

@@ -1,0 +1,37 @@
+use Rattle.std.proofs.Common.{◌≡◌, ◌<◌, ℕ, All, length, get_or, rules, sym, subst, ◌∙◌, ap}
+use Rattle.std.proofs.Math.Seq.{map-set_same}
+use Rattle.std.proofs.lemmas.List.Elements.{All-push}
+use Rattle.nm_run.specs.Watching.{AreOwns, names_of, owns_of}
+use Rattle.nm_run.specs.declared.stations.Own.{Own}
+use Rattle.nm_run.proofs.Watching.{own_there}
+use Rattle.nm_run.proofs.jobs.jobs_for.Goals as goal
+use Rattle.nm_run.proofs.jobs.jobs_for.Goals.{then-wants+in_ok-push, else-wants}
+
+pub loop-number-preserved : goal.loop-number-preserved
+loop-number-preserved g c =
+    let watched = c.loop-number.watched.items in
+    let books = c.args.threaded.now.books.now in
+    let n = c.loop-number.number in
+    let w = c.in-Some.one.now in
+    let there : w ≡ get_or watched n w = search rules in
+    let low : n < length books = search rules in
+    let long : n < length watched = search rules in
+    let names = names_of c.args.threaded.now in
+    let owns = subst (AreOwns names) (sym c.loop-number.invariant.owns) c.requires.owns in
+    let here = ap (λ (o : Own). o.index) c.wants.ensures.own ∙ own_there names watched n w owns long there in
+    record {
+      seat = c.wants.ensures.seat;
+      named = elim c.if-wants.branch [
+        | then-wants+in_ok-push w ↦
+            subst (λ v. All (λ j. j.book < length books) v.items) (sym w.jobs-is)
+            (subst (All (λ j. j.book < length books)) (sym w.in_ok-push.ensures.items)
+            (All-push (λ j. j.book < length books) c.loop-number.jobs.items w.job.result c.loop-number.invariant.named (subst (λ (i : ℕ). i < length books) (sym (w.job.ensures ∙ here)) low)))
+        | else-wants w ↦ subst (λ v. All (λ j. j.book < length books) v.items) (sym w.jobs-is) c.loop-number.invariant.named
+      ];
+      owns =
+          let kept = map-set_same (λ x. x.own) watched n c.wants.new.self w (c.wants.ensures.own ∙ ap (λ x. x.own) there) ∙ c.loop-number.invariant.owns in
+          elim c.if-wants.branch [
+            | then-wants+in_ok-push w ↦ ap (λ v. owns_of v.items) w.watched-is ∙ kept
+            | else-wants w ↦ ap (λ v. owns_of v.items) w.watched-is ∙ kept
+          ];
+    }
