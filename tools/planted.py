@@ -7,9 +7,9 @@ usage: tools/planted.py CRATE [WORD]      prints a row of a table for each bug
 
 The bugs are tools/planted/CRATE.bugs: blocks, each with a line 'bug:' (what is wrong), 'file:' (in the crate), 'check:' (the
 function whose proof is tried first; none: the whole crate), and pairs of lines 'old:' and 'new:'; each old text stands once in the
-file, or once in that function. With WORD only the bugs whose text holds it are tried. The crate must be proved, and is not changed: a copy of it is, beside
-copies of the crates below it. A bug whose function is still proved is tried in the whole crate. The last line counts; the status is 1 where a bug was not
-refused, or could not be tried.
+file, or once in that function. A bug with a line 'types: yes' is one that the types are to refuse: it does not compile. With WORD only the bugs whose text
+holds it are tried. The crate must be proved, and is not changed: a copy of it is, beside copies of the crates below it. A bug whose function is still proved is
+tried in the whole crate. The last line counts; the status is 1 where a bug was not refused, or could not be tried.
 """
 
 import os
@@ -108,18 +108,18 @@ def try_bug(folder, bug):
         proved, goals, _ = check(folder, bug["check"])
         if proved and bug["check"]:
             proved, goals, _ = check(folder, "")
-        return answer_of(proved, goals)
+        return answer_of(proved, goals, "types" in bug)
     finally:
         open(path, "w", encoding="utf-8").write(before)
 
 
-def answer_of(proved, goals):
-    """What a row says: a bug that does not compile, or whose function has another name, was not tried."""
+def answer_of(proved, goals, by_types):
+    """What a row says: a bug that does not compile, or whose function has another name, was not tried, unless the types are to refuse it."""
     if proved:
         return "PROVED"
     untried = [goal for goal in goals if UNTRIED.search(goal)]
     if untried:
-        return "NOT TRIED: " + untried[0]
+        return ("does not compile: " if by_types else "NOT TRIED: ") + untried[0]
     return "; ".join(goals[:3]) or "refused with no goal named"
 
 
