@@ -149,7 +149,11 @@ class Nodes:
 
     def faults(self, wanted, statuses=(0, 7)):
         files = [fault for node in self.all.values() for fault in node.faults(wanted, statuses)]
-        return files or [fault for replica in (0, 1) for fault in self.certificate_faults(replica)]
+        return files or self.all_certificate_faults()
+
+    def all_certificate_faults(self):
+        """That of the first replicas, and of the second ones."""
+        return [fault for replica in (0, 1) for fault in self.certificate_faults(replica)]
 
     def certificate_faults(self, replica):
         """What `certify` says but `certified` of what the replicas of this number left, one of each partition, where all of them are done."""
