@@ -55,7 +55,8 @@ pub record IsMet (o : Owner) (counts : PassCounts) (b : BookValue) : Type 0 wher
   pub within : RanWithin b
 
 -- so many messages more are counted, and no event
-pub record CountsMore (o : Owner) (before : PassCounts) (more : ℕ) (after : PassCounts) : Type 0 where
+pub record CountsMore (o : Owner) (before : PassCounts) (more : ℕ) (after : PassCounts)
+    : Type 0 where
   pub messages : o.exact ≡ true → after.messages ≡ before.messages + more
   pub events : o.exact ≡ true → after.events ≡ before.events
 

@@ -198,8 +198,8 @@ impl<W: Wire> Link<W> {
 
     /// Reads at most 65,536 octets once and takes the frames that came whole; then puts the frames
     /// that the session owes into the buffer, until it has 131,072 octets or more; then writes
-    /// once. What the frames were for is told the book, which has no less than the pass has counted,
-    /// and a message that is new to it is counted by the pass.
+    /// once. What the frames were for is told the book, which has no less than the pass has
+    /// counted, and a message that is new to it is counted by the pass.
     pub fn turn<C: Counts, R: Wait>(
         &mut self,
         rt: &R,

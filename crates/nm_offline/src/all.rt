@@ -55,8 +55,8 @@ fn record_all<S: Sink>(
     Err(Status::Memory)
 }
 
-/// Runs the network over the files that are asked for, which are closed then, in a folder that has a
-/// name.
+/// Runs the network over the files that are asked for, which are closed then, in a folder that has
+/// a name.
 fn write_files<F: Outputs>(
     alloc: Global,
     folder: &Folder<'_, Asked<'_>>,
