@@ -16,7 +16,7 @@ use Rattle.nm_sim.specs.Network.{net_of}
 use Rattle.nm_sim.specs.Part.{PartValue, Represents}
 use Rattle.nm_book.specs.Book.{knowledge_of}
 use Rattle.nm_book.specs.BookPart.{IsBook, pending_in}
-use Rattle.nm_book.specs.Merging.{AreJoined, AreTold, IsGainOf, IsGrown, IsTurnOf, is_incoming, joined_at, known, other, with_gain}
+use Rattle.nm_book.specs.Merging.{AreJoined, AreTold, IsGainOf, IsGrown, IsTurnOf, both_know, is_incoming, joined_at, known, other, with_gain}
 use Rattle.nm_book.specs.Telling.{Follow, IsNext, known_of, told_each, told_one, with_message}
 use Rattle.nm_book.specs.declared.message.Data.{Data}
 use Rattle.nm_book.proofs.Safety.{next_case}
@@ -129,7 +129,7 @@ module _ (t : TopologyValue) (p : ℕ) (knows others : List (Know (List ℕ))) (
 -- one channel's messages, one after another
 module _ (t : TopologyValue) (p : ℕ) (knows before : List (Know (List ℕ))) (c : ℕ) (a b : Know (List ℕ)) where
   pub grown_first : (ms : List Data) → Follow t p knows ms → told_each knows ms ≡ before → slice_index_or before c nothing_known ≡ a
-      → IsUnder a (join a b) → length a.list ≤ length b.list → IsGrown t p knows before c a b (length a.list) ms
+      → IsUnder a (join a b) → length a.list ≤ length b.list → IsGrown t p knows before (both_know c a b) (length a.list) ms
   grown_first ms follow is at under h =
       let longer = join_longer a b h in
       let begins : a.list ++ under.begins.0 ≡ b.list = under.begins.1 ∙ longer in
@@ -143,9 +143,9 @@ module _ (t : TopologyValue) (p : ℕ) (knows before : List (Know (List ℕ))) (
         later = λ m x past e. under.later m x past (ap (λ l. nth l m) longer ∙ e);
       }
 
-  pub grown_next : (n : ℕ) (ms : List Data) (time : ℕ) (x : List ℕ) → IsGrown t p knows before c a b n ms → nth b.list n ≡ Some (time, x) → IsKnow b
+  pub grown_next : (n : ℕ) (ms : List Data) (time : ℕ) (x : List ℕ) → IsGrown t p knows before (both_know c a b) n ms → nth b.list n ≡ Some (time, x) → IsKnow b
       → comes_in (net_of t) p (receiving_iface t c) ≡ true → c < length before
-      → IsGrown t p knows before c a b (n + 1) (ms ++ record { channel = c; number = n; time = time; packet = x } ∷ [])
+      → IsGrown t p knows before (both_know c a b) (n + 1) (ms ++ record { channel = c; number = n; time = time; packet = x } ∷ [])
   grown_next n ms time x grown e is_know comes there =
       let k = grown.now_known in
       let m : Data = record { channel = c; number = n; time = time; packet = x } in
@@ -172,8 +172,8 @@ module _ (t : TopologyValue) (p : ℕ) (knows before : List (Know (List ℕ))) (
       }
 
 -- and so all of them
-pub grown_all : (t : TopologyValue) (p : ℕ) (knows others : List (Know (List ℕ))) (c : ℕ) (a b : Know (List ℕ)) (first ms : List Data) → IsTurnOf t p knows others c a b first
-    → length a.list < length b.list → is_incoming t p knows others c ≡ true → IsGrown t p knows (told_each knows first) c a b (length b.list) ms → AreTold t p knows others (c + 1) (told_each knows ms)
+pub grown_all : (t : TopologyValue) (p : ℕ) (knows others : List (Know (List ℕ))) (c : ℕ) (a b : Know (List ℕ)) (first ms : List Data) → IsTurnOf t p knows others (both_know c a b) first
+    → length a.list < length b.list → is_incoming t p knows others c ≡ true → IsGrown t p knows (told_each knows first) (both_know c a b) (length b.list) ms → AreTold t p knows others (c + 1) (told_each knows ms)
 grown_all t p knows others c a b first ms turn more comes grown =
     let ours : known t p knows others c ≡ a = turn.ours in
     let theirs : other t p knows others c ≡ b = turn.theirs in
@@ -187,7 +187,7 @@ grown_all t p knows others c a b first ms turn more comes grown =
     (λ none. let w : true ≡ false = sym comes ∙ none in absurd cc) grown.set
 
 -- or there is nothing new of it
-pub told_nothing : (t : TopologyValue) (p : ℕ) (knows others : List (Know (List ℕ))) (c : ℕ) (a b : Know (List ℕ)) (first : List Data) → IsTurnOf t p knows others c a b first
+pub told_nothing : (t : TopologyValue) (p : ℕ) (knows others : List (Know (List ℕ))) (c : ℕ) (a b : Know (List ℕ)) (first : List Data) → IsTurnOf t p knows others (both_know c a b) first
     → (is_incoming t p knows others c ≡ true → a.list ≡ (join a b).list) → AreTold t p knows others (c + 1) (told_each knows first)
 told_nothing t p knows others c a b first turn same =
     told_none t p knows others c (told_each knows first) turn.below turn.there

@@ -82,6 +82,11 @@ module _ (t : TopologyValue) (p : ℕ) (knows others : List (Know (List ℕ))) w
   MergesChannels is_ours after (Err Memory) =
       (is_ours ≡ true) × AreJoinable (length knows) × (after ≡ knows)
 
+-- the answer of a merge with what another replica of the same partition knows
+abbrev pub MergesOwnChannels : TopologyValue → ℕ → (knows others after : List (Know (List ℕ)))
+    → Result Unit (Fault MergeRefusal) → Type 0
+MergesOwnChannels t p knows others after result = MergesChannels t p knows others true after result
+
 -- what a channel gains, if it comes in: with it the join is known
 abbrev pub IsGainOf : Bool → Know (List ℕ) → Know (List ℕ) → Option Gain → Type 0
 IsGainOf incoming a b None = incoming ≡ false
@@ -121,25 +126,41 @@ module _ (t : TopologyValue) (p : ℕ) (knows others : List (Know (List ℕ))) w
         → slice_index_or after c nothing_known ≡ known t p knows others c
     pub above : (c : ℕ) → n ≤ c → slice_index_or after c nothing_known ≡ known t p knows others c
 
--- it is the turn of channel c: both know this of it, and the messages of those below it are told
-pub record IsTurnOf (t : TopologyValue) (p : ℕ) (knows others : List (Know (List ℕ))) (c : ℕ)
-    (a b : Know (List ℕ)) (messages : List Data) : Type 0 where
-  pub there : c < length knows
-  pub ours : slice_index_or knows c nothing_known ≡ a
-  pub theirs : slice_index_or others c nothing_known ≡ b
-  pub follow : Follow t p knows messages
-  pub below : AreTold t p knows others c (told_each knows messages)
+-- a channel, and what two replicas know of it
+pub record BothKnow : Type 0 where
+  pub channel : ℕ
+  pub ours : Know (List ℕ)
+  pub theirs : Know (List ℕ)
 
--- of channel c, of which a was known, the first n messages of b are told
-pub record IsGrown (t : TopologyValue) (p : ℕ) (knows before : List (Know (List ℕ))) (c : ℕ)
-    (a b : Know (List ℕ)) (n : ℕ) (messages : List Data) : Type 0 where
+abbrev pub both_know : ℕ → (ours theirs : Know (List ℕ)) → BothKnow
+both_know c a b = record { channel = c; ours = a; theirs = b }
+
+-- it is the turn of a channel: both know this of it, and the messages of those below it are told
+pub record IsTurnOf (t : TopologyValue) (p : ℕ) (knows others : List (Know (List ℕ)))
+    (both : BothKnow) (messages : List Data) : Type 0 where
+  pub there : both.channel < length knows
+  pub ours : slice_index_or knows both.channel nothing_known ≡ both.ours
+  pub theirs : slice_index_or others both.channel nothing_known ≡ both.theirs
+  pub follow : Follow t p knows messages
+  pub below : AreTold t p knows others both.channel (told_each knows messages)
+
+-- of a channel the first n messages that the other knows are told, where these were known before
+pub record IsGrown (t : TopologyValue) (p : ℕ) (knows before : List (Know (List ℕ)))
+    (both : BothKnow) (n : ℕ) (messages : List Data) : Type 0 where
   pub follow : Follow t p knows messages
   pub now_known : Know (List ℕ)
-  pub set : told_each knows messages ≡ slice_set before c now_known
-  pub list : now_known.list ≡ take n b.list
-  pub over : a.clock ≤ now_known.clock
-  pub under : now_known.clock ≤ max a.clock b.clock
-  pub later : (m : ℕ) (x : ℕ × List ℕ) → n ≤ m → nth b.list m ≡ Some x → now_known.clock ≤ x.0
+  pub set : told_each knows messages ≡ slice_set before both.channel now_known
+  pub list : now_known.list ≡ take n both.theirs.list
+  pub over : both.ours.clock ≤ now_known.clock
+  pub under : now_known.clock ≤ max both.ours.clock both.theirs.clock
+  pub later : (m : ℕ) (x : ℕ × List ℕ) → n ≤ m → nth both.theirs.list m ≡ Some x
+      → now_known.clock ≤ x.0
+
+-- all are told that it knows, where the first of these messages were told before
+abbrev pub HasAllGrown : TopologyValue → ℕ → List (Know (List ℕ)) → BothKnow
+    → (first messages : List Data) → Type 0
+HasAllGrown t p knows both first messages =
+    IsGrown t p knows (told_each knows first) both (length both.theirs.list) messages
 
 -- a book merges another's knowledge: nothing but what it knows changes
 pub record BookMerges (old new : BookValue) (other : KnowledgeValue)

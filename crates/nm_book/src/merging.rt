@@ -11,7 +11,8 @@ ghost use Rattle.nm_topology.specs.Topology.{receiving_iface};
 ghost use Rattle.nm_topology.specs.TopologyValue.{TopologyValue};
 ghost use Rattle.nm_book.specs.BookPart.{IsBook};
 ghost use Rattle.nm_book.specs.Merging.{AreGains, AreJoinable, AreJoined, AreTold, Checks};
-ghost use Rattle.nm_book.specs.Merging.{IsGainOf, IsGrown, IsTurnOf, MergesChannels, with_gain};
+ghost use Rattle.nm_book.specs.Merging.{HasAllGrown, IsGainOf, IsTurnOf, MergesOwnChannels};
+ghost use Rattle.nm_book.specs.Merging.{both_know, with_gain};
 ghost use Rattle.nm_book.specs.Telling.{Follow, told_each};
 
 use crate::channels::comes_in;
@@ -116,10 +117,10 @@ fn add_new(
     requires joinable { join_fault same_octets know.now other.now ≡ None }
     ensures { IfOk result (λ _. (t : TopologyValue) (p : ℕ)
         (knows others : List (Known (List ℕ)))
-        → IsTurnOf t p knows others channel know.now other.now messages.old.items
+        → IsTurnOf t p knows others (both_know channel know.now other.now) messages.old.items
         → comes_in (net_of t) p (receiving_iface t channel) ≡ true
-        → IsGrown t p knows (told_each knows messages.old.items) channel know.now other.now
-        (length other.now.list) messages.new.items) }
+        → HasAllGrown t p knows (both_know channel know.now other.now) messages.old.items
+        messages.new.items) }
 {
     join_faults_are_right::<Packet>(); // law: the longer list goes on after the clock
     what_is_known(know); // law: times rise, up to the clock
@@ -153,8 +154,8 @@ fn add_messages(
     requires { comes_in (net_of topology.now) partition (receiving_iface topology.now channel)
         ≡ true → join_fault same_octets know.now other.now ≡ None }
     ensures { IfOk result (λ _. (knows others : List (Known (List ℕ)))
-        → IsTurnOf topology.now partition knows others channel know.now other.now
-        messages.old.items
+        → IsTurnOf topology.now partition knows others
+        (both_know channel know.now other.now) messages.old.items
         → Follow topology.now partition knows messages.new.items
         × AreTold topology.now partition knows others (channel + 1)
         (told_each knows messages.new.items)) }
@@ -240,7 +241,7 @@ pub(crate) fn merge_all(
 
     // It is one after it, and knows what the model says.
     ensures book { IsBook topology.now partition knows.new.items part.new }
-    ensures merges { MergesChannels topology.now partition knows.old.items others.now.knows true
+    ensures merges { MergesOwnChannels topology.now partition knows.old.items others.now.knows
         knows.new.items result }
 
     // No event was done, and no record handed out.

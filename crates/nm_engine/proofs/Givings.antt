@@ -12,7 +12,8 @@ use Rattle.nm_frames.specs.Session.{SessionValue}
 use Rattle.nm_engine.specs.Giving.{GivesFrames}
 use Rattle.nm_engine.specs.Acceptor.{AcceptorValue}
 use Rattle.nm_engine.specs.Lives.{LinkLives}
-use Rattle.nm_engine.specs.Passes.{IsMet, LinkState, Owner, PassCounts, at}
+use Rattle.nm_shared.specs.Counted.{PassCounts}
+use Rattle.nm_engine.specs.Passes.{IsMet, LinkState, Owner, at}
 use Rattle.nm_engine.proofs.Steps.{lives_append}
 
 module _ (o : Owner) (h : Option AcceptorValue) where

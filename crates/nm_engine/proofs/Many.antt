@@ -12,13 +12,14 @@ use Rattle.nm_frames.specs.Lives.{SessionStep, Took, Gave, Broke, AreConsecutive
 use Rattle.nm_frames.specs.Owed.{after_giving, owed}
 use Rattle.nm_frames.specs.Session.{SessionValue, new_outgoing, taken}
 use Rattle.nm_frames.proofs.Consecutive.{from_cursor}
+use Rattle.nm_shared.specs.Counted.{PassCounts}
 use Rattle.nm_engine.specs.declared.answer.Turn.{Turn}
 use Rattle.nm_engine.specs.declared.answer.Turn.TheVariants.{Progress, Idle, Ended, Broken, Failed}
 use Rattle.nm_engine.specs.Acceptor.{AcceptorValue, session_with, taken_at}
 use Rattle.nm_engine.specs.Link.{LinkValue}
 use Rattle.nm_engine.specs.Lives.{LinkLives, frames_in, frames_out}
 use Rattle.nm_engine.specs.Many.{Accounts, GoesOn, HasDue}
-use Rattle.nm_engine.specs.Passes.{ByPass, LinkState, Owner, PassCounts, anyone, at, none_counted}
+use Rattle.nm_engine.specs.Passes.{ByPass, LinkState, Owner, anyone, at, none_counted}
 use Rattle.nm_engine.specs.Turn.{Heard, Hears, Moves, Says, Turns, Went}
 use Rattle.nm_engine.proofs.Passes.{uncounted}
 use Rattle.nm_engine.proofs.Steps.{lives_append}

@@ -5,12 +5,12 @@ use Rattle.nm_frames.specs.declared.taken.Taken.{Taken}
 use Rattle.nm_frames.specs.declared.taken.Taken.TheVariants.{Greeted, Cursor, ForBook, Ended}
 use Rattle.nm_frames.specs.Lives.{SessionStep, Took, Gave, Broke}
 use Rattle.nm_frames.specs.Session.{purpose}
-use Rattle.nm_shared.specs.Counted.{Meets}
+use Rattle.nm_shared.specs.Counted.{Meets, PassCounts, counts_of}
 use Rattle.nm_shared.specs.Home.{Home}
 use Rattle.nm_shared.specs.Known.{messages_known}
 use Rattle.nm_engine.specs.Acceptor.{AcceptorValue}
 use Rattle.nm_engine.specs.Lives.{IsServed, LinkLives}
-use Rattle.nm_engine.specs.Passes.{CountsMore, IsMet, LinkState, Owner, PassCounts, anyone, at, counted_by, none_counted, owner_if}
+use Rattle.nm_engine.specs.Passes.{CountsMore, IsMet, LinkState, Owner, anyone, at, counted_by, none_counted, owner_if}
 
 abbrev both : ℕ → ℕ → PassCounts
 both m e = record { messages = m; events = e }
@@ -31,12 +31,12 @@ module _ {S : Type 0} (messages events : S → ℕ) (old new : S) where
   counts_more false home n m e = record { messages = λ is. absurd (true≢false (sym is)); events = λ is. absurd (true≢false (sym is)) }
 
   -- the book that an act met
-  pub is_met : (exact : Bool) (home : Home) (b c : BookValue) → Meets exact home (messages old) (events old) (messages new) (events new) b c → IsMet (owner_if exact home) (counted_by exact messages events old) b
+  pub is_met : (exact : Bool) (home : Home) (b c : BookValue) → Meets exact home (counts_of messages events old) (counts_of messages events new) b c → IsMet (owner_if exact home) (counted_by exact messages events old) b
   is_met true home b c met = record { home = met.home; at_least = met.at_least; within = met.within.0 }
   is_met false home b c met = record { home = λ is. absurd (true≢false (sym is)); at_least = λ is. absurd (true≢false (sym is)); within = met.within.0 }
 
   -- an act that leaves the book as it is counts nothing
-  pub looked : (exact : Bool) (home : Home) (b c : BookValue) → c ≡ b → Meets exact home (messages old) (events old) (messages new) (events new) b c
+  pub looked : (exact : Bool) (home : Home) (b c : BookValue) → c ≡ b → Meets exact home (counts_of messages events old) (counts_of messages events new) b c
       → counted_by exact messages events new ≡ counted_by exact messages events old
   looked true home b c same met =
       let m : messages new ≡ messages old + (messages_known c - messages_known b) = met.messages (λ is. absurd (true≢false is)) in

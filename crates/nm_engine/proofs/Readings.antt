@@ -30,7 +30,7 @@ module _ (old new : WireSeen) where
     framed = subst (λ (fs : List Frame). IsFramed (held ++ []) fs held) (sym none) (none_framed held);
   }
 
-  pub read_none : (e : Bool) (r : ReaderValue) (frames : List Frame) → frames ≡ [] → new.given ≡ old.given → new.failures ≡ old.failures → r.failed ≡ false → (e ≡ false → new.ends ≡ old.ends) → Reads old new e r frames r (Ok 0)
+  pub read_none : (e : Bool) (r : ReaderValue) (frames : List Frame) → frames ≡ [] → new.given ≡ old.given → new.failures ≡ old.failures → r.failed ≡ false → (e ≡ false → new.ends ≡ old.ends) → Reads old new e r r (frames, Ok 0)
   unfolding came_none
   read_none e r frames none same sound whole no_end = record { came = came_none r.rest frames none same; count = refl; sound = sound; no_end = no_end; whole = whole }
 
@@ -38,7 +38,7 @@ module _ (old new : WireSeen) where
   taken_within n octets e = grind (arith, common_steps, e)
 
   -- octets came and were fed
-  pub read_some : (e : Bool) (n : ℕ) (octets : List ℕ) (r q : ReaderValue) (frames : List Frame) (result : Result ℕ Cause) → length octets ≡ MAX_READ_OCTETS → Goes (λ w. w.given) old new n octets → new.ends ≡ old.ends → FeedsReader r (take n octets) frames q result → Reads old new e r frames q result
+  pub read_some : (e : Bool) (n : ℕ) (octets : List ℕ) (r q : ReaderValue) (frames : List Frame) (result : Result ℕ Cause) → length octets ≡ MAX_READ_OCTETS → Goes (λ w. w.given) old new n octets → new.ends ≡ old.ends → FeedsReader r (take n octets) frames q result → Reads old new e r q (frames, result)
   read_some e n octets r q frames (Ok m) size goes same fed = record {
     came = record { came = take n octets; most = taken_within n octets size; came_in = goes.2; framed = fed.1 };
     count = sym fed.0;
@@ -56,7 +56,7 @@ module _ (old new : WireSeen) where
       came_in = goes.2;
       framed = subst (λ (fs : List Frame). IsFramed (r.rest ++ take n octets) fs (r.rest ++ take n octets)) (sym none) (record { parts = refl; each = tt });
     },
-    inr (inr (inr (is, goes.3))),
+    inr (inr (inr (is, none, goes.3))),
   )
 
 -- a reader's answer to a piece, from what it cut

@@ -16,7 +16,8 @@ use Rattle.nm_base.specs.declared.limits.TheConstants.{MAX_READ_OCTETS}
 use Rattle.nm_engine.specs.Giving.{GivesFrames, HoldsNone}
 use Rattle.nm_engine.specs.Link.{IsPart, LinkValue, bye_taken}
 use Rattle.nm_engine.specs.Lives.{LinkLives}
-use Rattle.nm_engine.specs.Passes.{ByPass, LinkState, Owner, PassCounts, at}
+use Rattle.nm_shared.specs.Counted.{PassCounts}
+use Rattle.nm_engine.specs.Passes.{ByPass, LinkState, Owner, at}
 use Rattle.nm_engine.specs.Reading.{Came, Reads}
 use Rattle.nm_engine.specs.Taking.{Stops, TakesAll}
 use Rattle.nm_engine.specs.Turn.{Breaks, HasEnded, Heard, IsReason, Moves, Says, TakesIn, Turns, Went, answer_of, faults_of, link_of}
@@ -41,7 +42,7 @@ each_mid (x ∷ front) back f each = each_mid front back f each.1
 module _ {W : Type 0} (seen : W → WireSeen) (by : ByPass) (old new : Parts W) (frames : List Frame) (e : Bool) (bye : e ≡ bye_taken old.party.session)
     (keeps : new.party.acceptor ≡ old.party.acceptor) (kept : (seen new.wire).taken ≡ (seen old.wire).taken) (same : new.out.items ≡ old.out.items) where
   abbrev Read : Result ℕ Cause → Type 0
-  Read read = Reads (seen old.wire) (seen new.wire) e old.reader frames new.reader read
+  Read read = Reads (seen old.wire) (seen new.wire) e old.reader new.reader (frames, read)
 
   abbrev TookAll : List Frame → Type 0
   TookAll ins = LinkLives by.owner old.party.acceptor (at old.party.session by.before) (map Took ins) (at new.party.session by.after)
@@ -52,7 +53,7 @@ module _ {W : Type 0} (seen : W → WireSeen) (by : ByPass) (old new : Parts W) 
   read_came (Err cause) (rest, came, inl (is, ends, may_end, sound)) = (rest, came, inl sound)
   read_came (Err cause) (rest, came, inr (inl (is, none, faults))) = (rest, came, inr none)
   read_came (Err cause) (rest, came, inr (inr (inl (is, shown, sound)))) = (rest, came, inl sound)
-  read_came (Err cause) (rest, came, inr (inr (inr (is, sound)))) = (rest, came, inl sound)
+  read_came (Err cause) (rest, came, inr (inr (inr (is, none, sound)))) = (rest, came, inl sound)
 
   sound_if : (front back : List Frame) (f : Frame) → frames ≡ front ++ f ∷ back → ((seen new.wire).failures ≡ (seen old.wire).failures) ⊎ (frames ≡ []) → (seen new.wire).failures ≡ (seen old.wire).failures + 0
   sound_if front back f split (inl e) = omega (arith, e)
@@ -78,7 +79,7 @@ module _ {W : Type 0} (seen : W → WireSeen) (by : ByPass) (old new : Parts W) 
   }
 
   broke : (cause : Cause) (came rest : List ℕ) (ins : List Frame) → length came ≤ MAX_READ_OCTETS → (seen new.wire).given ≡ (seen old.wire).given ++ came → old.reader.rest ++ came ≡ stream_octets ins ++ rest → TookAll ins
-      → IsReason seen by (link_of old false) (link_of new true) cause rest (at new.party.session by.after) → (seen new.wire).failures ≡ (seen old.wire).failures + faults_of cause
+      → IsReason seen by (link_of old false) (link_of new true) cause ins rest (at new.party.session by.after) → (seen new.wire).failures ≡ (seen old.wire).failures + faults_of cause
       → Breaks seen by (link_of old false) (link_of new true) cause
   broke cause came rest ins most came_in framed took reason faults = record {
     rest = rest;
@@ -91,7 +92,7 @@ module _ {W : Type 0} (seen : W → WireSeen) (by : ByPass) (old new : Parts W) 
 
   -- a frame was not taken
   stopped_by : (cause : Cause) (rest : List ℕ) (c : Came (seen old.wire) (seen new.wire) old.reader.rest frames rest) (front back : List Frame) (f : Frame) → (seen new.wire).failures ≡ (seen old.wire).failures + faults_of cause
-      → (IsFrame f → IsReason seen by (link_of old false) (link_of new true) cause (frame_octets f ++ (stream_octets back ++ rest)) (at new.party.session by.after)) → frames ≡ front ++ f ∷ back → TookAll front
+      → (IsFrame f → IsReason seen by (link_of old false) (link_of new true) cause front (frame_octets f ++ (stream_octets back ++ rest)) (at new.party.session by.after)) → frames ≡ front ++ f ∷ back → TookAll front
       → Breaks seen by (link_of old false) (link_of new true) cause
   stopped_by cause rest c front back f sound reason split took =
       broke cause c.came (frame_octets f ++ (stream_octets back ++ rest)) front c.most c.came_in (from_frame (old.reader.rest ++ c.came) rest frames front back f c.framed.parts split) took
@@ -109,7 +110,7 @@ module _ {W : Type 0} (seen : W → WireSeen) (by : ByPass) (old new : Parts W) 
   stopped cause rest c front back f sound split took (inr (inl (is, refuses))) =
       subst BreaksFor (sym is) (stopped_by Book rest c front back f sound (λ fits. (f, stream_octets back ++ rest, fits, refl, refuses)) split took)
   stopped cause rest c front back f sound split took (inr (inr (is, short))) =
-      subst BreaksFor (sym is) (stopped_by Memory rest c front back f sound (λ fits. tt) split took)
+      subst BreaksFor (sym is) (stopped_by Memory rest c front back f sound (λ fits. inl (f, stream_octets back ++ rest, fits, refl, short)) split took)
 
   pub breaks_take : (read : Result ℕ Cause) (cause : Cause) → Read read → TakesAll by.owner old.party.acceptor (at old.party.session by.before) frames (at new.party.session by.after) (Err cause) → BreaksFor cause
   breaks_take read cause reads (front, f, back, split, took, stops) =
@@ -123,8 +124,8 @@ module _ {W : Type 0} (seen : W → WireSeen) (by : ByPass) (old new : Parts W) 
       subst BreaksFor (sym is) (broke Fault c.came rest frames c.most c.came_in c.framed.parts took tt faults)
   breaks_read cause (rest, c, inr (inr (inl (is, shown, sound)))) took =
       subst BreaksFor (sym is) (broke BadFrame c.came rest frames c.most c.came_in c.framed.parts took shown (omega (arith, sound)))
-  breaks_read cause (rest, c, inr (inr (inr (is, sound)))) took =
-      subst BreaksFor (sym is) (broke Memory c.came rest frames c.most c.came_in c.framed.parts took tt (omega (arith, sound)))
+  breaks_read cause (rest, c, inr (inr (inr (is, none, sound)))) took =
+      subst BreaksFor (sym is) (broke Memory c.came rest frames c.most c.came_in c.framed.parts took (inr (inl none)) (omega (arith, sound)))
 
   -- all frames were taken
   pub took_in : (read : Result ℕ Cause) → Read read → TookAll frames → IsPart new.reader.rest → TakesIn seen by old new read
@@ -198,7 +199,7 @@ module _ {W : Type 0} (seen : W → WireSeen) (o : Owner) (k l n : PassCounts) (
         rest = mid.rest;
         left = p ++ g.0;
         moves = gave_moves [] (p ++ g.0) g.0 p true g.1 (ap (λ y. (seen y).given) same) (ap (λ y. (seen y).taken) same ∙ sym (append-nil (seen mid.wire).taken)) refl;
-        reason = tt;
+        reason = inr (inr h.part);
         faults = omega (arith, fine, sound);
         over = refl;
       }

@@ -7,9 +7,10 @@ use Rattle.nm_frames.specs.Frame.{stream_octets}
 use Rattle.nm_frames.specs.Lives.{Gave}
 use Rattle.nm_frames.specs.Owed.{owed}
 use Rattle.nm_frames.specs.Session.{SessionValue}
+use Rattle.nm_shared.specs.Counted.{PassCounts}
 use Rattle.nm_engine.specs.Acceptor.{AcceptorValue}
 use Rattle.nm_engine.specs.Lives.{LinkLives}
-use Rattle.nm_engine.specs.Passes.{IsMet, LinkState, Owner, PassCounts}
+use Rattle.nm_engine.specs.Passes.{IsMet, LinkState, Owner}
 
 -- frames were given, and stand at the end of the buffer but for the lost octets
 pub record GivesFrames (o : Owner) (h : Option AcceptorValue) (x y : LinkState)

@@ -4,6 +4,7 @@ pub mod Lives
 pub mod Link
 pub mod Reading
 pub mod Taking
+pub mod Given
 pub mod Giving
 pub mod Writing
 pub mod Turn

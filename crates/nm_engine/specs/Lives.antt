@@ -14,9 +14,10 @@ use Rattle.nm_frames.specs.Frame.{IsFrame}
 use Rattle.nm_frames.specs.Lives.{SessionStep, Took, Gave, Broke}
 use Rattle.nm_frames.specs.Owed.{after_giving, owed}
 use Rattle.nm_frames.specs.Session.{SessionValue, purpose}
+use Rattle.nm_shared.specs.Counted.{PassCounts}
 use Rattle.nm_shared.specs.Known.{news}
 use Rattle.nm_engine.specs.Acceptor.{AcceptorValue, taken_at}
-use Rattle.nm_engine.specs.Passes.{CountsMore, IsMet, LinkState, Owner, PassCounts, at}
+use Rattle.nm_engine.specs.Passes.{CountsMore, IsMet, LinkState, Owner, at}
 
 -- Of a book of this owner, if counts are exact, by a pass.
 module _ (o : Owner) where

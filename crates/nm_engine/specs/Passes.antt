@@ -2,7 +2,7 @@
 use Rattle.std.specs.Prelude.{◌≡◌, ℕ, ◌+◌, ◌≤◌, Bool, true, false, Option}
 use Rattle.nm_book.specs.Book.{BookValue}
 use Rattle.nm_frames.specs.Session.{SessionValue}
-use Rattle.nm_shared.specs.Counted.{RanWithin, nowhere}
+use Rattle.nm_shared.specs.Counted.{PassCounts, RanWithin, counts_of, nowhere}
 use Rattle.nm_shared.specs.Home.{Home, home_of}
 use Rattle.nm_shared.specs.Known.{messages_known}
 
@@ -18,18 +18,13 @@ owner_if exact home = record { exact = exact; home = home }
 abbrev pub anyone : Owner
 anyone = owner_if false nowhere
 
--- how many messages and events a pass has counted
-pub record PassCounts : Type 0 where
-  pub messages : ℕ
-  pub events : ℕ
-
+-- nothing, which a pass may have counted in any case
 abbrev pub none_counted : PassCounts
 none_counted = record { messages = 0; events = 0 }
 
 -- what the share of a pass says of that, where counts are exact
 abbrev pub counted_by : {S : Type 0} → Bool → (messages events : S → ℕ) → S → PassCounts
-counted_by true messages events share =
-    record { messages = messages share; events = events share }
+counted_by true messages events share = counts_of messages events share
 counted_by false messages events share = none_counted
 
 -- What acts of a pass do: whose book it is, and what the pass has counted before and after them.

@@ -48,17 +48,17 @@ module _ (old new : WireSeen) where
     pub whole : q.failed ≡ false
 
   -- why nothing more is read: the end is found where it may not be, the wire failed, the rest is
-  -- no frame, or memory was refused
+  -- no frame, or memory was refused before a frame was read
   abbrev pub ReadEnds : Bool → Cause → List Frame → List ℕ → Type 0
   ReadEnds may_end cause frames rest =
       ((cause ≡ End) × (new.ends ≡ old.ends + 1) × (may_end ≡ false)
       × (new.failures ≡ old.failures))
       ⊎ ((cause ≡ Fault) × (frames ≡ []) × (new.failures ≡ old.failures + 1))
       ⊎ ((cause ≡ BadFrame) × ShowsFault rest × (new.failures ≡ old.failures))
-      ⊎ ((cause ≡ Memory) × (new.failures ≡ old.failures))
+      ⊎ ((cause ≡ Memory) × (frames ≡ []) × (new.failures ≡ old.failures))
 
-  -- the reader goes on, or ends there
-  abbrev pub Reads : Bool → ReaderValue → List Frame → ReaderValue → Result ℕ Cause → Type 0
-  Reads may_end r frames q (Ok n) = ReadsOn may_end r frames q n
-  Reads may_end r frames q (Err cause) =
+  -- the reader goes on with these frames, or ends there
+  abbrev pub Reads : Bool → (r q : ReaderValue) → List Frame × Result ℕ Cause → Type 0
+  Reads may_end r q (frames, Ok n) = ReadsOn may_end r frames q n
+  Reads may_end r q (frames, Err cause) =
       (rest : List ℕ) × Came r.rest frames rest × ReadEnds may_end cause frames rest

@@ -6,11 +6,12 @@ use Rattle.nm_frames.specs.declared.session_fault.SessionFault.{SessionFault}
 use Rattle.nm_frames.specs.declared.taken.Taken.TheVariants.{ForBook, Greeted}
 use Rattle.nm_frames.specs.Lives.{Took}
 use Rattle.nm_frames.specs.Session.{SessionValue, purpose}
+use Rattle.nm_shared.specs.Counted.{PassCounts}
 use Rattle.nm_engine.specs.declared.answer.Cause.{Cause}
 use Rattle.nm_engine.specs.declared.answer.Cause.TheVariants.{Session as BadSession, Book, Memory}
 use Rattle.nm_engine.specs.Acceptor.{AcceptorValue, IsFromBelow, first_taken, taken_at}
 use Rattle.nm_engine.specs.Lives.{IsRefused, IsServed, IsTold, LacksMemory, LinkLives}
-use Rattle.nm_engine.specs.Passes.{LinkState, Owner, PassCounts}
+use Rattle.nm_engine.specs.Passes.{LinkState, Owner}
 
 -- Of a book of this owner, if counts are exact, by a pass that had counted so much before and has
 -- after it.

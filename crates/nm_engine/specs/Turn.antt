@@ -1,5 +1,5 @@
 -- What one turn of a link did.
-use Rattle.std.specs.Prelude.{◌≡◌, ℕ, ◌+◌, ◌<◌, ◌≤◌, nat_lt, if◌then◌else◌, Bool, true, false, List, [], ◌++◌, length, map, Option, Some, Result, Ok, Err}
+use Rattle.std.specs.Prelude.{◌≡◌, ◌⊎◌, ℕ, ◌+◌, ◌<◌, ◌≤◌, nat_lt, if◌then◌else◌, Bool, true, false, List, [], ◌++◌, length, map, Option, Some, Result, Ok, Err}
 use Rattle.nm_base.specs.Wire.{WireSeen}
 use Rattle.nm_frames.specs.declared.frame.Frame.{Frame}
 use Rattle.nm_frames.specs.Frame.{IsFrame, frame_octets, stream_octets}
@@ -16,7 +16,7 @@ use Rattle.nm_engine.specs.Link.{IsPart, LinkValue, bye_taken}
 use Rattle.nm_engine.specs.Lives.{LinkLives}
 use Rattle.nm_engine.specs.Passes.{ByPass, LinkState, at}
 use Rattle.nm_engine.specs.Reading.{ShowsFault}
-use Rattle.nm_engine.specs.Taking.{BookRefuses, SessionRefuses}
+use Rattle.nm_engine.specs.Taking.{BookRefuses, RunsShort, SessionRefuses}
 
 -- the faults of a wire that a cause tells of
 abbrev pub faults_of : Cause → ℕ
@@ -77,22 +77,29 @@ module _ {W : Type 0} (seen : W → WireSeen) (by : ByPass) (old new : LinkValue
   StopsAt Refuses rest =
       (f : Frame) × (more : List ℕ) × IsFrame f × (rest ≡ frame_octets f ++ more) × Refuses f
 
-  -- the reason of a cause
-  abbrev pub IsReason : Cause → List ℕ → LinkState → Type 0
-  IsReason End rest mid =
+  -- where a turn stopped to which memory was refused: at a frame that could not be taken for want
+  -- of it, before a frame of what came was taken, or once all whole frames were
+  abbrev pub StopsShort : (taken : List Frame) → List ℕ → LinkState → Type 0
+  StopsShort taken rest mid =
+      StopsAt (RunsShort by.owner old.acceptor mid.session mid.counts) rest
+      ⊎ (taken ≡ []) ⊎ IsPart rest
+
+  -- the reason of a cause, where these frames were taken, and then the rest was left
+  abbrev pub IsReason : Cause → (taken : List Frame) → List ℕ → LinkState → Type 0
+  IsReason End taken rest mid =
       ((seen new.wire).ends ≡ (seen old.wire).ends + 1) × (bye_taken old.session ≡ false)
-  IsReason Fault rest mid = Unit {0}
-  IsReason BadFrame rest mid = ShowsFault rest
-  IsReason BadSession rest mid = StopsAt (SessionRefuses old.acceptor mid.session) rest
-  IsReason Book rest mid = StopsAt (BookRefuses by.owner mid.counts) rest
-  IsReason Memory rest mid = Unit {0}
+  IsReason Fault taken rest mid = Unit {0}
+  IsReason BadFrame taken rest mid = ShowsFault rest
+  IsReason BadSession taken rest mid = StopsAt (SessionRefuses old.acceptor mid.session) rest
+  IsReason Book taken rest mid = StopsAt (BookRefuses by.owner mid.counts) rest
+  IsReason Memory taken rest mid = StopsShort taken rest mid
 
   -- a turn at which the link broke: the rest was not taken, and what is left has not gone
   pub record Breaks (cause : Cause) : Type 0 where
     pub rest : List ℕ
     pub left : List ℕ
     pub moves : Moves rest left
-    pub reason : IsReason cause rest moves.mid
+    pub reason : IsReason cause moves.ins rest moves.mid
     pub faults : (seen new.wire).failures ≡ (seen old.wire).failures + faults_of cause
     pub over : new.failed ≡ true
 

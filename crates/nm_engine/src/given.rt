@@ -1,6 +1,10 @@
 //! What a link has given to its peer, as far as its buffer: counted, where that is asked for. No
 //! answer of a link hangs on it.
 
+ghost use Rattle.std.specs.Prelude.{◌+◌, ◌-◌, ◌≡◌};
+ghost use Rattle.nm_base.specs.Count.{saturated};
+ghost use Rattle.nm_engine.specs.Given.{common_between, common_of, common_with};
+
 use nm_base::ChanNo;
 use nm_frames::Frame;
 use std::alloc::Global;
@@ -20,7 +24,10 @@ impl GivenCounts {
     };
 
     /// What these are more than others.
-    pub fn since(self, before: GivenCounts) -> GivenCounts {
+    pub fn since(self, before: GivenCounts) -> GivenCounts
+        ensures { (result.messages ≡ self.messages - before.messages)
+            × (result.nulls ≡ self.nulls - before.nulls) }
+    {
         GivenCounts {
             messages: self.messages.saturating_sub(before.messages),
             nulls: self.nulls.saturating_sub(before.nulls),
@@ -28,7 +35,10 @@ impl GivenCounts {
     }
 
     /// These and others.
-    pub fn with(self, other: GivenCounts) -> GivenCounts {
+    pub fn with(self, other: GivenCounts) -> GivenCounts
+        ensures { (result.messages ≡ saturated (self.messages + other.messages))
+            × (result.nulls ≡ saturated (self.nulls + other.nulls)) }
+    {
         GivenCounts {
             messages: self.messages.saturating_add(other.messages),
             nulls: self.nulls.saturating_add(other.nulls),
@@ -38,15 +48,17 @@ impl GivenCounts {
 
 /// Messages of one channel that follow one another.
 #[derive(Clone, Copy, Drop)]
-struct Range {
-    channel: ChanNo,
-    first: u64,
+pub struct MessageRange {
+    pub channel: ChanNo,
+    pub first: u64,
     /// The number of the message behind them.
-    next: u64,
+    pub next: u64,
 }
 
 /// How many messages both have.
-fn common_count(range: &Range, other: &Range) -> u64 {
+fn common_count(range: &MessageRange, other: &MessageRange) -> u64
+    ensures { result ≡ common_of range.now other.now }
+{
     if range.channel != other.channel {
         return 0;
     }
@@ -54,11 +66,23 @@ fn common_count(range: &Range, other: &Range) -> u64 {
     next.saturating_sub(range.first.max(other.first))
 }
 
+/// How many a range and others have both, up to 2^64 - 1.
+#[tactic(auto, using(std::proofs::lemmas::List::Sums::sum_by_more))]
+fn common_count_with(range: &MessageRange, others: &[MessageRange]) -> u64
+    ensures { result ≡ saturated (common_with range.now others.now) }
+{
+    let mut count = 0u64;
+    for other in others {
+        count = count.saturating_add(common_count(range, other));
+    }
+    count
+}
+
 /// Which messages were given by one link, or by all those to one replica, by channel. Where memory
 /// was refused some are not noted.
 #[derive(Drop)]
 pub struct GivenMessages {
-    ranges: Vec<Range>,
+    pub ranges: Vec<MessageRange>,
 }
 
 impl GivenMessages {
@@ -71,7 +95,7 @@ impl GivenMessages {
 
     /// The messages of a channel in this range were given. Those between them and others of the
     /// channel count too: the peer had them from elsewhere.
-    fn note_range(&mut self, more: Range) {
+    fn note_range(&mut self, more: MessageRange) {
         for range in self.ranges.iter_mut() {
             if range.channel == more.channel {
                 range.first = range.first.min(more.first);
@@ -84,7 +108,7 @@ impl GivenMessages {
 
     /// The message with this number of a channel was given.
     pub fn note(&mut self, channel: ChanNo, number: u64) {
-        self.note_range(Range {
+        self.note_range(MessageRange {
             channel,
             first: number,
             next: number.saturating_add(1),
@@ -98,13 +122,16 @@ impl GivenMessages {
         }
     }
 
-    /// How many messages both have.
-    pub fn common_count(&self, other: &GivenMessages) -> u64 {
+    /// How many messages both have, up to 2^64 - 1.
+    #[tactic(auto, using(std::proofs::lemmas::List::Sums::sum_by_more))]
+    pub fn common_count(&self, other: &GivenMessages) -> u64
+        ensures { result
+            ≡ saturated (common_between self.now.ranges.items other.now.ranges.items) }
+    {
         let mut count = 0u64;
-        for range in &self.ranges {
-            for other in &other.ranges {
-                count = count.saturating_add(common_count(range, other));
-            }
+        for range in self.ranges.as_slice() {
+            let more = common_count_with(range, other.ranges.as_slice());
+            count = count.saturating_add(more);
         }
         count
     }

@@ -73,8 +73,8 @@ pub(crate) fn read_in<W: Wire>(
     requires part { IsPart reader.old.rest }
 
     // What the wire gave is frames and the part of one that is kept.
-    ensures reads { Reads (W.seen wire.old) (W.seen wire.new) may_end reader.old
-        frames.new.items reader.new result }
+    ensures reads { Reads (W.seen wire.old) (W.seen wire.new) may_end reader.old reader.new
+        (frames.new.items, result) }
     ensures part { IsPart reader.new.rest }
 
     // Nothing is written.

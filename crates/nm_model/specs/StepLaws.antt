@@ -33,13 +33,13 @@ module _ {P N : Type 0} (net : Net P N) (same : P → P → Bool) (w : World P) 
       happens net same w step
       ≡ (put_replica w p r (record { knowledge = x.knowledge; ran = k }), outcome)
 
-  -- replica r of partition p does at most n further events, where count of all its events are safe:
-  -- it does n, and more are left, or it does all that are safe
-  pub record DoesWhatIsSafe (p r n count : ℕ) : Type 0 where
-    pub limit : let k = (w.replica p r).ran + n in k < count
-        → HasDone (Run p r n) p r k (Limit n)
-    pub all : let k = (w.replica p r).ran in count ≤ k + n
-        → HasDone (Run p r n) p r count (All (count - k))
+  -- a replica, by its partition and number, does at most n further events, where count of all its
+  -- events are safe: it does n, and more are left, or it does all that are safe
+  pub record DoesWhatIsSafe (name : ℕ × ℕ) (n count : ℕ) : Type 0 where
+    pub limit : let k = (w.replica name.0 name.1).ran + n in k < count
+        → HasDone (Run name.0 name.1 n) name.0 name.1 k (Limit n)
+    pub all : let k = (w.replica name.0 name.1).ran in count ≤ k + n
+        → HasDone (Run name.0 name.1 n) name.0 name.1 count (All (count - k))
 
   -- the step puts these frames behind those that were sent before, and nothing else changes
   abbrev pub Puts : Step → List (Frame P) → ℕ → Type 0

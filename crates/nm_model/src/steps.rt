@@ -33,7 +33,7 @@ pub fn one_replica_changes<P>()
 pub fn a_run_answers<P, N>()
     ensures { (net : Net P N) (same : P → P → Bool) (w : World P) (p r n count : ℕ)
         → is_replica net p r ≡ true → IsCount net p (w.replica p r).knowledge count
-        → (w.replica p r).ran ≤ count → DoesWhatIsSafe net same w p r n count }
+        → (w.replica p r).ran ≤ count → DoesWhatIsSafe net same w (p, r) n count }
 {}
 
 /// What a replica sends is put behind the frames that were sent before, and nothing else changes: a

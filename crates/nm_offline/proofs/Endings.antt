@@ -2,13 +2,11 @@
 use Rattle.std.proofs.Common.{◌≡◌, ℕ, List, Option, Result, Ok, Err, IfOk, IfErr, inl, inr, ap, sym, subst, refl}
 use Rattle.std.proofs.lemmas.Result.{IfOk-at_ok}
 use Rattle.nm_base.specs.Sink.{SinkSeen}
-use Rattle.nm_pcap.specs.declared.form.Form.{Form}
 use Rattle.nm_command.specs.declared.status.Status.{Status}
-use Rattle.nm_command.specs.declared.ways.Ways.{Ways}
 use Rattle.nm_base.specs.declared.fault.Fault.TheVariants.{Refused, Memory}
 use Rattle.nm_offline.specs.Input.{InputsSeen, IsInput}
 use Rattle.nm_offline.specs.Output.{EndsWord, IsPut, output_seen}
-use Rattle.nm_offline.specs.Traces.{EndsTrace, IsAnswer, outcome_status}
+use Rattle.nm_offline.specs.Traces.{EndsTrace, IsAnswer, TraceAsked, outcome_status}
 use Rattle.nm_files.specs.Writing.{TraceFault, Writes}
 
 -- what is said was written, or was not, or nothing is said
@@ -29,10 +27,9 @@ text_is_said text asked P status made (Err e) holds had = tt
 
 -- an answer that is written as it is made
 module _ {S : Type 0} (seen : S → SinkSeen) (before after : InputsSeen) (old new : S) where
-  pub ends_written : (form : Form) (ways : Ways) (topology : List ℕ) (name : Option (List ℕ)) (text octets : List ℕ) (outcome : Result Unit TraceFault)
-      → IsInput (before.text topology) text → IsAnswer form ways name text octets → Writes (seen old) (seen new) outcome octets
-      → EndsTrace (record { inputs = before; output = output_seen seen old }) (record { inputs = after; output = output_seen seen new })
-      form ways topology name (outcome_status outcome)
-  ends_written form ways topology name text octets (Ok _) input answer w = inl (inl (octets, (text, input, (refl, answer)), w))
-  ends_written form ways topology name text octets (Err (Refused _)) input answer w = inl (inr (inl (refl, (_, octets, (text, input, (refl, answer)), w))))
-  ends_written form ways topology name text octets (Err Memory) input answer w = inr (refl, (octets, (text, input, (refl, answer)), w))
+  pub ends_written : (asked : TraceAsked) (text octets : List ℕ) (outcome : Result Unit TraceFault)
+      → IsInput (before.text asked.topology) text → IsAnswer asked.form asked.ways asked.iface text octets → Writes (seen old) (seen new) outcome octets
+      → EndsTrace (record { inputs = before; output = output_seen seen old }) (record { inputs = after; output = output_seen seen new }) asked (outcome_status outcome)
+  ends_written asked text octets (Ok _) input answer w = inl (inl (octets, (text, input, (refl, answer)), w))
+  ends_written asked text octets (Err (Refused _)) input answer w = inl (inr (inl (refl, (_, octets, (text, input, (refl, answer)), w))))
+  ends_written asked text octets (Err Memory) input answer w = inr (refl, (octets, (text, input, (refl, answer)), w))

@@ -1,5 +1,5 @@
 -- The words `one`, `onehex`, `sent` and `received`: the trace file of one interface.
-use Rattle.std.specs.Prelude.{◌≡◌, ◌⊎◌, Bool, true, false, ℕ, nat_lt, if◌then◌else◌, List, filter, length, position, Option, Some, None, Result, Ok, Err}
+use Rattle.std.specs.Prelude.{◌≡◌, ◌⊎◌, Bool, true, false, ℕ, nat_lt, if◌then◌else◌, List, filter, length, option_map, position, Option, Some, None, Result, Ok, Err}
 use Rattle.std.specs.Str.{bytes_eq}
 use Rattle.nm_base.specs.declared.record.Dir.{Dir}
 use Rattle.nm_base.specs.declared.record.Dir.TheVariants.{In, Out}
@@ -10,6 +10,7 @@ use Rattle.nm_topology.specs.Topology.{topology_of}
 use Rattle.nm_topology.specs.PartValues.{IfaceValue}
 use Rattle.nm_topology.specs.TopologyValue.{TopologyValue}
 use Rattle.nm_sim.specs.Trace.{IsTraceBefore}
+use Rattle.nm_command.specs.declared.arguments.TraceArguments.{TraceArguments}
 use Rattle.nm_command.specs.declared.status.Status.{Status}
 use Rattle.nm_command.specs.declared.status.Status.TheVariants.{Done, NoInterface, File, Memory}
 use Rattle.nm_command.specs.declared.ways.Ways.{Ways}
@@ -59,15 +60,33 @@ HasNoIface name text status = IsRefused text status
     × ((network : TopologyValue) × (topology_of text ≡ Ok network)
     × (iface_named network.ifaces name ≡ None)))
 
+-- what the words of a trace file ask for: its form, the packets that go these ways, the input with
+-- the topology text, and the name of an interface, if there is one
+pub record TraceAsked : Type 0 where
+  pub form : Form
+  pub ways : Ways
+  pub topology : List ℕ
+  pub iface : Option (List ℕ)
+
+abbrev pub trace_asked : TraceArguments → TraceAsked
+trace_asked words = record {
+  form = words.form;
+  ways = words.ways;
+  topology = words.topology.now;
+  iface = option_map (λ name. name.now) words.iface;
+}
+
 -- What each status says. Where memory was refused, it was before the sink took anything, or the
 -- sink took a part of the answer.
 module _ {S : Type 0} (before after : Exchange S) where
-  abbrev pub EndsTrace : Form → Ways → List ℕ → Option (List ℕ) → Status → Type 0
-  EndsTrace form ways topology name status =
-      EndsWord before after (SaysOfInput before.inputs topology (SaysTrace form ways name))
-      (FailsOfInput before.inputs after.inputs topology (HasNoIface name)) status
+  abbrev pub EndsTrace : TraceAsked → Status → Type 0
+  EndsTrace asked status =
+      EndsWord before after
+      (SaysOfInput before.inputs asked.topology (SaysTrace asked.form asked.ways asked.iface))
+      (FailsOfInput before.inputs after.inputs asked.topology (HasNoIface asked.iface)) status
       ⊎ ((status ≡ Memory) × ((octets : List ℕ)
-      × SaysOfInput before.inputs topology (SaysTrace form ways name) Done octets
+      × SaysOfInput before.inputs asked.topology
+      (SaysTrace asked.form asked.ways asked.iface) Done octets
       × IsPartWritten before.output after.output octets))
 
 -- the status of a command whose trace file was written, or was not

@@ -6,6 +6,7 @@ ghost use Rattle.std.specs.Str.{bytes_eq};
 ghost use Rattle.nm_offline.specs.Input.{HasTopology, inputs_seen};
 ghost use Rattle.nm_offline.specs.Output.{FailsOfInput, exchange};
 ghost use Rattle.nm_offline.specs.Traces.{EndsTrace, HasNoIface, iface_named, outcome_status};
+ghost use Rattle.nm_offline.specs.Traces.{trace_asked};
 
 use crate::input::NamedInputs;
 use crate::inputs::Inputs;
@@ -30,9 +31,7 @@ pub fn write_trace<I: Inputs, O: Sink + Drop>(
     progress: &Progress,
 ) -> (Status, O)
     ensures { EndsTrace (exchange I.seen O.seen inputs.old out)
-        (exchange I.seen O.seen inputs.new result.1)
-        words.now.form words.now.ways words.now.topology.now
-        (option_map (λ n. n.now) words.now.iface) result.0 }
+        (exchange I.seen O.seen inputs.new result.1) (trace_asked words.now) result.0 }
 {
     match read_iface(alloc, inputs, words.topology, words.iface) {
         Ok((network, iface)) => {

@@ -18,9 +18,9 @@ use nm_files::TraceFiles;
 use nm_peers::peers::own_address;
 use nm_peers::{Listener, Peers, peers_of};
 use nm_progress::Progress;
-use nm_replica::{Holdings, Lending, OwnSeats, Service};
+use nm_replica::{Holdings, OwnSeats, Service};
 use nm_shared::counts::PARTS;
-use nm_shared::{ClockBoard, Counts, Ledgers, Naming, Pass, SharedBook};
+use nm_shared::{ClockBoard, Counts, Ledgers, Lending, Naming, Pass, SharedBook};
 use nm_topology::Topology;
 use nm_transport::TcpTransport;
 use std::alloc::Global;
@@ -51,6 +51,10 @@ pub struct Process<'a> {
 }
 
 /// Listens at this address, which the replica of a book has.
+///
+/// # Errors
+///
+/// `AddrNotAvailable` where the system listens at another address than it was asked to.
 fn listen_at<C: Counts, R: Net>(
     rt: &R,
     process: &Process<'_>,
@@ -60,7 +64,11 @@ fn listen_at<C: Counts, R: Net>(
     requires { Some own ≡ own_address process.now.listeners.now book.now.partition
         book.now.replica }
 {
-    TcpListener::bind(rt, own)
+    let listener = TcpListener::bind(rt, own)?;
+    if listener.local_addr()?.ip() != own.ip() {
+        return Err(ErrorKind::AddrNotAvailable.into());
+    }
+    Ok(listener)
 }
 
 /// Calls the peers at these addresses: all that a replica of the book's partition calls.

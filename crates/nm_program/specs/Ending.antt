@@ -29,7 +29,8 @@ module _ {S : Type 0} (before after : Surroundings S) where
   abbrev pub ProgramEnds : Option CommandValue → Status → Type 0
   ProgramEnds None status = (status ≡ Usage) × (after ≡ before)
   ProgramEnds (Some (Trace form ways topology iface)) status =
-      MakesNone (λ old new. EndsTrace old new form ways topology iface status)
+      MakesNone (λ old new. EndsTrace old new
+      (record { form = form; ways = ways; topology = topology; iface = iface }) status)
   ProgramEnds (Some (All topology folder ifaces)) status =
       MakesAll (files_of before) (files_of after)
       (record { topology = topology; folder = folder; names = ifaces }) status

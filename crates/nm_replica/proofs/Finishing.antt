@@ -7,7 +7,7 @@ use Rattle.std.proofs.lemmas.List.{get_or-set_other, length-map, map-set}
 use Rattle.nm_model.specs.Certificate.{is_done}
 use Rattle.nm_sim.specs.Network.{net_of}
 use Rattle.nm_book.specs.Book.{BookValue, replica_of, state_of}
-use Rattle.nm_shared.specs.Counted.{Meets}
+use Rattle.nm_shared.specs.Counted.{Meets, PassCounts}
 use Rattle.nm_shared.specs.Home.{Home, home_of}
 use Rattle.nm_policy.specs.Contacts.{ContactsValue}
 use Rattle.nm_policy.specs.Stays.{leaves, stayed}
@@ -35,7 +35,7 @@ one_finished exact f k passes p b low so_far few done n under =
     same = ap (λ z. slice_index_or z n 0) (map-set f passes k p)
 
 -- a look at a book counts no event
-pub looked_at : (exact : Bool) (own : Home) {m e m' e' : ℕ} (b c : BookValue) → c ≡ b → Meets exact own m e m' e' b c → exact ≡ true → e' ≤ b.events
+pub looked_at : (exact : Bool) (own : Home) {before after : PassCounts} (b c : BookValue) → c ≡ b → Meets exact own before after b c → exact ≡ true → after.events ≤ b.events
 looked_at exact own b c same meets is =
     let least = (meets.at_least is).1 in
     let equal : c.events ≡ b.events = ap (λ z. z.events) same in

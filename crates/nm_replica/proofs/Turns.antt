@@ -49,7 +49,7 @@ module _ {W : Type 0} (l : Links W) where
   -- a connection had its turns, and what moved was counted
   pub gives_turns : (does : Does) (key : ℕ) (old : Connections W) (was now : Connection W) (link : LinkValue _) (counts : Bool) (last : Turn) (m : Moves) → get old.open key ≡ Some was
       → counts ≡ is_slot does_count (contact_at old.contacts.connections key) → now.link ≡ link → HasTurns (λ w. l.seen w.wire) l.owner does was.link link last
-      → CountsMoves counts (record was { link = link }) now m → GivesTurns key old (record old { «open» = with_value old.open key now }) l does last m
+      → CountsMoves counts (record was { link = link }) now m → GivesTurns key old (record old { «open» = with_value old.open key now }) l does (m, last)
   gives_turns does key old was now link counts last m at is same turns counted =
       let up = Updates-with_value old.open key now (subst IsSome (sym at) refl) in
       record {
@@ -74,7 +74,7 @@ module _ {W : Type 0} (l : Links W) where
 
   -- one more key was served
   pub serves_one_more : (does : Does) (key : ℕ) (old mid turned new : Connections W) (told counted : ℕ) (last : Turn) (m : Moves) (moved octets : ℕ)
-      → ServesKeys l does key old mid told counted → GivesTurns key mid turned l does last m → SettlesKey key turned new last m.has_heard
+      → ServesKeys l does key old mid told counted → GivesTurns key mid turned l does (m, last) → SettlesKey key turned new last m.has_heard
       → moved ≡ saturated (told + m.moved) → octets ≡ saturated (counted + m.octets) → ServesKeys l does (key + 1) old new moved octets
   serves_one_more does key old mid turned new told counted last m moved octets so_far had settled sum sum' =
       rw add-one (mid, told, counted, m, so_far, (turned, last, had, settled), sum, sum')

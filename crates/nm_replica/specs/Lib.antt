@@ -1,6 +1,7 @@
 pub mod Breaks
 pub mod Connections
 pub mod Finished
+pub mod Happened
 pub mod Moved
 pub mod Polls
 pub mod Recording

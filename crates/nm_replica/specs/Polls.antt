@@ -1,11 +1,22 @@
 -- What polls come to: how long nothing was ready or done, and when serving ends by it.
-use Rattle.std.specs.Prelude.{ℕ, ◌+◌, Bool, true, false, nat_le, nat_lt, ◌||◌, Option, Some, None, Result, Ok, Err, if◌then◌else◌}
+use Rattle.std.specs.Prelude.{◌≡◌, ℕ, ◌+◌, Bool, true, false, nat_le, nat_lt, ◌||◌, Option, Some, None, Result, Ok, Err, if◌then◌else◌}
 use Rattle.std.specs.declared.alloc.AllocError.{AllocError}
 use Rattle.nm_base.specs.Count.{saturated}
 use Rattle.nm_book.specs.declared.running.Ran.{Ran}
 use Rattle.nm_book.specs.declared.running.Ran.TheVariants.{All, Limit, Memory}
 use Rattle.nm_replica.specs.declared.served.Served.{Served}
-use Rattle.nm_replica.specs.declared.served.Served.TheVariants.{Ended, Stalled}
+use Rattle.nm_replica.specs.declared.limits.TheConstants.{MAX_FAILED_WAITS}
+use Rattle.nm_replica.specs.declared.served.Served.TheVariants.{Ended, Net, Stalled}
+use Rattle.nm_replica.specs.declared.serving.Serving.{Serving}
+use Rattle.nm_transport.specs.Transport.{has_run_out}
+use Rattle.nm_transport.specs.declared.transport.Waited.{Waited}
+use Rattle.nm_transport.specs.declared.transport.Waited.TheVariants.{Ready, RanOut, Fault}
+
+-- what is counted of a replica stays as it is: octets, events, and how long it stayed
+abbrev pub KeepsCounts : {W : Type 0} → (old new : Serving W) → Type 0
+KeepsCounts old new =
+    (new.moved ≡ old.moved) × (new.counted ≡ old.counted) × (new.events ≡ old.events)
+    × (new.stay ≡ old.stay)
 
 -- a poll was active: octets moved, records were written, or the book did events
 abbrev pub is_active : (octets written : ℕ) → (was_run : Bool) → Bool
@@ -16,6 +27,17 @@ is_active octets written was_run = nat_lt 0 octets || nat_lt 0 written || was_ru
 abbrev pub idle_after : (before : ℕ) → (was_active ran_out : Bool) → ℕ
 idle_after before true ran_out = 0
 idle_after before false ran_out = if ran_out then saturated (before + 1) else before
+
+-- how many waits in a row have failed after one more, or how serving ends after too many
+abbrev pub failed_waits : (before : ℕ) → Waited → Result ℕ Served
+failed_waits before Ready = Ok 0
+failed_waits before RanOut = Ok 0
+failed_waits before Fault = if nat_le MAX_FAILED_WAITS before then Err Net else Ok (before + 1)
+
+-- a wait was made, at which a period was over or not, and so many in a row have failed then
+abbrev pub Waits : (ran_out : Bool) → (before after : ℕ) → Type 0
+Waits ran_out before after =
+    (waited : Waited) × (has_run_out waited ≡ ran_out) × (failed_waits before waited ≡ Ok after)
 
 -- whether a run of the book left events to do, or memory was refused to it
 abbrev pub was_cut : Ran → Result Bool AllocError

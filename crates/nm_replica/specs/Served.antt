@@ -48,6 +48,7 @@ WasSeen exact own s =
     (b : BookValue) × (exact ≡ true → home_of b ≡ own)
     × (s.is_done ≡ is_done (net_of b.topology) b.partition (replica_of b))
     × (s.handed ≡ b.handed) × (s.records ≡ length (state_of b).records)
+    × (s.events ≡ b.events)
 
 -- a book of this replica, if the counts are exact, was seen to be done, and to have no record left
 -- to hand out unless it keeps them

@@ -84,12 +84,12 @@ kept_after (turn.Broken cause) abandoned connection = None
 kept_after turn.Failed abandoned connection = connection
 
 module _ {W : Type 0} (key : ℕ) (old new : Connections W) where
-  -- the connection with the key, if there is one, has its turns, of which this was the last, and its
-  -- octets count once its greeting is over; nothing else changes
-  pub record GivesTurns (l : Links W) (does : Does) (last : Turn) (m : Moves) : Type 0 where
-    pub talked : HasTurnsAt l does (get old.open key) (get new.open key) last
+  -- the connection with the key, if there is one, has its turns, which come to this, and its octets
+  -- count once its greeting is over; nothing else changes
+  pub record GivesTurns (l : Links W) (does : Does) (r : Moves × Turn) : Type 0 where
+    pub talked : HasTurnsAt l does (get old.open key) (get new.open key) r.1
     pub moved : CountsMovesAt (is_slot does_count (contact_at old.contacts.connections key))
-        (get old.open key) (get new.open key) m
+        (get old.open key) (get new.open key) r.0
     pub others : KeepsOthers key old.open new.open
     pub contacts : new.contacts ≡ old.contacts
     pub sessions : new.sessions ≡ old.sessions
@@ -109,7 +109,7 @@ module _ {W : Type 0} (l : Links W) where
   abbrev pub ServesKey : Does → ℕ → (old new : Connections W) → Moves → Type 0
   ServesKey does key old new m =
       (turned : Connections W) × (last : Turn)
-      × GivesTurns key old turned l does last m × SettlesKey key turned new last m.has_heard
+      × GivesTurns key old turned l does (m, last) × SettlesKey key turned new last m.has_heard
 
   -- So many keys are served, one after another. So many octets moved with peers in all, and so many
   -- of them count as activity.

@@ -25,7 +25,7 @@ use crate::served::{Served, break_served};
 use crate::sessions::Sessions;
 use nm_engine::{Acceptor, Cause, CountingWire, GivenBefore, Link, Turn};
 use nm_policy::{ContactEvent, Contacts};
-use nm_transport::Transport;
+use nm_transport::{Reported, Transport};
 use slab::Slab;
 use std::alloc::{AllocError, Global};
 use std::sync::Arc;
@@ -86,10 +86,6 @@ fn counted<W>(alloc: Global, link: Link<W>, is_counted: bool) -> Link<W>
 
 impl<W> Connections<W> {
     /// No connection so far.
-    ///
-    /// # Errors
-    ///
-    /// Where memory was refused.
     pub(crate) fn new(alloc: Global, neighbours: &Neighbours<'_>) -> Result<Self, AllocError>
         ensures contacts { IfOk result (λ c. c.contacts
             ≡ at_first (length neighbours.now.peers.now) neighbours.now.callers.now) }
@@ -119,35 +115,25 @@ impl<W> Connections<W> {
 
     /// Whether more may be read that no wait reports.
     pub(crate) fn have_more(&self) -> bool {
-        for key in 0..self.key_end() {
-            if let Some(connection) = self.open.get(key) {
-                if connection.link.wire().is_ready() {
-                    return true;
-                }
-            }
-        }
-        false
+        let mut connections = self.open.iter();
+        connections.any(|(_, connection)| connection.link.wire().is_ready())
     }
 
-    /// A wait reported the connection with this key, if there is one.
-    pub(crate) fn note(&self, key: usize) {
-        if let Some(connection) = self.open.get(key) {
+    /// A wait reported a connection, which may be gone.
+    pub(crate) fn note(&self, report: Reported) {
+        if let Some(connection) = self.open.get(report.key) {
             connection.link.wire().report();
         }
     }
 
     /// A wait ran out: each connection is looked at, whatever was reported.
     pub(crate) fn note_all(&self) {
-        for key in 0..self.key_end() {
-            self.note(key);
+        for (_, connection) in self.open.iter() {
+            connection.link.wire().report();
         }
     }
 
     /// Calls this peer, as far as the transport lets it.
-    ///
-    /// # Errors
-    ///
-    /// Where memory was refused.
     fn dial<T: Transport<Connection = W>>(
         &mut self,
         alloc: Global,
@@ -182,10 +168,6 @@ impl<W> Connections<W> {
     }
 
     /// Calls all peers that are to be called.
-    ///
-    /// # Errors
-    ///
-    /// Where memory was refused.
     pub(crate) fn dial_all<T: Transport<Connection = W>>(
         &mut self,
         alloc: Global,
@@ -213,10 +195,6 @@ impl<W> Connections<W> {
     }
 
     /// Keeps a connection that somebody began, if there is room and the transport watches it.
-    ///
-    /// # Errors
-    ///
-    /// Where memory was refused.
     fn keep<T: Transport<Connection = W>>(
         &mut self,
         alloc: Global,
@@ -249,10 +227,6 @@ impl<W> Connections<W> {
 
     /// Accepts the connections that others began. Where there are as many strangers as there may
     /// be, the one that came first is let go.
-    ///
-    /// # Errors
-    ///
-    /// Where memory was refused.
     pub(crate) fn accept_all<T: Transport<Connection = W>>(
         &mut self,
         alloc: Global,
@@ -351,7 +325,8 @@ impl<W> Connections<W> {
                 Ok(())
             }
             Turn::Ended => {
-                self.end(transport, key);
+                let _ = self.remove(transport, key);
+                self.contacts.take(ContactEvent::Ended { key });
                 Ok(())
             }
             Turn::Broken(cause) => self.let_go(transport, key, cause),
@@ -434,16 +409,6 @@ impl<W> Connections<W> {
         }
     }
 
-    /// Lets a connection go whose link has ended, and notes whose it was.
-    fn end<T: Transport<Connection = W>>(&mut self, transport: &mut T, key: usize)
-        ensures idle { T.elapsed_periods transport.new ≡ T.elapsed_periods transport.old }
-        ensures ends { self.new.contacts ≡ after self.old.contacts (event.Ended key) }
-        ensures open { Updates self.old.open self.new.open key None }
-    {
-        let _ = self.remove(transport, key);
-        self.contacts.take(ContactEvent::Ended { key });
-    }
-
     /// Lets a broken connection go. Its session, if the replica is to call again, begins anew.
     ///
     /// # Errors
@@ -504,14 +469,9 @@ impl<W> Connections<W> {
     /// How many of the messages that were given had been given to the same replica on an earlier
     /// connection, where that is counted.
     pub(crate) fn resent(&self) -> u64 {
-        if !self.is_counted {
-            return 0;
-        }
         let mut count = self.given.resent();
-        for key in 0..self.key_end() {
-            if let Some(connection) = self.open.get(key) {
-                count = count.saturating_add(connection.resent(&self.given));
-            }
+        for (_, connection) in self.open.iter() {
+            count = count.saturating_add(connection.resent(&self.given));
         }
         count
     }

@@ -17,12 +17,9 @@ fn own<'a, C: Counts>(service: &Service<'a, C>) -> Option<ReplicaFigures<'a>> {
 
 /// It waits now, or does not.
 pub(crate) fn note_wait<C: Counts>(service: &Service<'_, C>, waits: bool) {
-    let Some(figures) = own(service) else {
-        return;
-    };
-    figures.set(Figure::IsWaiting, u64::from(waits));
-    if waits {
-        figures.add(Figure::Waits, 1);
+    if let Some(figures) = own(service) {
+        figures.set(Figure::IsWaiting, u64::from(waits));
+        figures.add(Figure::Waits, u64::from(waits));
     }
 }
 
@@ -35,10 +32,7 @@ pub(crate) fn note_loan<C: Counts>(service: &Service<'_, C>, is_lent: bool) {
 
 /// How far its book is, where nobody else notes that.
 pub(crate) fn note_progress<C: Counts>(service: &Service<'_, C>, safe: Time, records: u64) {
-    if !service.notes_progress {
-        return;
-    }
-    if let Some(progress) = service.progress {
+    if let (true, Some(progress)) = (service.notes_progress, service.progress) {
         progress.note(safe, records);
     }
 }
@@ -73,13 +67,9 @@ pub(crate) fn note_hold<C: Counts, R: Wait>(
     pass: &mut Pass<C>,
     is_held: bool,
 ) {
-    let Some(figures) = own(service) else {
-        return;
-    };
-    if !is_held {
-        return;
-    }
-    if let Some(channel) = service.book.act(rt, pass, HeldBack) {
-        figures.hold(channel);
+    if let (true, Some(figures)) = (is_held, own(service)) {
+        if let Some(channel) = service.book.act(rt, pass, HeldBack) {
+            figures.hold(channel);
+        }
     }
 }

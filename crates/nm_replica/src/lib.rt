@@ -5,7 +5,6 @@ pub mod acts;
 mod connection;
 mod connections;
 mod figuring;
-pub mod lending;
 pub mod limits;
 mod neighbours;
 mod recording;
@@ -18,7 +17,6 @@ mod sisters;
 mod telling;
 mod turning;
 
-pub use lending::Lending;
 pub use replica::{Holdings, Running, Service, poll_replica, run_replica};
 pub use seats::OwnSeats;
 pub use served::Served;

@@ -21,6 +21,9 @@ pub const SCARCE_PERIODS: u64 = 10;
 /// After so many periods, a second, it ends.
 pub const SHORT_PERIODS: u64 = 20;
 
+/// After so many waits in a row that failed a replica ends: the system lets it wait no more.
+pub const MAX_FAILED_WAITS: u32 = 20;
+
 /// After so many polls the sister's knowledge is merged.
 pub const MERGE_POLLS: u64 = 1_024;
 

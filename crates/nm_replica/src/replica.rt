@@ -1,16 +1,15 @@
 //! A replica over a transport, until it ends.
 
-ghost use Rattle.std.specs.Prelude.{◌≡◌, ◌==◌, ◌+◌, ◌⊎◌, IfErr, IfOk, OnOk, length, not, true};
+ghost use Rattle.std.specs.Prelude.{◌≡◌, ◌+◌, IfErr, IfOk, OnOk, length, true};
 ghost use Rattle.nm_base.specs.Count.{saturated};
+ghost use Rattle.nm_replica.specs.Happened.{Happens};
 ghost use Rattle.nm_replica.specs.Polls.{ending_of, idle_after, is_active};
-ghost use Rattle.nm_replica.specs.Recording.{Streamed, Streams, WroteAsCounted};
+ghost use Rattle.nm_replica.specs.Recording.{Streamed, Streams};
 ghost use Rattle.nm_replica.specs.Seats.{AreKept, StandOnBoard};
-ghost use Rattle.nm_replica.specs.Served.{AllWereFinished, EndsEarly, EndsWith, HasStayed};
-ghost use Rattle.nm_replica.specs.Served.{PolledOnce, WasFinished, took_all};
-ghost use Rattle.nm_replica.specs.Turns.{WaitsAndServes, links};
+ghost use Rattle.nm_replica.specs.Served.{EndsEarly, EndsWith, PolledOnce, took_all};
+ghost use Rattle.nm_replica.specs.Turns.{links};
 ghost use Rattle.nm_replica.specs.declared.served.Served.TheVariants.{Net};
 
-use crate::lending::Lending;
 use crate::limits::MAX_POLLS;
 use crate::neighbours::Neighbours;
 use crate::seats::OwnSeats;
@@ -20,7 +19,7 @@ use nm_base::{PartNo, Sink};
 use nm_files::TraceFiles;
 use nm_frames::ReplicaName;
 use nm_progress::Progress;
-use nm_shared::{Counts, Gate, Pass, SharedBook};
+use nm_shared::{Counts, Gate, Lending, Pass, SharedBook};
 use nm_topology::Topology;
 use nm_transport::Transport;
 use std::alloc::{AllocError, Global};
@@ -171,16 +170,11 @@ pub fn poll_replica<C: Counts, S: Sink, T: Transport, R: Wait>(
 
     // Connections waited and had their turns, records were written, and the book did events or not.
     // What is counted of idle periods, and whether serving ends by it, follow from that.
-    ensures exact { IfOk result (PolledOnce (λ p.
-        WaitsAndServes (links T.Connection.seen C.exact C.home) p.ran_out
-        running.old.serving.connections running.new.serving.connections p.moved p.octets
-        × WroteAsCounted S.seen C.exact C.home p.written
-        holdings.old.files.files.items holdings.new.files.files.items
-        × (p.was_run ≡ not (running.new.serving.events == running.old.serving.events))
-        × (p.is_done ≡ true → WasFinished C.exact C.home service.now.keeps_records)
-        × (p.is_done ≡ true → HasStayed p.ran_out running.new.serving.connections.contacts
-        running.old.serving.stay running.new.serving.stay
-        ⊎ AllWereFinished (length service.now.books.now)))
+    ensures exact { IfOk result (PolledOnce (Happens
+        (links T.Connection.seen C.exact C.home) S.seen
+        (service.now.keeps_records, length service.now.books.now)
+        running.old.serving running.new.serving
+        (holdings.old.files.files.items, holdings.new.files.files.items))
         service.now.idle_limit running.new.polls (running.old.idle, running.new.idle)
         (T.elapsed_periods transport.old, T.elapsed_periods transport.new)) }
     ensures polls { OnOk result (running.new.polls ≡ saturated (running.old.polls + 1)) }

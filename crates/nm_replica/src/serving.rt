@@ -11,7 +11,7 @@ ghost use Rattle.nm_policy.specs.Lasting.{has_lasted, lasted_after};
 ghost use Rattle.nm_policy.specs.Laws.{at_first};
 ghost use Rattle.nm_policy.specs.Stays.{leaves, stayed};
 ghost use Rattle.nm_replica.specs.Connections.{DropsSome, WaitsOnce};
-ghost use Rattle.nm_replica.specs.Polls.{is_active, was_cut};
+ghost use Rattle.nm_replica.specs.Polls.{KeepsCounts, Waits, failed_waits, is_active, was_cut};
 ghost use Rattle.nm_replica.specs.Recording.{Streamed, Streams, WroteAsCounted};
 ghost use Rattle.nm_replica.specs.Seats.{AreKept, StandOnBoard};
 ghost use Rattle.nm_replica.specs.Served.{AllWereFinished, EndsEarly, HasStayed, IsInterrupted};
@@ -25,7 +25,7 @@ ghost use Rattle.nm_transport.specs.Transport.{elapsed_after};
 use crate::acts::{Stand, Standing};
 use crate::connections::Connections;
 use crate::figuring::{note_figures, note_hold, note_loan, note_progress, note_wait};
-use crate::limits::{MERGE_POLLS, SCARCE_PERIODS, SHORT_PERIODS};
+use crate::limits::{MAX_FAILED_WAITS, MERGE_POLLS, SCARCE_PERIODS, SHORT_PERIODS};
 use crate::recording::write_records;
 use crate::replica::{Holdings, Service};
 use crate::served::{Served, file_served};
@@ -37,8 +37,8 @@ use nm_book::Ran;
 use nm_engine::ReadBuffer;
 use nm_policy::{Contacts, Lasted, Stay};
 use nm_shared::{Counts, Pass, SharedBook};
-use nm_transport::Transport;
 use nm_transport::limits::MAX_REPORTS;
+use nm_transport::{Transport, Waited};
 use std::alloc::{AllocError, Global};
 use std::sync::Wait;
 
@@ -60,6 +60,8 @@ pub(crate) struct Serving<W> {
     stay: Stay,
     /// How long the system has had too little for one more connection.
     short: Lasted,
+    /// How many waits in a row have failed.
+    failed_waits: u32,
     /// More may be left to do that no connection tells of: the next poll does not wait.
     pub is_busy: bool,
     buffer: ReadBuffer,
@@ -93,10 +95,6 @@ impl Polled {
 
 impl<W> Serving<W> {
     /// No connection so far.
-    ///
-    /// # Errors
-    ///
-    /// Where memory was refused.
     pub(crate) fn new<C: Counts>(
         alloc: Global,
         service: &Service<'_, C>,
@@ -117,6 +115,7 @@ impl<W> Serving<W> {
             polls: 0,
             stay: Stay::new(),
             short: Lasted::new(),
+            failed_waits: 0,
             is_busy: true,
             buffer,
             alloc,
@@ -189,14 +188,13 @@ fn note_reports<T: Transport>(
     ran_out: bool,
 ) {
     if ran_out {
-        connections.note_all();
-        return;
+        return connections.note_all();
     }
     for number in 0..MAX_REPORTS {
-        let Some(key) = transport.report(number) else {
+        let Some(report) = transport.report(number) else {
             return;
         };
-        connections.note(key);
+        connections.note(report);
     }
 }
 
@@ -222,10 +220,8 @@ fn bear_shortage<T: Transport>(
         (has_lasted SHORT_PERIODS serving.new.short.periods ≡ false) }
     ensures strangers { DropsSome serving.old.connections.contacts
         serving.new.connections.contacts }
-    ensures kept { (serving.new.moved ≡ serving.old.moved)
-        × (serving.new.counted ≡ serving.old.counted)
-        × (serving.new.events ≡ serving.old.events)
-        × (serving.new.stay ≡ serving.old.stay) }
+    ensures kept { KeepsCounts serving.old serving.new }
+    ensures failed { serving.new.failed_waits ≡ serving.old.failed_waits }
 {
     if !transport.is_short() || !serving.connections.contacts.are_missing() {
         serving.short = Lasted::new();
@@ -241,11 +237,28 @@ fn bear_shortage<T: Transport>(
     Ok(())
 }
 
+/// How many waits in a row have failed, after one more that came to this.
+///
+/// # Errors
+///
+/// `Net` where so many have that the system will let nobody wait.
+fn failed_waits(before: u32, waited: Waited) -> Result<u32, Served>
+    ensures value { result ≡ failed_waits before waited }
+    ensures early { IfErr result IsInterrupted }
+{
+    match waited {
+        Waited::Ready | Waited::RanOut => Ok(0),
+        Waited::Fault if before >= MAX_FAILED_WAITS => Err(Served::Net),
+        Waited::Fault => Ok(before + 1),
+    }
+}
+
 /// Waits, or only looks where more is left to do, and takes what came: whether a period was over.
 ///
 /// # Errors
 ///
-/// `Memory` where memory was refused. `Net` where the system has too little for more connections.
+/// `Memory` where memory was refused. `Net` where the system has too little for more connections,
+/// or lets nobody wait.
 fn await_transport<T: Transport, C: Counts>(
     alloc: Global,
     service: &Service<'_, C>,
@@ -258,16 +271,17 @@ fn await_transport<T: Transport, C: Counts>(
     ensures waits { IfOk result
         (λ ran_out. WaitsOnce ran_out serving.old.connections.contacts
         serving.new.connections.contacts) }
-    ensures kept { (serving.new.moved ≡ serving.old.moved)
-        × (serving.new.counted ≡ serving.old.counted)
-        × (serving.new.events ≡ serving.old.events)
-        × (serving.new.stay ≡ serving.old.stay) }
+    ensures failed { IfOk result (λ ran_out. Waits ran_out
+        serving.old.failed_waits serving.new.failed_waits) }
+    ensures kept { KeepsCounts serving.old serving.new }
 {
     serving.connections.dial_all(alloc, transport)?;
     let may_wait = !serving.is_busy;
     note_wait(service, may_wait);
-    let ran_out = transport.wait(may_wait).has_run_out();
+    let waited = transport.wait(may_wait);
     note_wait(service, false);
+    serving.failed_waits = failed_waits(serving.failed_waits, waited)?;
+    let ran_out = waited.has_run_out();
     note_reports(transport, &serving.connections, ran_out);
     serving.connections.pass_poll(transport, ran_out);
     let neighbours = service.neighbours();
@@ -310,10 +324,6 @@ fn was_cut(ran: Ran) -> Result<bool, AllocError>
 
 /// Runs the book, if the replica is to, and looks how far it is: that, and whether it may run on at
 /// once.
-///
-/// # Errors
-///
-/// Where memory was refused.
 fn run_book<C: Counts, R: Wait>(
     rt: &R,
     alloc: Global,
@@ -332,10 +342,6 @@ fn run_book<C: Counts, R: Wait>(
 
 /// Merges what the sister knows after so many polls, where that is to be done then: whether it was,
 /// and what was merged into which book.
-///
-/// # Errors
-///
-/// Where memory was refused.
 fn merge_at<C: Counts, S, R: Wait>(
     rt: &R,
     alloc: Global,
@@ -363,10 +369,6 @@ fn merge_at<C: Counts, S, R: Wait>(
 
 /// What the replica does by itself after a poll: its events, and what its sister knows. It answers
 /// how far the book is, and whether it may run on at once.
-///
-/// # Errors
-///
-/// Where memory was refused.
 fn act_alone<C: Counts, S, R: Wait>(
     rt: &R,
     alloc: Global,

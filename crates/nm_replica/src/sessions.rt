@@ -40,10 +40,6 @@ fn at_greeting(session: Session) -> Session
 
 impl Sessions {
     /// One for each peer to which a replica connects.
-    ///
-    /// # Errors
-    ///
-    /// Where memory was refused.
     pub(crate) fn new(alloc: Global, neighbours: &Neighbours<'_>) -> Result<Self, AllocError>
         ensures { IfOk result (λ s. s ≡ first_sessions (arc_value neighbours.now.topology.now)
             neighbours.now.partition neighbours.now.replica neighbours.now.peers.now) }

@@ -56,10 +56,6 @@ fn sister_in<C: Counts>(books: &[SharedBook<C>], own: &SharedBook<C>) -> Option<
 }
 
 /// A copy of what a replica knows.
-///
-/// # Errors
-///
-/// Where memory was refused.
 fn copy_from<C: Counts, R: Wait>(
     rt: &R,
     alloc: Global,

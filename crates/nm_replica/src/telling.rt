@@ -23,9 +23,8 @@ fn tell<C: Counts, R: Wait>(
     ensures told { StandsOnBoard C.exact C.home seat.new }
 {
     let channel = seat.channel();
-    match book.act(rt, pass, MakeNull { channel }) {
-        Some(null) => board.raise(seat, &null),
-        None => {}
+    if let Some(null) = book.act(rt, pass, MakeNull { channel }) {
+        board.raise(seat, &null);
     }
 }
 

@@ -144,7 +144,7 @@ pub(crate) fn turns<W: Wire, C: Counts, R: Wait>(
     key: usize,
 ) -> (Moves, Turn)
     ensures turned { GivesTurns key connections.old connections.new
-        (links W.seen C.exact C.home) talk.now.does result.1 result.0 }
+        (links W.seen C.exact C.home) talk.now.does result }
     ensures absent { get connections.old.open key ≡ None → connections.new ≡ connections.old }
 {
     let counts = connections.contacts.does_count(key);

@@ -7,3 +7,4 @@ pub mod Replicas
 pub mod Words
 pub mod Watching
 pub mod Dealing
+pub mod Passing

@@ -3,6 +3,7 @@ pub mod Faults
 pub mod Endings
 pub mod Files
 pub mod Leaving
+pub mod Passes
 pub mod Sides
 pub mod Took
 pub mod Replicas

@@ -1,9 +1,11 @@
 //! The books of a run that is over, with all passes back.
 
-ghost use Rattle.std.specs.Prelude.{◌≡◌, All, IfOk, Option, true};
+ghost use Rattle.std.specs.Prelude.{◌≡◌, ◌+◌, All, IfOk, OnOk, Option, true, vec_len};
 ghost use Rattle.std.specs.Arc.{arc_value};
+ghost use Rattle.std.specs.List.{sum_by};
 ghost use Rattle.nm_files.specs.Files.{AreCounted};
 ghost use Rattle.nm_files.specs.Outputs.{Files};
+ghost use Rattle.nm_run.specs.Passes.{given_back, pass_count};
 ghost use Rattle.nm_run.specs.Report.{AreOfRun, AreInPlace, CertifiesRun, IsInPlace};
 
 use crate::fault::{RunCause, RunFault};
@@ -36,15 +38,29 @@ impl Passes {
     }
 
     /// One more of a book.
-    fn add(&mut self, book: usize, pass: Pass<Plain>) -> Result<(), AllocError> {
-        if let Some(list) = self.lists.get_mut(book) {
-            list.push(pass)?;
-        }
+    ///
+    /// # Errors
+    ///
+    /// `Broken` where there is no such book. `Memory` where memory was refused.
+    #[tactic(auto, using(crate::proofs::Passing::one_pass_more))]
+    fn add(&mut self, book: usize, pass: Pass<Plain>) -> Result<(), Stop>
+        ensures { OnOk result (pass_count self.new ≡ pass_count self.old + 1) }
+    {
+        let Some(list) = self.lists.get_mut(book) else {
+            return Err(Stop::Broken);
+        };
+        list.push(pass)?;
         Ok(())
     }
 
     /// One of each book, in order.
-    fn add_each(&mut self, passes: Vec<Pass<Plain>>) -> Result<(), AllocError> {
+    ///
+    /// # Errors
+    ///
+    /// Those of `add`.
+    fn add_each(&mut self, passes: Vec<Pass<Plain>>) -> Result<(), Stop>
+        ensures { OnOk result (pass_count self.new ≡ pass_count self.old + vec_len passes) }
+    {
         for (book, pass) in passes.into_iter().enumerate() {
             self.add(book, pass)?;
         }
@@ -52,13 +68,20 @@ impl Passes {
     }
 }
 
-/// What replicas held: their passes go to the others, and their trace files are given.
+/// What replicas held: all of their passes go to the others, and their trace files are given.
+///
+/// # Errors
+///
+/// `Broken` where a pass is of no book. `Memory` where memory was refused.
+#[tactic(auto, using(std::proofs::lemmas::List::Sums::sum_by_push))]
 fn gather_sides<S: Sink + Drop>(
     alloc: Global,
     passes: &mut Passes,
     ends: Vec<SideEnd<S>>,
-) -> Result<Vec<TraceFiles<S>>, AllocError>
-    ensures { (made : Option Files)
+) -> Result<Vec<TraceFiles<S>>, Stop>
+    ensures passes { OnOk result
+        (pass_count passes.new ≡ pass_count passes.old + sum_by given_back ends.items) }
+    ensures files { (made : Option Files)
         → All (λ end. AreCounted S.seen made end.files.files.items) ends.items
         → IfOk result (λ files. All (λ own. AreCounted S.seen made own.files.items) files.items) }
 {

@@ -6,7 +6,7 @@ ghost use Rattle.nm_run.specs.Watching.{AreOwns, names_of, owns_of};
 ghost use Rattle.nm_shared.specs.Board.{IsSeatOf};
 
 use crate::jobs::{Watched, jobs_for};
-use crate::stations::{Own, Woken};
+use crate::stations::{FirstEnded, Own, Woken};
 use crate::threads::{AllWoken, Threaded};
 use crate::told::Told;
 use mio::{Events, Poll};
@@ -35,9 +35,11 @@ pub(crate) struct Dispatcher<'a> {
     pub passes: Vec<BookPass<Plain>>,
 }
 
-/// Jobs were given until all replicas had ended: only `dispatch` makes it.
+/// Jobs were given until all replicas had ended.
 #[derive(Clone, Copy)]
-pub(crate) struct Dispatched(());
+pub(crate) struct Dispatched {
+    ended: FirstEnded,
+}
 
 impl<'a> Dispatcher<'a> {
     /// The passes of jobs, and those with which it looked at books, once it has ended.
@@ -247,7 +249,8 @@ fn wake_done<G>(
 ///
 /// # Errors
 ///
-/// Where memory was refused, to a job or to the pool: that all replicas were told so.
+/// Where memory was refused, to a job or to the pool, or after 2^64 times: that all replicas were
+/// told so.
 pub(crate) fn dispatch<G: Gate + Sync, R: Threads + Wait + Sync>(
     rt: &R,
     threaded: &Threaded<'_, G>,
@@ -256,12 +259,14 @@ pub(crate) fn dispatch<G: Gate + Sync, R: Threads + Wait + Sync>(
     requires workers { (1 ≤ threaded.now.plan.now.workers) × (threaded.now.plan.now.workers ≤ 64) }
     requires seat { IsSeatOf threaded.now.board.now dispatcher.old.seat }
     requires owns { AreOwns (names_of threaded.now) (owns_of dispatcher.old.watched.items) }
-    ensures { IfErr result (λ told. told.are_all ≡ true) }
+    ensures over { IfOk result
+        (λ dispatched. dispatched.ended.count ≡ length threaded.now.stations.now) }
+    ensures told { IfErr result (λ told. told.are_all ≡ true) }
 {
     let mut woken: Option<AllWoken> = None;
     for _ in 0..u64::MAX {
-        if threaded.are_over() {
-            return Ok(Dispatched(()));
+        if let Some(ended) = threaded.are_over() {
+            return Ok(Dispatched { ended });
         }
         let Ok(events) = give_jobs(rt, threaded, dispatcher) else {
             return Err(threaded.fail(rt));
@@ -273,5 +278,5 @@ pub(crate) fn dispatch<G: Gate + Sync, R: Threads + Wait + Sync>(
             listen(dispatcher, woken);
         }
     }
-    Ok(Dispatched(()))
+    Err(threaded.fail(rt))
 }

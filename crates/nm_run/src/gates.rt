@@ -3,8 +3,7 @@
 ghost use Rattle.std.specs.Prelude.{◌≡◌, ◌&&◌, not};
 
 use mio::Waker;
-use nm_replica::Lending;
-use nm_shared::Gate;
+use nm_shared::{Gate, Lending};
 use std::sync::OnceLock;
 
 /// Lets a replica go on as long as the run's own gate does and no other replica has failed, and

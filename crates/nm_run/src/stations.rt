@@ -1,11 +1,10 @@
 //! What a run keeps of a replica, from its beginning to its end.
 
-ghost use Rattle.std.specs.Prelude.{◌≡◌};
+ghost use Rattle.std.specs.Prelude.{◌≡◌, ◌+◌, ◌<◌, IsSomeAnd, length, slice_get};
 
 use mio::Waker;
 use nm_frames::ReplicaName;
-use nm_replica::Lending;
-use nm_shared::{Plain, SharedBook};
+use nm_shared::{Lending, Plain, SharedBook};
 use std::sync::{OnceLock, OnceToken, Wait};
 
 /// What a run keeps of a replica beside its book.
@@ -33,10 +32,32 @@ impl Station {
         let _ = self.waker.wake();
         Woken { station: self }
     }
+}
 
-    /// Whether the replica has ended.
-    pub(crate) fn has_ended(&self) -> bool {
-        self.ended.get().is_some()
+/// So many of a run's replicas have ended, the first of them: only `and` counts one more.
+#[derive(Clone, Copy)]
+pub(crate) struct FirstEnded {
+    count: usize,
+}
+
+impl FirstEnded {
+    /// None so far.
+    pub(crate) fn none() -> Self
+        ensures { result.count ≡ 0 }
+    {
+        FirstEnded { count: 0 }
+    }
+
+    /// One more: it was noted at its station, the next of these, that it has ended.
+    pub(crate) fn and(self, stations: &[Station], noted: &OnceToken<'_, ()>) -> Self
+        requires below { self.count < length stations.now }
+        requires noted { IsSomeAnd (slice_get stations.now self.count)
+            (λ station. noted.now.of ≡ station.ended.id) }
+        ensures { result.count ≡ self.count + 1 }
+    {
+        FirstEnded {
+            count: self.count + 1,
+        }
     }
 }
 

@@ -1,10 +1,10 @@
 //! What the threads of a run share.
 
-ghost use Rattle.std.specs.Prelude.{◌≡◌, IfSome, nat_le, true};
+ghost use Rattle.std.specs.Prelude.{◌≡◌, IfSome, length, true};
 ghost use Rattle.nm_run.specs.Watching.{IsOwnAt, names_of};
 
 use crate::run::RunPlan;
-use crate::stations::{Counted, Own, Station};
+use crate::stations::{Counted, FirstEnded, Own, Station};
 use crate::told::Told;
 use mio::Waker;
 use nm_peers::Listener;
@@ -31,13 +31,6 @@ pub(crate) struct Threaded<'a, G> {
     /// takes it back.
     pub has_failed: &'a OnceLock<()>,
     pub gate: &'a G,
-}
-
-/// Whether so many replicas of so many are all.
-fn is_over(ended: usize, replicas: usize) -> bool
-    ensures { result ≡ nat_le replicas ended }
-{
-    ended >= replicas
 }
 
 /// All replicas were woken: only `Threaded::wake_all` makes it.
@@ -81,9 +74,15 @@ impl<'a, G> Threaded<'a, G> {
         counted
     }
 
-    /// Whether all replicas have ended.
-    pub(crate) fn are_over(&self) -> bool {
-        let ended = self.stations.iter().filter(|one| one.has_ended());
-        is_over(ended.count(), self.stations.len())
+    /// That all replicas have ended, if they have.
+    pub(crate) fn are_over(&self) -> Option<FirstEnded>
+        ensures { IfSome result (λ ended. ended.count ≡ length self.now.stations.now) }
+    {
+        let mut ended = FirstEnded::none();
+        for number in 0..self.stations.len() {
+            let noted = self.stations.get(number)?.ended.witness()?;
+            ended = ended.and(self.stations, &noted);
+        }
+        Some(ended)
     }
 }

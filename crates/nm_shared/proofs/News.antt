@@ -25,7 +25,7 @@ use Rattle.nm_book.specs.declared.message.ChannelMessage.TheVariants.{Data, Null
 use Rattle.nm_book.specs.Running.{Runs}
 use Rattle.nm_book.specs.declared.running.Ran.{Ran}
 use Rattle.nm_book.specs.declared.running.Ran.TheVariants.{All, Limit, Memory}
-use Rattle.nm_shared.specs.Counted.{Meets, Rises}
+use Rattle.nm_shared.specs.Counted.{Meets, PassCounts, Rises}
 use Rattle.nm_shared.specs.Known.{HasAllChannels, messages_below, messages_known, news}
 use Rattle.nm_shared.specs.Home.{Home}
 
@@ -229,5 +229,7 @@ rises_by exact a n d b e rises is =
 less : (x y d : ℕ) → y ≡ x + d → y - x ≡ d
 less x y d e = omega arith
 
-pub messages_rise : (exact : Bool) (own : Home) (m e m' e' : ℕ) (b c : BookValue) (d : ℕ) → Meets exact own m e m' e' b c → exact ≡ true → messages_known c ≡ messages_known b + d → m' ≡ m + d
-messages_rise exact own m e m' e' b c d h is more = rises_by exact m (messages_known c - messages_known b) d m' is h.messages (less (messages_known b) (messages_known c) d more)
+pub messages_rise : (exact : Bool) (own : Home) (before after : PassCounts) (b c : BookValue) (d : ℕ) → Meets exact own before after b c → exact ≡ true
+    → messages_known c ≡ messages_known b + d → after.messages ≡ before.messages + d
+messages_rise exact own before after b c d h is more =
+    rises_by exact before.messages (messages_known c - messages_known b) d after.messages is h.messages (less (messages_known b) (messages_known c) d more)

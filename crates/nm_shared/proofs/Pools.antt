@@ -1,8 +1,9 @@
 -- What a pool's done jobs say, as lists of numbers.
 use Rattle.std.proofs.Common.{◌≡◌, ℕ, zero, suc, ◌+◌, ◌-◌, ◌<◌, ◌≤◌, ◌^◌, take, List, [], ◌∷◌, ◌++◌, length, map, get_or, Bool, true, false, cond, refl, sym, ap, ◌∙◌, subst, arith}
 use Rattle.std.specs.Prelude.{slice_get, slice_index, Some, None}
-use Rattle.std.proofs.lemmas.Bool.Decides.{nat_tests}
 use Rattle.std.proofs.lemmas.List.{map-append, length-map, take_more}
+use Rattle.std.proofs.Math.Bridge.{le_prop}
+use Rattle.std.proofs.Math.Logic.{∥∥₁_elim}
 use mathlib.Core.Logic.{dite}
 use native.Mathlib.Decide.{ℕ_discrete}
 use Rattle.nm_topology.specs.TopologyValue.{TopologyValue}
@@ -17,7 +18,7 @@ use Rattle.nm_book.specs.declared.running.Ran.{Ran}
 use Rattle.nm_book.specs.declared.running.Ran.TheVariants.{All, Limit, Memory}
 use Rattle.nm_shared.specs.Counted.{Rises}
 use Rattle.nm_shared.specs.Known.{ran}
-use Rattle.nm_shared.specs.Pool.{is_answer}
+use Rattle.nm_shared.specs.Pool.{IsRunAnswer}
 
 pub index_map : {A : Type 0} (f : A → ℕ) (xs : List A) (k : ℕ) (d : A) (ns : List ℕ) → ns ≡ map f xs → k < length xs → slice_index ns k ≡ f (get_or xs k d)
 index_map f xs k d ns e lt = ap (λ l. slice_index l k) e ∙ at f xs k d lt
@@ -47,17 +48,9 @@ run_within limit b (All n) c h = let most = advance_most b.topology b.partition 
 run_within limit b (Limit n) c h = omega (arith, h.run.2)
 run_within limit b (Memory n) c h = omega (arith, h.run.2)
 
--- its answer is one to its limit
-pub answer_is : (limit : ℕ) (b : BookValue) (r : Ran) (c : BookValue) → Runs b c limit r → is_answer limit r ≡ true
-answer_is limit b (All n) c h = let most = run_within limit b (All n) c h in grind (arith, nat_tests, most)
-answer_is limit b (Limit n) c h = let same = h.run.2 in grind (arith, nat_tests, same)
-answer_is limit b (Memory n) c h = let low = h.run.2 in grind (arith, nat_tests, low)
-
--- and so within it
-pub answer_within : (limit : ℕ) (r : Ran) → is_answer limit r ≡ true → ran r ≤ limit
-answer_within limit (All n) h = grind (arith, nat_tests, h)
-answer_within limit (Limit n) h = grind (arith, nat_tests, h)
-answer_within limit (Memory n) h = grind (arith, nat_tests, h)
+-- and so any answer of a run
+pub answer_within : (limit : ℕ) (r : Ran) → IsRunAnswer limit r → ran r ≤ limit
+answer_within limit r is = ∥∥₁_elim is le_prop (λ (b, c, runs). run_within limit b r c runs)
 
 pub counted_is : (exact : Bool) (limit : ℕ) (b : BookValue) (r : Ran) (c : BookValue) (old new n : ℕ) → Runs b c limit r → old ≡ 0 → Rises exact old (c.events - b.events) new → n ≡ ran r → n < 2 ^ 64 → new ≡ ran r
 counted_is exact limit b r c old new n runs none rises is fits =

@@ -14,17 +14,28 @@ Rises exact a n b = (exact ≡ false → a + n < 2 ^ 64) → b ≡ a + n
 abbrev pub RanWithin : BookValue → Type 0
 RanWithin b = IsWithin (net_of b.topology) b.partition (knowledge b) b.events
 
--- An act took the book b to c in one go, by a pass that had counted m messages and e events, and
--- then m' and e'. The book had at least what the pass had counted, and the pass then counts what
--- was added.
-pub record Meets (exact : Bool) (own : Home) (m e m' e' : ℕ) (b c : BookValue) : Type 0 where
+-- how many messages and events a pass has counted
+pub record PassCounts : Type 0 where
+  pub messages : ℕ
+  pub events : ℕ
+
+-- what its share says of that
+abbrev pub counts_of : {S : Type 0} → (messages events : S → ℕ) → S → PassCounts
+counts_of messages events share = record { messages = messages share; events = events share }
+
+-- An act took the book b to c in one go, by a pass that had counted so much before and so much
+-- after it. The book had at least what the pass had counted, and the pass then counts what was
+-- added.
+pub record Meets (exact : Bool) (own : Home) (before after : PassCounts) (b c : BookValue)
+    : Type 0 where
   pub home : exact ≡ true → home_of b ≡ own
   pub channels : HasAllChannels b
   pub within : RanWithin b × RanWithin c
   pub grows : Grows b c
-  pub at_least : exact ≡ true → (m ≤ messages_known b) × (e ≤ b.events)
-  pub messages : Rises exact m (messages_known c - messages_known b) m'
-  pub events : Rises exact e (c.events - b.events) e'
+  pub at_least : exact ≡ true
+      → (before.messages ≤ messages_known b) × (before.events ≤ b.events)
+  pub messages : Rises exact before.messages (messages_known c - messages_known b) after.messages
+  pub events : Rises exact before.events (c.events - b.events) after.events
 
 -- a blank, of this name and cut into so many parts, is that of a ledger, and is cut into all parts
 abbrev pub IsBlankOf : (own own_parts name parts : ℕ) → Type 0

@@ -4,7 +4,7 @@ ghost use Rattle.std.specs.Prelude.{◌≡◌, ◌+◌, ◌≤◌, true};
 ghost use Rattle.nm_book.specs.Book.{BookValue, message_channel};
 ghost use Rattle.nm_book.specs.Accepting.{Takes, message_taken};
 ghost use Rattle.nm_book.specs.Running.{Runs};
-ghost use Rattle.nm_shared.specs.Counted.{Meets};
+ghost use Rattle.nm_shared.specs.Counted.{Meets, counts_of};
 ghost use Rattle.nm_shared.specs.Known.{messages_known, news, ran};
 ghost use Rattle.nm_shared.specs.Home.{home_of};
 
@@ -31,8 +31,8 @@ impl<C: Counts> SharedBook<C> {
     ) -> Result<Accepted, AcceptFault>
         ensures accepts { (b : BookValue) × (c : BookValue) × Takes b c
             (message_channel message.now) (message_taken b.knows message.now) result
-            × Meets C.exact C.home (C.messages_of pass.old.share) (C.events_of pass.old.share)
-            (C.messages_of pass.new.share) (C.events_of pass.new.share) b c }
+            × Meets C.exact C.home (counts_of C.messages_of C.events_of pass.old.share)
+            (counts_of C.messages_of C.events_of pass.new.share) b c }
         ensures messages { C.exact ≡ true → C.messages_of pass.new.share
             ≡ C.messages_of pass.old.share + news result }
         ensures events { C.exact ≡ true
@@ -45,8 +45,8 @@ impl<C: Counts> SharedBook<C> {
     /// the events of the answer.
     pub fn run<R: Wait>(&self, rt: &R, pass: &mut Pass<C>, alloc: Global, limit: u64) -> Ran
         ensures runs { (b : BookValue) × (c : BookValue) × Runs b c limit result
-            × Meets C.exact C.home (C.messages_of pass.old.share) (C.events_of pass.old.share)
-            (C.messages_of pass.new.share) (C.events_of pass.new.share) b c }
+            × Meets C.exact C.home (counts_of C.messages_of C.events_of pass.old.share)
+            (counts_of C.messages_of C.events_of pass.new.share) b c }
         ensures messages { C.exact ≡ true
             → C.messages_of pass.new.share ≡ C.messages_of pass.old.share }
         ensures events { C.exact ≡ true → C.events_of pass.new.share

@@ -7,7 +7,7 @@ ghost use Rattle.std.specs.List.{sum_by};
 ghost use Rattle.nm_book.specs.Book.{BookValue, is_replica};
 ghost use Rattle.nm_base.specs.declared.fault.Fault.TheVariants.{Refused};
 ghost use Rattle.nm_book.specs.declared.fault.BookRefusal.TheVariants.{NoSuch};
-ghost use Rattle.nm_shared.specs.Counted.{Meets, Rises};
+ghost use Rattle.nm_shared.specs.Counted.{Meets, Rises, counts_of};
 ghost use Rattle.nm_shared.specs.Known.{Grows, HasAllChannels, messages_known};
 ghost use Rattle.nm_shared.specs.Home.{home_of};
 
@@ -92,9 +92,8 @@ impl<C: Counts> Locked<C> {
     /// Acts once, and counts what was added.
     fn act<A: Act>(&mut self, pass: &mut Pass<C>, act: A) -> A::Out
         ensures does { A.does act self.old.book result self.new.book }
-        ensures meets { Meets C.exact C.home (C.messages_of pass.old.share)
-            (C.events_of pass.old.share) (C.messages_of pass.new.share)
-            (C.events_of pass.new.share) self.old.book self.new.book }
+        ensures meets { Meets C.exact C.home (counts_of C.messages_of C.events_of pass.old.share)
+            (counts_of C.messages_of C.events_of pass.new.share) self.old.book self.new.book }
     {
         let old_messages = self.known;
         let old_events = self.book.events();
@@ -253,8 +252,8 @@ impl<C: Counts> SharedBook<C> {
     /// what was added.
     pub fn act<A: Act, R: Wait>(&self, rt: &R, pass: &mut Pass<C>, act: A) -> A::Out
         ensures { (b : BookValue) × (c : BookValue) × A.does act b result c
-            × Meets C.exact C.home (C.messages_of pass.old.share) (C.events_of pass.old.share)
-            (C.messages_of pass.new.share) (C.events_of pass.new.share) b c }
+            × Meets C.exact C.home (counts_of C.messages_of C.events_of pass.old.share)
+            (counts_of C.messages_of C.events_of pass.new.share) b c }
     {
         let mut held = self.lock.lock(rt);
         held.act(pass, act)

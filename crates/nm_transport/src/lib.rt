@@ -11,4 +11,4 @@ pub mod transport;
 
 pub use tcp_transport::TcpTransport;
 pub use tcp_wire::TcpWire;
-pub use transport::{Transport, Waited};
+pub use transport::{Reported, Transport, Waited};

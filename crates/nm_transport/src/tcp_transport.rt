@@ -6,7 +6,7 @@ use crate::limits::MAX_REPORTS;
 use crate::period::Period;
 use crate::shortage::is_shortage;
 use crate::tcp_wire::TcpWire;
-use crate::transport::{Transport, Waited};
+use crate::transport::{Reported, Transport, Waited};
 use mio::net::{TcpListener, TcpStream};
 use mio::{Events, Interest, Poll, Token};
 use nm_base::failures::FailureCount;
@@ -164,8 +164,8 @@ impl<R: Net + Clock> Transport for TcpTransport<R> {
         }
     }
 
-    fn report(&self, number: usize) -> Option<usize> {
-        let event = self.events.iter().nth(number)?;
-        Some(event.token().0)
+    fn report(&self, number: usize) -> Option<Reported> {
+        let Token(key) = self.events.iter().nth(number)?.token();
+        Some(Reported { key })
     }
 }

@@ -29,6 +29,13 @@ impl Waited {
     }
 }
 
+/// That a connection is to be looked at, as a wait reported it.
+#[derive(Clone, Copy)]
+pub struct Reported {
+    /// The connection's key.
+    pub key: usize,
+}
+
 /// Connections with other replicas, and a wait for them. No call waits but `wait`. Time passes in
 /// periods of `limits::PERIOD_MILLISECONDS`: whoever calls and speaks in one can't make it longer.
 /// A clause sees how many were over.
@@ -76,8 +83,8 @@ pub trait Transport {
         ensures { elapsed_periods self.new
             ≡ elapsed_after (elapsed_periods self.old) (has_run_out result) };
 
-    /// The key of the connection that the last wait reported with this number, if it reported so
-    /// many. A connection that is not reported is looked at when a period is over: to report all is
-    /// as right as to report nothing, and as slow.
-    fn report(&self, number: usize) -> Option<usize>;
+    /// The report with this number of those that the last wait made, if it made so many. A
+    /// connection that is not reported is looked at when a period is over: to report all is as
+    /// right as to report nothing, and as slow.
+    fn report(&self, number: usize) -> Option<Reported>;
 }

@@ -7,7 +7,7 @@ use crate::hub::Shared;
 use crate::wire::WorldWire;
 use nm_base::failures::FailureCount;
 use nm_transport::limits::PERIOD_MILLISECONDS;
-use nm_transport::{Transport, Waited};
+use nm_transport::{Reported, Transport, Waited};
 
 /// The transport of a machine: the others that it calls, by the numbers of its peers.
 #[derive(Drop)]
@@ -93,7 +93,7 @@ impl Transport for WorldTransport {
         Waited::RanOut
     }
 
-    fn report(&self, number: usize) -> Option<usize> {
-        Some(number)
+    fn report(&self, number: usize) -> Option<Reported> {
+        Some(Reported { key: number })
     }
 }

@@ -5,7 +5,7 @@ ghost use Rattle.std.specs.Prelude.{◌≡◌, ℕ, ◌+◌, List, [], IfSome, S
 use nm_base::Wire;
 use nm_base::failures::FailureCount;
 use nm_base::wire::{Read, Written};
-use nm_transport::{Transport, Waited};
+use nm_transport::{Reported, Transport, Waited};
 
 /// A wire that fails once it took so many octets, and the peer to which it was begun.
 #[derive(Drop)]
@@ -94,7 +94,7 @@ impl<N: Transport> Transport for CutTransport<N> {
         self.transport.wait(may_wait)
     }
 
-    fn report(&self, number: usize) -> Option<usize> {
+    fn report(&self, number: usize) -> Option<Reported> {
         self.transport.report(number)
     }
 }

@@ -6,7 +6,7 @@ use crate::tests::cut_transport::CutWire;
 use nm_base::MemWire;
 use nm_base::failures::FailureCount;
 use nm_base::mem_wire::{Ending, ScriptedRead};
-use nm_transport::{Transport, Waited};
+use nm_transport::{Reported, Transport, Waited};
 use std::alloc::Global;
 use std::collections::VecDeque;
 
@@ -185,7 +185,10 @@ impl Transport for Scripted {
         if fails { Waited::Fault } else { Waited::RanOut }
     }
 
-    fn report(&self, number: usize) -> Option<usize> {
-        if self.is_silent { None } else { Some(number) }
+    fn report(&self, number: usize) -> Option<Reported> {
+        if self.is_silent {
+            return None;
+        }
+        Some(Reported { key: number })
     }
 }

@@ -190,12 +190,18 @@ fn links_end(rt: HostRuntime) {
 
 /// How a replica of SPLIT ends whose only peer says all at once, over two connections if it has to:
 /// partition 0 calls it, partition 1 is called.
-fn ending_of<R: Wait + Abort>(rt: &R, alloc: Global, me: u32, fails: Fails) -> Served {
+fn ending_of<R: Wait + Abort>(
+    rt: &R,
+    alloc: Global,
+    me: u32,
+    fails: Fails,
+    idle_limit: u64,
+) -> Served {
     let script = Script {
         company: Company {
             is_called: me != 0,
             by_two: false,
-            idle_limit: if fails.for_good { 4 } else { STAYS },
+            idle_limit,
         },
         voices: &[(2, Voice::Peer(0))],
         fails,
@@ -215,22 +221,25 @@ fn a_failing_call_is_made_again(rt: HostRuntime) {
                 at,
                 for_good: false,
             };
-            let served = ending_of(&rt, rt.alloc(), me, fails);
+            let served = ending_of(&rt, rt.alloc(), me, fails, STAYS);
             assert!(rt; served == Served::Ended, "partition {me}, call {at}");
         }
     }
 }
 
-/// Calls that fail for good: no connection comes, and the replica is stalled at its limit.
+/// Calls that fail for good: no connection comes, and the replica is stalled at its limit. Where
+/// that is far, waits that fail end it, since nobody may wait.
 #[test]
-fn calls_that_fail_for_good_stall(rt: HostRuntime) {
+fn calls_that_fail_for_good_end(rt: HostRuntime) {
     for me in 0..2u32 {
         let fails = Fails {
             at: 1,
             for_good: true,
         };
-        let served = ending_of(&rt, rt.alloc(), me, fails);
+        let served = ending_of(&rt, rt.alloc(), me, fails, 4);
         assert!(rt; served == Served::Stalled { polls: 4 });
+        let served = ending_of(&rt, rt.alloc(), me, fails, STAYS);
+        assert!(rt; served == Served::Net);
     }
 }
 

@@ -1,9 +1,9 @@
 //! What the threads of a pool do.
 
-ghost use Rattle.std.specs.Prelude.{◌≡◌, ℕ, ◌<◌, List, [], length, map, slice_index, IfOk, true};
+ghost use Rattle.std.specs.Prelude.{◌≡◌, ℕ, ◌<◌, List, [], length, map, slice_index, IfOk};
 ghost use Rattle.std.specs.Prelude.{All};
 ghost use Rattle.nm_shared.specs.Known.{ran};
-ghost use Rattle.nm_shared.specs.Pool.{is_answer};
+ghost use Rattle.nm_shared.specs.Pool.{IsRunAnswer};
 
 use super::{Gate, Job};
 use crate::acts::Run;
@@ -45,7 +45,7 @@ pub(super) struct Done<C: Counts, J: Jobs> {
     pub(super) pass: Pass<C>,
     pub(super) of: PhantomData<J>,
     ghost book_is: { book ≡ slice_index J.books place },
-    ghost runs: { is_answer (slice_index J.limits place) answer ≡ true },
+    ghost runs: { IsRunAnswer (slice_index J.limits place) answer },
     ghost counted: { C.events_of pass.share ≡ ran answer },
 }
 

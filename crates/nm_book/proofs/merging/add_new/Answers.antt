@@ -4,7 +4,7 @@ use Rattle.nm_model.specs.Knowledge.{IsUnder}
 use Rattle.nm_model.specs.Lists.{nth}
 use Rattle.nm_model.proofs.ListLemmas.{nth_below, not_some}
 use Rattle.nm_knowledge.specs.Octets.{same_octets}
-use Rattle.nm_book.specs.Merging.{IsGrown}
+use Rattle.nm_book.specs.Merging.{IsGrown, both_know}
 use Rattle.nm_book.specs.Telling.{told_each}
 use Rattle.nm_book.specs.declared.message.Data.{Data}
 use Rattle.nm_book.proofs.Gatherings.{grown_first, grown_next}
@@ -23,7 +23,7 @@ loop-number-init c =
     record {
       most = omega (arith, start, more);
       grown = λ t p knows others turn comes.
-          subst (λ n. IsGrown t p knows (told_each knows c.args.messages.now.items) c.args.channel a b n c.args.messages.now.items) (sym start)
+          subst (λ n. IsGrown t p knows (told_each knows c.args.messages.now.items) (both_know c.args.channel a b) n c.args.messages.now.items) (sym start)
           (grown_first t p knows (told_each knows c.args.messages.now.items) c.args.channel a b c.args.messages.now.items turn.follow refl
           (turn.below.above c.args.channel (omega arith) ∙ turn.ours) under (omega (arith, more)));
     }
@@ -47,7 +47,7 @@ loop-number-preserved c =
     record {
       most = omega (arith, end, low);
       grown = λ t p knows others turn comes.
-          subst (λ ms. IsGrown t p knows (told_each knows c.args.messages.now.items) c.args.channel c.args.know.now b (c.loop-number.number + 1) ms) (sym items)
+          subst (λ ms. IsGrown t p knows (told_each knows c.args.messages.now.items) (both_know c.args.channel c.args.know.now b) (c.loop-number.number + 1) ms) (sym items)
           (grown_next t p knows (told_each knows c.args.messages.now.items) c.args.channel c.args.know.now b c.loop-number.number c.loop-number.messages.items c.in-Some.time c.in-Some.packet.now
           (c.loop-number.invariant.grown t p knows others turn comes) at c.what_is_known-2.ensures.known comes
           (let n = turn.below.count in let h = turn.there in omega (arith, n, h)));
@@ -59,5 +59,5 @@ returns c = λ t p knows others turn comes.
     let high = c.loop-number-test.false in
     let most = c.loop-number.invariant.most in
     let same : c.loop-number.number ≡ length c.args.other.now.list = omega (arith, end, high, most) in
-    subst (λ n. IsGrown t p knows (told_each knows c.args.messages.now.items) c.args.channel c.args.know.now c.args.other.now n c.loop-number.messages.items) same
+    subst (λ n. IsGrown t p knows (told_each knows c.args.messages.now.items) (both_know c.args.channel c.args.know.now c.args.other.now) n c.loop-number.messages.items) same
     (c.loop-number.invariant.grown t p knows others turn comes)

@@ -1,5 +1,5 @@
-use Rattle.std.proofs.Common.{option_map, sym, subst, refl}
-use Rattle.nm_offline.specs.Traces.{EndsTrace}
+use Rattle.std.proofs.Common.{sym, subst, refl}
+use Rattle.nm_offline.specs.Traces.{EndsTrace, trace_asked}
 use Rattle.nm_offline.specs.Output.{exchange}
 use Rattle.nm_offline.proofs.Endings.{ends_written}
 use Rattle.nm_offline.proofs.traces.write_trace.Goals as goal
@@ -11,10 +11,9 @@ returns-in-Ok g c =
     let network = c.in-Ok.network in
     let there = c.every_topology_has_a_trace.ensures.there network.stop in
     let before = exchange g.I.Inputs.seen g.O.Sink.seen c.args.inputs.now c.args.out in
-    let name = option_map (λ n. n.now) c.args.words.now.iface in
     let after = exchange g.I.Inputs.seen g.O.Sink.seen c.read_iface.new.inputs c.write_trace_file-outcome.result.1 in
-    subst (EndsTrace before after c.args.words.now.form c.args.words.now.ways c.args.words.now.topology.now name) (sym c.status_of.ensures)
-    (ends_written g.O.Sink.seen before.inputs after.inputs c.args.out c.write_trace_file-outcome.result.1 c.args.words.now.form c.args.words.now.ways c.args.words.now.topology.now name read.0.0 _ _ read.0.1
+    subst (EndsTrace before after (trace_asked c.args.words.now)) (sym c.status_of.ensures)
+    (ends_written g.O.Sink.seen before.inputs after.inputs c.args.out c.write_trace_file-outcome.result.1 (trace_asked c.args.words.now) read.0.0 _ _ read.0.1
     (record {
       network = network;
       read = read.0.2;

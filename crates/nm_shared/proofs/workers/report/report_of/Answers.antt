@@ -1,9 +1,9 @@
-use Rattle.std.proofs.Common.{rules, ◌≡◌, true, ℕ, ◌+◌, ◌<◌, ◌≤◌, List, [], ◌∷◌, ◌++◌, length, map, sym, ap, ◌∙◌, subst, arith}
+use Rattle.std.proofs.Common.{rules, ◌≡◌, ℕ, ◌+◌, ◌<◌, ◌≤◌, List, [], ◌∷◌, ◌++◌, length, map, sym, ap, ◌∙◌, subst, arith}
 use Rattle.std.specs.Prelude.{slice_index}
 use Rattle.std.proofs.lemmas.List.{length-map}
 use Rattle.nm_book.specs.declared.running.Ran.{Ran}
 use Rattle.nm_shared.specs.Known.{ran}
-use Rattle.nm_shared.specs.Pool.{AreAnswers, is_answer}
+use Rattle.nm_shared.specs.Pool.{AreAnswers, IsRunAnswer}
 use Rattle.nm_shared.proofs.Pools.{all_more, answer_within, map_both, take_book, within_more}
 use Rattle.nm_shared.proofs.workers.report.report_of.Goals as goal
 
@@ -27,8 +27,8 @@ loop-place-preserved g c =
       counted = ap (map (λ p. g.C.Counts.events_of p.pass.share)) c.in_ok-push-2.ensures.items ∙ map_both (λ p. g.C.Counts.events_of p.pass.share) ran ps rs _ d.answer i.counted d.counted ∙ ap (map ran) (sym answers);
       within = subst (λ (l : List Ran). (j : ℕ) → j < c.loop-place.place + 1 → slice_index (map ran l) j ≤ slice_index g.J.Jobs.limits j) (sym answers) (within_more ran rs g.J.Jobs.limits c.loop-place.place d.answer alen i.within within);
       runs = subst (AreAnswers g.J.Jobs.limits) (sym answers)
-          (all_more (λ n a. is_answer (slice_index g.J.Jobs.limits n) a ≡ true) rs d.answer i.runs
-          (subst (λ n. is_answer (slice_index g.J.Jobs.limits n) d.answer ≡ true) (sym at) d.runs));
+          (all_more (λ n a. IsRunAnswer (slice_index g.J.Jobs.limits n) a) rs d.answer i.runs
+          (subst (λ n. IsRunAnswer (slice_index g.J.Jobs.limits n) d.answer) (sym at) d.runs));
     }
 
 pub returns-clause-within : goal.returns-clause-within
