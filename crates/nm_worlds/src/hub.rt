@@ -3,8 +3,8 @@
 ghost use Rattle.std.specs.Prelude.{◌≡◌, IfOk, IfSome, Some};
 ghost use Rattle.nm_worlds.specs.Wires.{IsNew};
 
-use crate::flow::{Clock, Way, way};
-use crate::weather::{Fate, Weather};
+use crate::flow::{Clock, Reach, Way, has_arrived, way};
+use crate::weather::{Called, Fate, Weather};
 use crate::wire::WorldWire;
 use std::alloc::{AllocError, Global};
 use std::cell::RefCell;
@@ -18,6 +18,9 @@ struct Call {
     wire: WorldWire,
     ghost is_new: { IsNew wire },
 }
+
+/// No machine: one that vanished had this end.
+const NOBODY: usize = usize::MAX;
 
 /// A connection between two machines: the way from the first to the second, and the way back.
 #[derive(Drop)]
@@ -51,6 +54,8 @@ pub(crate) struct Hub {
     /// Whether each machine is there.
     are_there: Vec<bool>,
     pairs: Vec<Pair>,
+    /// The calls that were made: who called whom.
+    pub made: Vec<[usize; 2]>,
 }
 
 /// A network that all machines have.
@@ -76,23 +81,25 @@ impl Hub {
             calls,
             are_there,
             pairs: Vec::new(alloc),
+            made: Vec::new(alloc),
         })
     }
 
-    /// Both ends of a connection from one machine to another, that takes so long and lives so long.
+    /// Both ends of a connection from one machine to another, that takes so long, and how far each
+    /// direction of it reaches.
     fn join(
         &mut self,
         from: usize,
         to: usize,
         peer: usize,
         delay: u64,
-        lives: [usize; 2],
+        reaches: [Reach; 2],
     ) -> Result<(WorldWire, WorldWire), AllocError>
         ensures caller { IfOk result (λ ends. IsNew ends.0 × (ends.0.peer ≡ Some peer)) }
         ensures callee { IfOk result (λ ends. IsNew ends.1) }
     {
-        let there = way(self.alloc, delay, lives[0])?;
-        let back = way(self.alloc, delay, lives[1])?;
+        let there = way(self.alloc, delay, reaches[0])?;
+        let back = way(self.alloc, delay, reaches[1])?;
         let caller = WorldWire::new(
             self.clock.clone()?,
             back.clone()?,
@@ -115,14 +122,19 @@ impl Hub {
         if self.is_short(from) {
             return None;
         }
-        let is_there = *self.are_there.get(to)?;
-        let (delay, lives) = match self.weather.fate(now, is_there) {
-            Fate::Refused => return None,
-            Fate::Hangs => return self.hang(from, to, peer),
-            Fate::Cut => return self.refuse(from, to, peer),
-            Fate::Made { delay, lives } => (delay, lives),
+        let called = Called {
+            machines: [from, to],
+            number: self.calls_made(from, to),
+            now,
+            is_there: *self.are_there.get(to)?,
         };
-        let (caller, callee) = self.join(from, to, peer, delay, lives).ok()?;
+        self.made.push([from, to]).ok()?;
+        let (delay, reaches) = match self.weather.fate(called) {
+            Fate::Refused => return None,
+            Fate::Made { delay, there, back } => (delay, [there, back]),
+            fate => return self.fail(from, to, peer, fate),
+        };
+        let (caller, callee) = self.join(from, to, peer, delay, reaches).ok()?;
         let call = Call {
             at: now.saturating_add(delay),
             wire: callee,
@@ -131,21 +143,47 @@ impl Hub {
         Some(caller)
     }
 
-    /// A call that nobody answers: what is written on it goes nowhere.
-    fn hang(&mut self, from: usize, to: usize, peer: usize) -> Option<WorldWire>
+    /// How many calls a machine has made to another.
+    fn calls_made(&self, from: usize, to: usize) -> usize {
+        let mut count = 0usize;
+        for machines in self.made.iter() {
+            if machines[0] == from && machines[1] == to {
+                count = count.saturating_add(1);
+            }
+        }
+        count
+    }
+
+    /// A call that meets this fate, and leads to nobody.
+    fn fail(&mut self, from: usize, to: usize, peer: usize, fate: Fate) -> Option<WorldWire>
         ensures { IfSome result (λ w. IsNew w × (w.peer ≡ Some peer)) }
     {
-        let (caller, _callee) = self.join(from, to, peer, 0, [usize::MAX, usize::MAX]).ok()?;
+        let (caller, callee) = self
+            .join(from, to, peer, 0, [Reach::WHOLE, Reach::WHOLE])
+            .ok()?;
+        callee.fail(fate);
         Some(caller)
     }
 
-    /// A call that somebody accepts and cuts.
-    fn refuse(&mut self, from: usize, to: usize, peer: usize) -> Option<WorldWire>
-        ensures { IfSome result (λ w. IsNew w × (w.peer ≡ Some peer)) }
-    {
-        let (caller, callee) = self.join(from, to, peer, 0, [usize::MAX, usize::MAX]).ok()?;
-        callee.close();
-        Some(caller)
+    /// Whether something has come to a machine: a call, or what it has not read on a connection.
+    pub(crate) fn has_news(&self, machine: usize) -> bool {
+        let now = self.clock.get();
+        for pair in self.pairs.iter() {
+            let [there, back] = &pair.ways;
+            if pair.machines[0] == machine && has_arrived(back, now) {
+                return true;
+            }
+            if pair.machines[1] == machine && has_arrived(there, now) {
+                return true;
+            }
+        }
+        match self.calls.get(machine) {
+            Some(calls) => match calls.front() {
+                Some(call) => call.at <= now,
+                None => false,
+            },
+            None => false,
+        }
     }
 
     /// Whether a machine stands still.
@@ -182,19 +220,24 @@ impl Hub {
         if let Some(calls) = self.calls.get_mut(machine) {
             calls.clear();
         }
-        if is_silent {
-            return;
-        }
-        for pair in self.pairs.iter() {
-            if pair.machines.contains(&machine) {
+        for pair in self.pairs.iter_mut() {
+            if !is_silent && pair.machines.contains(&machine) {
                 cut(&pair.ways[0]);
                 cut(&pair.ways[1]);
+            }
+            for end in pair.machines.iter_mut() {
+                if *end == machine {
+                    *end = NOBODY;
+                }
             }
         }
     }
 
-    /// A replica has ended, and the system closes its connections.
+    /// A replica has ended, and the system closes its connections. Calls to it find nobody.
     pub(crate) fn leave(&mut self, machine: usize) {
+        if let Some(slot) = self.are_there.get_mut(machine) {
+            *slot = false;
+        }
         for pair in self.pairs.iter() {
             let [there, back] = &pair.ways;
             if pair.machines[0] == machine {

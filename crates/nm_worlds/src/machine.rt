@@ -81,7 +81,8 @@ impl<'x> Machine<'x> {
         })
     }
 
-    /// It makes a poll at this time, unless it has ended: whether it ends by it.
+    /// It makes a poll at this time, unless it has ended or its wait goes on: whether it ends by
+    /// it.
     pub(crate) fn poll<R: Wait>(
         &mut self,
         rt: &R,
@@ -89,11 +90,10 @@ impl<'x> Machine<'x> {
         role: &Role<'_>,
         now: u64,
     ) -> bool {
-        if self.served.is_some() {
+        if self.served.is_some() || !self.transport.wakes(now) {
             return false;
         }
         let service = service_of(role);
-        self.transport.pass(now);
         self.served = match poll_replica(
             rt,
             alloc,
@@ -107,11 +107,6 @@ impl<'x> Machine<'x> {
         };
         self.ended_at = now;
         self.served.is_some()
-    }
-
-    /// Whether it has ended as done before this time.
-    pub(crate) fn has_left(&self, time: u64) -> bool {
-        self.served == Some(Served::Ended) && self.ended_at < time
     }
 
     /// Whether its book is done.

@@ -5,14 +5,17 @@
 //! done soon, and their books are certified: their traces are that of the one event list.
 //!
 //! Two words are the first seed and how many there are. Before them come the worlds that have
-//! names: calls that are held, a machine that vanishes without a word, a link that is down for
-//! long. It prints a line for each world that ended otherwise, and last how many seeds there were.
+//! names, each told for what happens in it: calls that are held, a machine that vanishes, a Bye
+//! that is lost, a caller that comes late. It prints a line for each world that ended otherwise,
+//! and last how many seeds were tried.
 #![tactic(auto)]
 
 mod chance;
 mod flow;
 mod hub;
 mod machine;
+mod scripts;
+mod told;
 mod transport;
 mod weather;
 mod wire;
@@ -23,6 +26,7 @@ use std::alloc::Global;
 use std::env;
 use std::io::{Error, ErrorKind};
 use std::sync::Wait;
+use told::SCRIPTS;
 use weather::Schedule;
 use world::{Verdict, try_world};
 
@@ -46,12 +50,8 @@ fn network(seed: u64) -> (&'static str, u8) {
     (text, replicas)
 }
 
-/// The worlds that have names.
-const NAMED: &[(&str, Schedule)] = &[
-    ("held", Schedule::Held),
-    ("vanished", Schedule::Vanished),
-    ("down", Schedule::Down),
-];
+/// After so many worlds that went wrong no other is tried: such a one lasts longest.
+const MOST_WRONG: u64 = 20;
 
 /// How many worlds went wrong, and in how many a Bye was lost.
 #[derive(Clone, Copy)]
@@ -76,6 +76,10 @@ fn say(rt: &HostRuntime, name: &str, verdict: Verdict) -> Result<(), Error> {
     match verdict {
         Verdict::Fine(_) => {}
         Verdict::NotDone(machine, end) => println!(rt; "{name}: machine {machine} {end}")?,
+        Verdict::Early(machine, time) => {
+            println!(rt; "{name}: machine {machine} is done after {time} ms already")?;
+        }
+        Verdict::Calls(count) => println!(rt; "{name}: {count} calls are too many")?,
         Verdict::NotCertified => println!(rt; "{name}: not certified")?,
     }
     Ok(())
@@ -86,12 +90,18 @@ fn main(rt: HostRuntime) -> Result<(), Error> {
     let first = number(words.next())?;
     let count = number(words.next())?;
     let mut counts = Counts { wrong: 0, late: 0 };
-    for (name, schedule) in NAMED {
-        let verdict = try_world(&rt, rt.alloc(), SPLIT, 1, *schedule)?;
-        say(&rt, name, verdict)?;
+    for script in SCRIPTS {
+        let schedule = Schedule::Told(*script);
+        let verdict = try_world(&rt, rt.alloc(), script.network, script.replicas, schedule)?;
+        say(&rt, script.name, verdict)?;
         counts.add(verdict);
     }
+    let mut tried = 0u64;
     for seed in first..first.saturating_add(count) {
+        if counts.wrong >= MOST_WRONG {
+            break;
+        }
+        tried = tried.saturating_add(1);
         let (text, replicas) = network(seed);
         let verdict = try_world(&rt, rt.alloc(), text, replicas, Schedule::Drawn(seed))?;
         let name = format!(in rt.alloc(); "{seed}")?;
@@ -99,7 +109,7 @@ fn main(rt: HostRuntime) -> Result<(), Error> {
         counts.add(verdict);
     }
     let Counts { wrong, late } = counts;
-    println!(rt; "{count} worlds, {late} with a Bye that was lost, {wrong} wrong")?;
+    println!(rt; "{tried} worlds, {late} with a Bye that was lost, {wrong} wrong")?;
     if wrong > 0 {
         return Err(ErrorKind::Other.into());
     }

@@ -19,6 +19,8 @@ pub(crate) struct WorldTransport {
     now: u64,
     period_end: u64,
     idle: FailureCount,
+    /// Something came at its last poll, so that more may be left to do.
+    is_busy: bool,
 }
 
 impl WorldTransport {
@@ -31,12 +33,21 @@ impl WorldTransport {
             now,
             period_end: now.saturating_add(PERIOD_MILLISECONDS),
             idle: FailureCount::new(),
+            is_busy: true,
         }
     }
 
-    /// Time went on.
-    pub(crate) fn pass(&mut self, now: u64) {
+    /// Time went on: whether a wait ends now. A period is over, something has come, or something
+    /// had come before.
+    pub(crate) fn wakes(&mut self, now: u64) -> bool {
+        let has_news = match self.hub.try_borrow_mut() {
+            Ok(hub) => hub.has_news(self.machine),
+            Err(_) => true,
+        };
+        let wakes = has_news || self.is_busy || now >= self.period_end;
+        self.is_busy = has_news;
         self.now = now;
+        wakes
     }
 
     /// A connection that the network makes, or does not.

@@ -1,6 +1,8 @@
-//! What a world does to calls and connections, drawn from its seed.
+//! What a world does to calls and connections, drawn from its seed or told by its script.
 
 use crate::chance::Chance;
+use crate::flow::Reach;
+use crate::scripts::Script;
 
 /// The longest that the weather is bad, in milliseconds, and in every other world.
 const MAX_BAD: u64 = 30_000;
@@ -32,8 +34,8 @@ const MAX_AWAY: u64 = 5_000;
 /// A time in which something is so of one machine: from the first of these to the second.
 #[derive(Clone, Copy)]
 pub(crate) struct Spell {
-    machine: usize,
-    times: [u64; 2],
+    pub machine: usize,
+    pub times: [u64; 2],
 }
 
 impl Spell {
@@ -48,12 +50,32 @@ impl Spell {
 pub(crate) enum Fate {
     /// It fails at once.
     Refused,
-    /// Nobody answers, ever.
+    /// It fails once it is looked at: nobody is there.
+    Gone,
+    /// Nobody answers, ever, so that nothing can be written.
     Hangs,
+    /// Somebody takes what is written, and reads it never.
+    Unread,
     /// Somebody accepts it and cuts it.
     Cut,
-    /// It is made, each octet is on its way so long, and it breaks after so many each way.
-    Made { delay: u64, lives: [usize; 2] },
+    /// It is made, each octet is on its way so long, and it reaches so far each way.
+    Made {
+        delay: u64,
+        there: Reach,
+        back: Reach,
+    },
+}
+
+/// A call that is made.
+#[derive(Clone, Copy)]
+pub(crate) struct Called {
+    /// From which machine, and to which.
+    pub machines: [usize; 2],
+    /// How many calls between these came before it.
+    pub number: usize,
+    pub now: u64,
+    /// The machine that is called is there.
+    pub is_there: bool,
 }
 
 /// The weather of a world.
@@ -79,31 +101,21 @@ pub(crate) struct Loss {
     pub back_at: u64,
     /// Nobody learns it.
     pub is_silent: bool,
+    /// It is lost even where it is done: others that wait for it have not ended then.
+    pub may_be_done: bool,
 }
 
 /// What is drawn, or told by name.
-#[derive(Clone, Copy, PartialEq, Eq)]
+#[derive(Clone, Copy)]
 pub(crate) enum Schedule {
     /// All is drawn from this seed.
     Drawn(u64),
-    /// Calls are held for 36 seconds, as by a firewall or a forwarder.
-    Held,
-    /// Machine 1 vanishes after 1.5 seconds without a word, and is begun anew half a second later.
-    Vanished,
-    /// The link is down from 0.4 to 54.5 seconds.
-    Down,
+    /// All is told.
+    Told(Script),
 }
 
-/// The last time at which calls are held, at which a machine vanishes and is back, and at which a
-/// link goes down and comes up, in milliseconds.
-const HELD_UNTIL: u64 = 36_000;
-
-const VANISHED: [u64; 2] = [1_500, 2_000];
-
-const DOWN: [u64; 2] = [400, 54_500];
-
 /// At no time.
-const NEVER: Spell = Spell {
+pub(crate) const NEVER: Spell = Spell {
     machine: 0,
     times: [0, 0],
 };
@@ -121,15 +133,8 @@ fn drawn_loss(chance: &mut Chance, calm_at: u64, machines: usize) -> Option<Loss
         at,
         back_at,
         is_silent: chance.once_in(2),
+        may_be_done: false,
     })
-}
-
-/// A connection that does not break, whose octets are as long on their way as may be.
-fn slow() -> Fate {
-    Fate::Made {
-        delay: MAX_DELAY,
-        lives: [usize::MAX, usize::MAX],
-    }
 }
 
 /// A time that the seed draws of one of so many machines, if it does, before this one.
@@ -152,29 +157,17 @@ fn drawn_spell(chance: &mut Chance, machines: usize, longest: u64, calm_at: u64)
 impl Weather {
     /// That of a schedule, for so many machines.
     pub(crate) fn new(schedule: Schedule, machines: usize) -> Self {
-        let (calm_at, outage, loss) = match schedule {
-            Schedule::Drawn(seed) => return Weather::drawn(seed, machines),
-            Schedule::Held => (HELD_UNTIL, [0, 0], None),
-            Schedule::Vanished => {
-                let [at, back_at] = VANISHED;
-                let loss = Loss {
-                    machine: 1,
-                    at,
-                    back_at,
-                    is_silent: true,
-                };
-                (back_at, [0, 0], Some(loss))
-            }
-            Schedule::Down => (DOWN[1], DOWN, None),
-        };
-        Weather {
-            chance: Chance::new(1),
-            calm_at,
-            outage,
-            pause: NEVER,
-            shortage: NEVER,
-            loss,
-            schedule,
+        match schedule {
+            Schedule::Drawn(seed) => Weather::drawn(seed, machines),
+            Schedule::Told(script) => Weather {
+                chance: Chance::new(1),
+                calm_at: 0,
+                outage: script.outage,
+                pause: NEVER,
+                shortage: script.shortage,
+                loss: script.loss,
+                schedule,
+            },
         }
     }
 
@@ -219,29 +212,32 @@ impl Weather {
         self.outage[1].saturating_add(self.chance.below(MAX_BACKOFF))
     }
 
-    /// How many octets a connection lives.
-    fn life(&mut self) -> usize {
-        if self.chance.once_in(2) {
+    /// How far a direction reaches: it may break after some octets, or at its Bye.
+    fn reach(&mut self) -> Reach {
+        let octets = if self.chance.once_in(2) {
             self.chance.below(MAX_LIFE) as usize
         } else {
             usize::MAX
+        };
+        Reach {
+            octets,
+            loses_bye: self.chance.once_in(4),
         }
     }
 
-    /// What becomes of a call to a machine that is there or not.
-    pub(crate) fn fate(&mut self, now: u64, is_there: bool) -> Fate {
-        if !is_there {
-            return if self.chance.once_in(2) {
-                Fate::Refused
-            } else {
-                Fate::Hangs
+    /// What becomes of a call.
+    pub(crate) fn fate(&mut self, called: Called) -> Fate {
+        if !called.is_there {
+            return match self.chance.below(4) {
+                0 => Fate::Hangs,
+                1 => Fate::Refused,
+                _ => Fate::Gone,
             };
         }
         match self.schedule {
-            Schedule::Drawn(_) => self.drawn_fate(now),
-            Schedule::Held if now < self.calm_at => Fate::Hangs,
-            Schedule::Down if self.is_out(now) => Fate::Hangs,
-            _ => slow(),
+            Schedule::Drawn(_) => self.drawn_fate(called.now),
+            Schedule::Told(_) if self.is_out(called.now) => Fate::Hangs,
+            Schedule::Told(script) => script.fate(called),
         }
     }
 
@@ -251,19 +247,22 @@ impl Weather {
             let delay = self.chance.below(CALM_DELAY);
             return Fate::Made {
                 delay,
-                lives: [usize::MAX, usize::MAX],
+                there: Reach::WHOLE,
+                back: Reach::WHOLE,
             };
         }
         if self.is_out(now) {
             return Fate::Hangs;
         }
-        match self.chance.below(8) {
+        match self.chance.below(9) {
             0 => Fate::Refused,
             1 => Fate::Hangs,
-            2 => Fate::Cut,
+            2 => Fate::Unread,
+            3 => Fate::Cut,
             _ => Fate::Made {
                 delay: self.chance.below(MAX_DELAY),
-                lives: [self.life(), self.life()],
+                there: self.reach(),
+                back: self.reach(),
             },
         }
     }

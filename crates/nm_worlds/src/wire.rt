@@ -3,7 +3,8 @@
 ghost use Rattle.std.specs.Prelude.{◌≡◌};
 ghost use Rattle.nm_worlds.specs.Wires.{IsNew};
 
-use crate::flow::{Clock, Found, Way};
+use crate::flow::{Clock, Found, Way, has_arrived};
+use crate::weather::Fate;
 use nm_base::failures::FailureCount;
 use nm_base::wire::{Read, Written};
 use nm_base::{Octets, Wire};
@@ -48,15 +49,26 @@ impl WorldWire {
         }
         if let Ok(mut flow) = self.from.try_borrow_mut() {
             flow.is_cut = true;
+            flow.is_let_go = true;
+        }
+    }
+
+    /// Nobody has this end: the call that led to it met this fate.
+    pub(crate) fn fail(&self, fate: Fate) {
+        if let Ok(mut flow) = self.from.try_borrow_mut() {
+            flow.is_let_go = true;
+            flow.is_held = matches!(fate, Fate::Hangs);
+            flow.is_cut = matches!(fate, Fate::Cut | Fate::Gone);
+        }
+        if let Ok(mut flow) = self.to.try_borrow_mut() {
+            flow.is_over = matches!(fate, Fate::Cut);
+            flow.is_cut = matches!(fate, Fate::Gone);
         }
     }
 
     /// Whether a read would find something.
     pub(crate) fn is_ready(&self) -> bool {
-        match self.from.try_borrow_mut() {
-            Ok(flow) => flow.has_arrived(self.clock.get()),
-            Err(_) => false,
-        }
+        has_arrived(&self.from, self.clock.get())
     }
 
     /// What a read finds.

@@ -3,6 +3,7 @@
 use crate::flow::Clock;
 use crate::hub::{Hub, Shared};
 use crate::machine::{Machine, Role};
+use crate::scripts::Script;
 use crate::transport::WorldTransport;
 use crate::weather::{Loss, Schedule, Weather};
 use nm_base::PartNo;
@@ -22,7 +23,7 @@ use std::rc::Rc;
 use std::sync::{Arc, Wait};
 
 /// How much time passes from one poll of a machine to its next, in milliseconds.
-const TICK: u64 = 20;
+const TICK: u64 = 10;
 
 /// So long after the weather has become calm all replicas have ended, in milliseconds.
 const LAST: u64 = 20_000;
@@ -30,11 +31,15 @@ const LAST: u64 = 20_000;
 /// What a world came to.
 #[derive(Clone, Copy)]
 pub(crate) enum Verdict {
-    /// All replicas are done, and their books are certified. So many had not ended: a peer that was
-    /// done left while the weather was bad, and their Bye was lost.
+    /// All replicas are done, and their books are certified. So many had not ended: one was done
+    /// while the weather was bad, their Bye was lost then, and who said it left.
     Fine(u64),
     /// The replica of this machine ended otherwise, as is said, or had not ended at last.
     NotDone(usize, &'static str),
+    /// The replica of this machine ended at this time, before it was to.
+    Early(usize, u64),
+    /// So many calls were made, which are too many.
+    Calls(usize),
     /// The books are not certified.
     NotCertified,
 }
@@ -268,7 +273,7 @@ impl<'x> Fleet<'x> {
         };
         let is_there = matches!(self.machines.get(loss.machine), Some(Some(_)));
         if is_there && now >= loss.at {
-            if !self.may_lose(rt, given, loss.machine) {
+            if !loss.may_be_done && !self.may_lose(rt, given, loss.machine) {
                 self.loss = None;
                 return Ok(());
             }
@@ -329,12 +334,22 @@ impl<'x> Fleet<'x> {
         })
     }
 
-    /// Whether a machine ended as done before this time.
-    fn has_one_left(&self, time: u64) -> bool {
+    /// Whether a machine ended as done.
+    fn has_one_left(&self) -> bool {
         self.machines.iter().any(|slot| match slot {
-            Some(machine) => machine.has_left(time),
+            Some(machine) => machine.served == Some(Served::Ended),
             None => false,
         })
+    }
+
+    /// Whether the book of a machine is done.
+    fn has_one_done<R: Wait>(&mut self, rt: &R, given: &Given) -> bool {
+        for number in 0..self.machines.len() {
+            if self.is_done(rt, given, number) {
+                return true;
+            }
+        }
+        false
     }
 
     /// How a machine ended, if it did.
@@ -400,13 +415,33 @@ fn are_certified(alloc: Global, topology: &Topology, books: &[Book]) -> Result<b
     Ok(certify(topology, all.as_slice()).is_ok())
 }
 
-/// A world at its beginning: its time, its network, when that is calm, and its machines.
+/// A world at its beginning: its time, its network, when that is calm, when all have to have ended,
+/// and its machines.
 #[derive(Drop)]
 struct World<'x> {
     clock: Clock,
     hub: Shared,
     calm_at: u64,
+    last: u64,
     fleet: Fleet<'x>,
+    /// One was done before the weather became calm, so that a Bye may have been lost.
+    was_done: bool,
+}
+
+/// The time at which all have to have ended.
+fn last_of(schedule: Schedule, weather: &Weather) -> u64 {
+    match schedule {
+        Schedule::Drawn(_) => weather.calm_at.saturating_add(LAST),
+        Schedule::Told(script) => script.ends[1],
+    }
+}
+
+/// How many calls were made.
+fn calls_in(hub: &Shared) -> usize {
+    match hub.try_borrow_mut() {
+        Ok(hub) => hub.made.len(),
+        Err(_) => 0,
+    }
 }
 
 /// The world of a schedule, whose seats are these.
@@ -419,7 +454,8 @@ fn begun<'x, R: Wait>(
 ) -> Result<World<'x>, Error> {
     let count = given.names.len();
     let weather = Weather::new(schedule, count);
-    let (calm_at, loss) = (weather.calm_at, weather.loss);
+    let (calm_at, last) = (weather.calm_at, last_of(schedule, &weather));
+    let loss = weather.loss;
     let clock: Clock = Rc::new(alloc, Cell::new(0))?;
     let hub = Hub::new(alloc, clock.clone()?, weather, count)?;
     let hub: Shared = Rc::new(alloc, RefCell::new(hub))?;
@@ -443,14 +479,16 @@ fn begun<'x, R: Wait>(
         clock,
         hub,
         calm_at,
+        last,
         fleet,
+        was_done: false,
     })
 }
 
 impl<'x> World<'x> {
-    /// Time goes on until all have ended, or long enough after the weather has become calm.
+    /// Time goes on until all have ended, or have to have ended.
     fn go_on<R: Wait>(&mut self, rt: &R, alloc: Global, given: &Given) -> Result<(), Error> {
-        for tick in 0..self.calm_at.saturating_add(LAST) / TICK {
+        for tick in 0..self.last / TICK {
             let now = tick.saturating_mul(TICK);
             self.clock.set(now);
             if let Ok(mut hub) = self.hub.try_borrow_mut() {
@@ -458,6 +496,9 @@ impl<'x> World<'x> {
             }
             self.fleet.lose(rt, alloc, given, &self.hub, now)?;
             self.fleet.poll_all(rt, alloc, given, &self.hub, now);
+            if now <= self.calm_at && self.calm_at < now.saturating_add(TICK) {
+                self.was_done = self.fleet.has_one_done(rt, given);
+            }
             if self.fleet.have_ended() {
                 return Ok(());
             }
@@ -467,7 +508,7 @@ impl<'x> World<'x> {
 
     /// How many machines did not end as done, or the first that should have.
     fn judge<R: Wait>(&mut self, rt: &R, given: &Given) -> Result<u64, Verdict> {
-        let have_left = self.fleet.has_one_left(u64::MAX);
+        let have_left = self.was_done && self.fleet.has_one_left();
         let mut late = 0u64;
         for number in 0..self.fleet.machines.len() {
             let served = self.fleet.served(number);
@@ -480,6 +521,27 @@ impl<'x> World<'x> {
             late = late.saturating_add(1);
         }
         Ok(late)
+    }
+
+    /// Where all was told each machine ended as it was to and when it was to, and no more calls
+    /// were made than are to be; or what is wrong.
+    fn check(&self, script: &Script) -> Result<(), Verdict> {
+        for number in 0..self.fleet.machines.len() {
+            if !script.expects(self.fleet.served(number)) {
+                let end = end_of(self.fleet.served(number));
+                return Err(Verdict::NotDone(number, end));
+            }
+            if let Some(Some(machine)) = self.fleet.machines.get(number) {
+                if machine.ended_at < script.ends[0] {
+                    return Err(Verdict::Early(number, machine.ended_at));
+                }
+            }
+        }
+        let calls = calls_in(&self.hub);
+        if calls > script.calls {
+            return Err(Verdict::Calls(calls));
+        }
+        Ok(())
     }
 }
 
@@ -495,6 +557,14 @@ pub(crate) fn try_world<R: Wait>(
     let (board, owners, _) = ClockBoard::new(alloc, &given.topology)?;
     let mut world = begun(rt, alloc, &given, OwnSeats::all(&board, owners), schedule)?;
     world.go_on(rt, alloc, &given)?;
+    if let Schedule::Told(script) = schedule {
+        if let Err(verdict) = world.check(&script) {
+            return Ok(verdict);
+        }
+        if script.stalls {
+            return Ok(Verdict::Fine(0));
+        }
+    }
     let late = match world.judge(rt, &given) {
         Ok(late) => late,
         Err(verdict) => return Ok(verdict),
