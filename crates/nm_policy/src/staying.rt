@@ -13,7 +13,7 @@ use crate::limits::{LINGER_PERIODS, QUIET_POLLS};
 pub struct Stay {
     /// For how many periods.
     pub all: Lasted,
-    /// How many of the last polls ran out, in a row.
+    /// How many of the last polls ran out, in a row, since the ends of its links are sure.
     pub quiet: u64,
 }
 
@@ -37,7 +37,7 @@ impl Stay {
             return;
         }
         self.all.pass_poll(ran_out);
-        self.quiet = if ran_out {
+        self.quiet = if contacts.are_sure() && ran_out {
             self.quiet.saturating_add(1)
         } else {
             0

@@ -268,6 +268,34 @@ pub(crate) const SCRIPTS: &[Script] = &[
         calls: 4,
         ..PAIR
     },
+    // The same where the caller comes back later than the callee knows that its end is sure.
+    Script {
+        name: "bye-to-caller-lost-twice-and-slow",
+        delay: 150,
+        rules: &[
+            Rule {
+                numbers: [0, 1],
+                fate: Fate::Made {
+                    delay: 150,
+                    there: Reach::WHOLE,
+                    back: LOSES_BYE,
+                },
+                ..EACH
+            },
+            Rule {
+                numbers: [1, 2],
+                fate: Fate::Made {
+                    delay: 160,
+                    there: Reach::WHOLE,
+                    back: LOSES_BYE,
+                },
+                ..EACH
+            },
+        ],
+        ends: [0, 6_000],
+        calls: 4,
+        ..PAIR
+    },
     // The caller comes back just before the callee would leave, and is served to its end.
     Script {
         name: "bye-to-caller-lost-and-slow",
