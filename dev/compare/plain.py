@@ -1,6 +1,7 @@
-"""Topologies: read from TOML, cut into parts, and written as TOML or as the plain lines that the C++ programs read (network.h)."""
+"""Topologies: read from TOML, cut into parts, and written as TOML or as the plain lines that the C++ programs read
+(network.h)."""
 
-import tomllib
+from dev.lib.networks import toml_of
 
 # The keys of a source that come after its kind's own, and what they are where they are absent.
 TIMED = (("size", None), ("fill", 0), ("start", None), ("interval", None), ("count", None), ("ttl", 64))
@@ -8,8 +9,7 @@ TIMED = (("size", None), ("fill", 0), ("start", None), ("interval", None), ("cou
 
 def read(path):
     """A topology as a dictionary with every array there."""
-    with open(path, "rb") as file:
-        topology = tomllib.load(file)
+    topology = toml_of(path)
     for name in ("node", "iface", "link", "route", "source"):
         topology.setdefault(name, [])
     return topology
@@ -64,18 +64,18 @@ def write_plain(topology, path):
         file.writelines(line + "\n" for line in plain_lines(topology))
 
 
-def toml_of(value):
+def toml_text(value):
     if isinstance(value, dict):
-        return "{" + ", ".join(f"{key} = {toml_of(part)}" for key, part in value.items()) + "}"
+        return "{" + ", ".join(f"{key} = {toml_text(part)}" for key, part in value.items()) + "}"
     if isinstance(value, list):
-        return "[" + ", ".join(map(toml_of, value)) + "]"
+        return "[" + ", ".join(map(toml_text, value)) + "]"
     return f'"{value}"' if isinstance(value, str) else str(value)
 
 
 def write_toml(topology, path):
     """Writes a topology as TOML, with a line for each key."""
     with open(path, "w", encoding="ascii") as file:
-        file.writelines(f"{key} = {toml_of(value)}\n" for key, value in topology.items())
+        file.writelines(f"{key} = {toml_text(value)}\n" for key, value in topology.items())
 
 
 def in_one_partition(topology):
@@ -100,5 +100,6 @@ def with_parts(topology, parts):
     for number, source in enumerate(topology["source"]):
         packets = [packet for part, packet in parts if part == number]
         if packets:
-            sources.append(source | {"packet": [source["packet"][at] for at in packets]} if source["kind"] == "raw" else source)
+            is_raw = source["kind"] == "raw"
+            sources.append(source | {"packet": [source["packet"][at] for at in packets]} if is_raw else source)
     return topology | {"source": sources}

@@ -2,19 +2,17 @@
 
 import collections
 import os
-import tempfile
 
-import pcaps
-import plain
-import programs
-import reasons
-import sets
-
+from dev.compare import plain, programs, reasons, sets
+from dev.compare.differences import Compared, records_in
+from dev.lib import here, pcap, process
 
 # What the bare loop says of a network that it does not simulate.
 NOT_SIMULATED = "is not simulated"
 # The name of the set of networks with one source.
 ALONE = "alone"
+# The status of `verify` where a trace file differs.
+DIFFERS = 8
 
 
 class Tally:
@@ -23,7 +21,8 @@ class Tally:
     def __init__(self, name, what):
         self.name, self.what = name, what
         self.topologies = self.equal = self.verified = self.ifaces = self.equal_ifaces = self.records = 0
-        self.names, self.unknown, self.ties, self.tied, self.loops = collections.defaultdict(list), [], 0, 0, 0
+        self.names, self.unknown = collections.defaultdict(list), []
+        self.ties = self.tied = self.loops = 0
 
     def add(self, name, compared, found):
         self.topologies += 1
@@ -39,7 +38,7 @@ def write_traces(topology, folder, name, words):
     """The traces of a topology by a program, nullsim or another, in the new folder `name` of `folder`."""
     made, text = os.path.join(folder, name), os.path.join(folder, name + ".text")
     os.mkdir(made)
-    if words[0] == programs.NULLSIM:
+    if words[0] == here.NULLSIM:
         plain.write_toml(plain.in_one_partition(topology), text)
         programs.call([*words, text, made, "1", "1"])
     else:
@@ -49,20 +48,22 @@ def write_traces(topology, folder, name, words):
 
 def simulate(topology, folder, words):
     """nullsim's traces of a topology and those of another program, compared."""
-    write_traces(topology, folder, "ours", [programs.NULLSIM, "run"])
+    write_traces(topology, folder, "ours", [here.NULLSIM, "run"])
     write_traces(topology, folder, "theirs", words)
     names = [iface["name"] for iface in topology["iface"]]
-    return pcaps.Compared(names, os.path.join(folder, "ours"), os.path.join(folder, "theirs"))
+    return Compared(names, os.path.join(folder, "ours"), os.path.join(folder, "theirs"))
 
 
 def is_verified(folder, compared):
-    """Whether `verify` says of ns-3's trace files, as files of raw IP, what the comparison of records says: the first simulation in this folder."""
+    """Whether `verify` says of ns-3's trace files, as files of raw IP, what the comparison of records says: the first
+    simulation in this folder."""
     made = os.path.join(folder, "raw")
     os.mkdir(made)
     for name in compared.ours:
-        pcaps.write_raw(os.path.join(made, name + ".pcap"), pcaps.records(os.path.join(folder, "theirs", name + ".pcap")))
-    status = programs.status_of([programs.NULLSIM, "verify", os.path.join(folder, "ours.text"), made])
-    return status == (programs.DIFFERS if compared.differences else 0)
+        with open(os.path.join(made, f"{name}.pcap"), "wb") as file:
+            file.write(pcap.raw(records_in(os.path.join(folder, "theirs"), name)))
+    ended = process.nullsim("verify", os.path.join(folder, "ours.text"), made, seconds=programs.SECONDS)
+    return ended.status == (DIFFERS if compared.differences else 0)
 
 
 def reasons_of(topology, compared):
@@ -87,11 +88,11 @@ def packet_words(packet):
 
 def try_topology(name, topology, tally):
     """Compares one topology, and counts and prints what is found."""
-    with tempfile.TemporaryDirectory(prefix="compare.") as folder:
+    with process.folder("compare") as folder:
         try:
             compared = simulate(topology, folder, [programs.NS3, "--places"])
             verified = is_verified(folder, compared)
-        except programs.Failed as failed:
+        except process.Failed as failed:
             tally.topologies += 1
             tally.unknown.append(name)
             print(f"{tally.name}: {name}: {failed}: UNKNOWN", flush=True)
@@ -104,31 +105,32 @@ def try_topology(name, topology, tally):
         print(f"{tally.name}: {name}: verify says otherwise of ns-3's files: UNKNOWN", flush=True)
     if compared.differences:
         first = compared.differences[0]
-        print(f"{tally.name}: {name}: {compared.equal} of {len(compared.ours)} interfaces are equal; the first difference is at {first.at} ns, "
-              f"{first.iface}: {', '.join(sorted(found))}", flush=True)
+        print(f"{tally.name}: {name}: {compared.equal} of {len(compared.ours)} interfaces are equal; the first "
+              f"difference is at {first.at} ns, {first.iface}: {', '.join(sorted(found))}", flush=True)
     for one in unknown:
         tally.unknown.append(name)
-        print(f"  UNKNOWN at {one.at} ns, {one.iface}, record {one.number}: ours {packet_words(one.our_packet)}, theirs {packet_words(one.their_packet)}")
+        print(f"  UNKNOWN at {one.at} ns, {one.iface}, record {one.number}: ours {packet_words(one.our_packet)}, "
+              f"theirs {packet_words(one.their_packet)}")
     return compared
 
 
 def try_ties(name, topology, tally):
     """Whether ns-3's own order of the events of one nanosecond gives other traces."""
-    with tempfile.TemporaryDirectory(prefix="compare.") as folder:
+    with process.folder("compare") as folder:
         compared = simulate(topology, folder, [programs.NS3])
     tally.tied += 1
     tally.ties += bool(compared.differences)
     if compared.differences:
-        print(f"{tally.name}: {name}: ns-3's own order of ties gives other traces at {len(compared.ours) - compared.equal} interfaces of "
-              f"{len(compared.ours)}", flush=True)
+        print(f"{tally.name}: {name}: ns-3's own order of ties gives other traces at "
+              f"{len(compared.ours) - compared.equal} interfaces of {len(compared.ours)}", flush=True)
 
 
 def try_loop(topology, tally):
     """Whether the bare loop's traces are equal too, where it simulates the topology whole."""
-    with tempfile.TemporaryDirectory(prefix="compare.") as folder:
+    with process.folder("compare") as folder:
         try:
             compared = simulate(topology, folder, [programs.LOOP])
-        except programs.Failed as failed:
+        except process.Failed as failed:
             if NOT_SIMULATED not in str(failed):
                 raise
             return
@@ -169,18 +171,21 @@ def try_parts():
 
 
 def set_row(tally):
-    return (f"| *{tally.name}*: {tally.what} | {tally.topologies:,} | {tally.equal:,} | {tally.ifaces:,} | {tally.equal_ifaces:,} | {tally.records:,} | "
-            f"{tally.ties if tally.tied else ''} | {tally.verified:,} |")
+    counts = [tally.topologies, tally.equal, tally.ifaces, tally.equal_ifaces, tally.records]
+    cells = [f"*{tally.name}*: {tally.what}", *(f"{count:,}" for count in counts)]
+    return f"| {' | '.join(cells)} | {tally.ties if tally.tied else ''} | {tally.verified:,} |"
 
 
 def set_table(tallies):
-    yield "| Topologies | Number | Equal | Interfaces | Equal | Records in our traces | Equal, but not with ns-3's own order of ties | `verify` says the same |"
+    yield ("| Topologies | Number | Equal | Interfaces | Equal | Records in our traces "
+           "| Equal, but not with ns-3's own order of ties | `verify` says the same |")
     yield "|---|---|---|---|---|---|---|---|"
     yield from map(set_row, tallies)
     loops = sum(tally.loops for tally in tallies)
     if loops:
         yield ""
-        yield f"The bare loop's traces of {loops} of the generated topologies are equal too; the others need ICMP errors, which it has not."
+        yield (f"The bare loop's traces of {loops} of the generated topologies are equal too; the others need ICMP "
+               "errors, which it has not.")
 
 
 def reason_table(tallies):
@@ -193,7 +198,7 @@ def reason_table(tallies):
 
 
 def name_table(tallies):
-    """Which networks differ, but for those with one source: they are told as they are compared."""
+    """Which networks differ, but for those with one source: these are printed as they are compared."""
     yield "| Earliest difference | Networks |"
     yield "|---|---|"
     for tally in tallies:
@@ -218,5 +223,5 @@ def every(paths):
     """Compares all sets, or the topologies of these files: the tallies."""
     if paths:
         return [try_set("files", "the files named", sets.of_files(paths))]
-    with tempfile.TemporaryDirectory(prefix="compare.") as folder:
+    with process.folder("compare") as folder:
         return [try_set(*one) for one in sets.every(folder)] + try_parts()

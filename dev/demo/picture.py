@@ -4,9 +4,11 @@ from xml.sax.saxutils import escape
 
 COLUMN, ROW, MARGIN, TOP = 8.43, 19, 18, 40
 FILLS = {"": "#d8dee9", "bold": "#ffffff", "dim": "#8b95a7", "good": "#7ee787", "bad": "#ff9d96", "bar": "#79c0ff"}
-HEAD = """<svg xmlns="http://www.w3.org/2000/svg" width="{width}" height="{height}" viewBox="0 0 {width} {height}" role="img" aria-label="{label}">
+HEAD = """<svg xmlns="http://www.w3.org/2000/svg" width="{width}" height="{height}" viewBox="0 0 {width} {height}" \
+role="img" aria-label="{label}">
 <rect width="{width}" height="{height}" rx="8" fill="#0d1117"/>
-<circle cx="20" cy="18" r="5" fill="#ff5f57"/><circle cx="38" cy="18" r="5" fill="#febc2e"/><circle cx="56" cy="18" r="5" fill="#28c840"/>
+<circle cx="20" cy="18" r="5" fill="#ff5f57"/><circle cx="38" cy="18" r="5" fill="#febc2e"/>\
+<circle cx="56" cy="18" r="5" fill="#28c840"/>
 <g font-family="DejaVu Sans Mono, Menlo, Consolas, monospace" font-size="14" xml:space="preserve">
 """
 
@@ -15,8 +17,8 @@ def piece(column, row, text, style):
     """A piece of a line at its place, as wide as its characters: so columns stand under each other in any font."""
     x, y = MARGIN + column * COLUMN, TOP + (row + 0.75) * ROW
     weight = ' font-weight="bold"' if style == "bold" else ""
-    width = f"{len(text) * COLUMN:.1f}"
-    return f'<text x="{x:.1f}" y="{y:.1f}" fill="{FILLS[style]}"{weight} textLength="{width}" lengthAdjust="spacingAndGlyphs">{escape(text)}</text>\n'
+    width = f'textLength="{len(text) * COLUMN:.1f}" lengthAdjust="spacingAndGlyphs"'
+    return f'<text x="{x:.1f}" y="{y:.1f}" fill="{FILLS[style]}"{weight} {width}>{escape(text)}</text>\n'
 
 
 def blocks(column, row, count, style):

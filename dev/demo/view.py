@@ -64,11 +64,11 @@ def coloured(line, width):
 
 
 class View:
-    """Shows the screen of a run, anew and anew."""
+    """Shows the screen of a run, again and again."""
 
     def __init__(self, is_live):
         self.is_live = is_live
-        self.height = self.told = 0
+        self.height = self.printed = 0
         self.last = 0.0
         self.lines = []
 
@@ -90,13 +90,14 @@ class View:
 
     def show_line(self, run, seconds):
         """What happened since, and a line of how far all are."""
-        for text, _ in run.said[self.told:]:
+        for text, _ in run.said[self.printed:]:
             print(text, flush=True)
-        self.told = len(run.said)
+        self.printed = len(run.said)
         if not run.is_over:
-            shares = ", ".join(f"{name} {'/'.join(str(run.processes[p, r].share()) for r in (0, 1))} %" for p, name in enumerate(run.names))
-            counts = run.counts
-            print(f"{seconds:4.0f} s: {shares}; {counts.broken.total():,} connections broken, {counts.again.total():,} sent again", flush=True)
+            shares = ", ".join(f"{name} {'/'.join(str(run.processes[number, replica].share()) for replica in (0, 1))} %"
+                               for number, name in enumerate(run.names))
+            again = run.counts.again.total()
+            print(f"{seconds:4.0f} s: {shares}; {run.broken():,} connections broken, {again:,} sent again", flush=True)
 
     def close(self):
         if self.is_live:

@@ -1,12 +1,40 @@
-"""The frames of a connection, as far as the proxy looks at them (docs/FORMATS.md, Frames)."""
+"""The frames of a connection (docs/FORMATS.md, Frames): written, and read as far as their kinds and numbers."""
 
 import struct
 from collections import namedtuple
 
 HELLO, HAVE, DATA, NULL, BYE = range(1, 6)
+VERSION = 2
+# The greatest length that a frame may say.
 GREATEST = 65_556
-# The last octet of a frame in its stream, its kind, and the channel and the number of a message.
-Frame = namedtuple("Frame", "end kind channel number")
+# The last octet of a frame in its stream, its kind, the channel and the number of a message, and what stands behind
+# its length.
+Frame = namedtuple("Frame", "end kind channel number body")
+
+
+def frame(body):
+    """A frame whose length is that of its body."""
+    return struct.pack(">I", len(body)) + body
+
+
+def hello(partition, digest, replica=0, version=VERSION):
+    return frame(struct.pack(">B4sHIB", HELLO, b"NMS1", version, partition, replica) + digest)
+
+
+def have(channel, number):
+    return frame(struct.pack(">BIQ", HAVE, channel, number))
+
+
+def data(channel, number, arrival, packet):
+    return frame(struct.pack(">BIQQ", DATA, channel, number, arrival) + packet)
+
+
+def null(channel, count, clock):
+    return frame(struct.pack(">BIQQ", NULL, channel, count, clock))
+
+
+def bye():
+    return frame(struct.pack(">B", BYE))
 
 
 class Frames:
@@ -26,14 +54,30 @@ class Frames:
                 raise ValueError(f"a frame of length {length}")
             if len(self.rest) < 4 + length:
                 break
-            found.append(self.frame(length))
+            found.append(self.take(length))
         return found
 
-    def frame(self, length):
+    def take(self, length):
         """Takes the frame at the front."""
-        kind, channel, number = self.rest[4], None, None
-        if kind == DATA:
-            channel, number = struct.unpack_from(">IQ", self.rest, 5)
+        body = bytes(self.rest[4:4 + length])
+        channel, number = struct.unpack_from(">IQ", body, 1) if body[0] == DATA else (None, None)
         del self.rest[:4 + length]
         self.passed += 4 + length
-        return Frame(self.passed, kind, channel, number)
+        return Frame(self.passed, body[0], channel, number, body)
+
+
+def read_until(connection, is_enough, seconds=30):
+    """The frames that come over a connection until they are enough, or nothing more comes."""
+    reader, found = Frames(), []
+    connection.settimeout(seconds)
+    while not is_enough(found):
+        piece = connection.recv(65_536)
+        if not piece:
+            break
+        found += reader.feed(piece)
+    return found
+
+
+def has_bye(found):
+    """Whether a Bye is among frames."""
+    return any(it.kind == BYE for it in found)

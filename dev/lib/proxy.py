@@ -1,19 +1,17 @@
-"""Doors: ports behind which replicas are called, which cut, hold back, trickle and stop what they carry."""
+"""Doors: ports behind which replicas are called. A plan says for each connection how a door carries it: where it cuts,
+holds back, trickles and stops what it carries."""
 
-import os
 import random
 import socket
 import struct
-import sys
 import threading
 import time
+from collections import deque
 from dataclasses import dataclass
 
-sys.path.append(os.path.join(os.path.dirname(os.path.dirname(os.path.abspath(__file__))), "demo.d"))
+from dev.lib.frames import BYE, Frames
+from dev.lib.nodes import HOST
 
-from frames import BYE, Frames  # noqa: E402
-
-HOST = "127.0.0.1"
 PIECE = 65_536
 ENDLESS = 1 << 62
 # Between octets that go one at a time.
@@ -27,12 +25,16 @@ BYE_OCTETS = 5
 @dataclass
 class Manner:
     """How a connection is carried; each number is of one way."""
-    # Cut after so many octets, or within the first Bye.
+    # Cut after so many octets, of the caller's way alone or of each; or once so many seconds have passed, at a random
+    # octet of the next piece; or within a Bye, with such a chance.
     cut_after: int | None = None
-    cuts_bye: bool = False
+    is_one_way: bool = False
+    cut_seconds: float | None = None
+    cuts_bye: float = 0.0
     # A cut is a reset, and not an end.
     is_reset: bool = False
-    # A piece is held back for up to so many seconds.
+    # A piece is held back for so many seconds at least, and for up to so many more.
+    held_least: float = 0.0
     held: float = 0.0
     # So many of the first octets go one at a time.
     trickled: int = 0
@@ -41,78 +43,119 @@ class Manner:
     stop: float = 0.0
 
 
+class Watch:
+    """What a door tells of the frames that it carries: to nobody."""
+
+    def read(self, frame, sender, receiver):
+        """A frame was read from its sender."""
+
+    def handed(self, frame, receiver):
+        """A frame was handed to its receiver to its last octet."""
+
+    def cut(self, is_late, lost):
+        """A connection was cut, perhaps once a Bye had come, and these frames were lost with it."""
+
+
+class Way:
+    """One direction of a connection: what was read, and what of it was not handed on yet."""
+
+    def __init__(self, side, other, ends, chance):
+        self.side, self.other, self.ends, self.chance = side, other, ends, chance
+        self.frames, self.whole = Frames(), deque()
+        self.passed, self.has_bye = 0, False
+
+    def finished(self):
+        """The frames that were handed on to their last octet since."""
+        while self.whole and self.whole[0].end <= self.passed:
+            yield self.whole.popleft()
+
+
 class Connection:
     """A connection that a door carries, each way in a thread of its own."""
 
     def __init__(self, door, near, far, manner, chance):
-        self.door, self.near, self.far, self.manner, self.chance = door, near, far, manner, chance
-        self.over = threading.Event()
+        self.door, self.near, self.far, self.manner = door, near, far, manner
+        caller, called = door.pair
+        self.ways = [Way(near, far, (caller, called), random.Random(chance.random())),
+                     Way(far, near, (called, caller), random.Random(chance.random()))]
+        self.begun, self.over = time.monotonic(), threading.Event()
 
     def carry(self):
-        caller, called = self.door.pair
-        ways = [(self.near, self.far, caller, random.Random(self.chance.random())), (self.far, self.near, called, random.Random(self.chance.random()))]
-        threads = [threading.Thread(target=self.carry_way, args=way, daemon=True) for way in ways]
+        """Carries it to its end: whether both Byes were handed on."""
+        threads = [threading.Thread(target=self.carry_way, args=(way,), daemon=True) for way in self.ways]
         for thread in threads:
             thread.start()
         for thread in threads:
             thread.join()
         for end in (self.near, self.far):
             end.close()
+        return all(way.has_bye for way in self.ways)
 
-    def carry_way(self, side, other, sender, chance):
-        """Hands on what a side says, until it ends or the connection is cut."""
-        frames, passed, stop = Frames(), 0, self.manner.stop
+    def carry_way(self, way):
+        """Hands on what a side sends, until it ends or the connection is cut."""
+        stop = self.manner.stop
         try:
             while not self.over.is_set():
-                if stop and passed >= self.manner.stop_at and not self.door.has_bye():
+                if stop and way.passed >= self.manner.stop_at and not self.door.has_bye():
                     self.door.stops += 1
                     self.over.wait(stop)
                     stop = 0
-                octets = side.recv(max(1, min(PIECE, self.left(passed))))
+                octets = way.side.recv(max(1, min(PIECE, self.left(way))))
                 if not octets:
-                    other.shutdown(socket.SHUT_WR)
+                    way.other.shutdown(socket.SHUT_WR)
                     return
-                keep = self.keep(frames, octets, passed, sender, chance)
-                self.hand_on(other, octets[:keep], passed, chance)
-                passed += keep
-                if keep < len(octets) or self.left(passed) <= 0:
+                keep, is_cut = self.keep(way, octets)
+                self.hand_on(way, octets[:keep])
+                if is_cut:
                     self.cut()
         except OSError:
             self.end()
         except ValueError as fault:
-            self.door.faults.append(f"{sender} said {fault}")
+            self.door.faults.append(f"{way.ends[0]} sent {fault}")
             self.end()
 
-    def left(self, passed):
+    def left(self, way):
         """How many octets are left before the cut."""
-        is_cut = self.manner.cut_after is not None and self.door.may_cut()
-        return self.manner.cut_after - passed if is_cut else ENDLESS
+        counts = way is self.ways[0] or not self.manner.is_one_way
+        is_cut = self.manner.cut_after is not None and counts and self.door.may_cut()
+        return self.manner.cut_after - way.passed if is_cut else ENDLESS
 
-    def keep(self, frames, octets, passed, sender, chance):
-        """How many of these octets are handed on. Where it is fewer than all the connection is cut."""
-        keep = max(0, min(len(octets), self.left(passed)))
-        for frame in frames.feed(octets):
+    def keep(self, way, octets):
+        """How many of these octets are handed on, and whether the connection is cut behind them."""
+        left, seconds = self.left(way), self.manner.cut_seconds
+        keep, is_cut = max(0, min(len(octets), left)), left <= len(octets)
+        if seconds is not None and time.monotonic() >= self.begun + seconds and self.door.may_cut():
+            keep, is_cut = way.chance.randrange(keep + 1), True
+        for frame in way.frames.feed(octets):
+            self.door.watch.read(frame, *way.ends)
+            way.whole.append(frame)
             if frame.kind == BYE:
-                self.door.note_bye(sender)
-                if self.manner.cuts_bye and self.door.may_cut():
-                    keep = max(0, min(keep, frame.end - passed - 1 - chance.randrange(BYE_OCTETS)))
-                self.door.byes_cut += frame.end - passed > keep
-        return keep
+                self.door.note_bye(way.ends[0])
+                if way.chance.random() < self.manner.cuts_bye and self.door.may_cut():
+                    within = frame.end - way.passed - 1 - way.chance.randrange(BYE_OCTETS)
+                    keep, is_cut = max(0, min(keep, within)), True
+                self.door.byes_cut += frame.end - way.passed > keep
+        return keep, is_cut
 
-    def hand_on(self, other, octets, passed, chance):
-        if self.manner.held:
-            self.over.wait(chance.random() * self.manner.held)
-        slow = max(0, min(len(octets), self.manner.trickled - passed))
+    def hand_on(self, way, octets):
+        if self.manner.held_least or self.manner.held:
+            self.over.wait(self.manner.held_least + way.chance.random() * self.manner.held)
+        slow = max(0, min(len(octets), self.manner.trickled - way.passed))
         for octet in octets[:slow]:
-            other.sendall(bytes([octet]))
+            way.other.sendall(bytes([octet]))
             self.over.wait(TRICKLE_SECONDS)
-        other.sendall(octets[slow:])
+        way.other.sendall(octets[slow:])
+        way.passed += len(octets)
+        for frame in way.finished():
+            way.has_bye |= frame.kind == BYE
+            self.door.watch.handed(frame, way.ends[1])
 
     def cut(self):
         """Cuts the connection, where it is not over by itself."""
         if not self.over.is_set():
             self.door.cuts += 1
             self.door.cuts_late += self.door.has_bye()
+            self.door.watch.cut(self.door.has_bye(), [frame for way in self.ways for frame in way.whole])
             self.end(self.manner.is_reset)
 
     def end(self, is_reset=False):
@@ -127,18 +170,20 @@ class Connection:
 
 
 class Door:
-    """A port that joins those who call a replica with it, each connection in the manner that `plan` gives for the door."""
+    """A port that joins those who call a replica with the place where it listens, each connection in the manner that
+    `plan` gives for the door."""
 
-    def __init__(self, pair, port, plan, chance, most_late=1_000):
-        self.pair, self.port, self.plan, self.chance, self.most_late = pair, port, plan, chance, most_late
-        self.count = self.disturbed = self.cuts = self.cuts_late = self.byes_cut = self.stops = 0
+    def __init__(self, pair, place, plan, chance, most_late=1_000, watch=Watch(), host=HOST):
+        self.pair, self.place, self.plan, self.chance = pair, place, plan, chance
+        self.most_late, self.watch = most_late, watch
+        self.count = self.disturbed = self.broken = self.cuts = self.cuts_late = self.byes_cut = self.stops = 0
         self.faults = []
-        # When each of both said its first Bye.
+        # When each of both sent its first Bye.
         self.byes = {}
         self.open, self.is_over = [], False
         self.socket = socket.socket()
         self.socket.setsockopt(socket.SOL_SOCKET, socket.SO_RCVBUF, WINDOW)
-        self.socket.bind((HOST, 0))
+        self.socket.bind((host, 0))
         self.socket.listen(64)
         threading.Thread(target=self.serve, daemon=True).start()
 
@@ -168,7 +213,7 @@ class Door:
         far = socket.socket()
         try:
             far.setsockopt(socket.SOL_SOCKET, socket.SO_RCVBUF, WINDOW)
-            far.connect((HOST, self.port))
+            far.connect(self.place)
             for end in (near, far):
                 end.setsockopt(socket.IPPROTO_TCP, socket.TCP_NODELAY, 1)
         except OSError:
@@ -182,7 +227,7 @@ class Door:
         self.open.append(connection)
         if self.is_over:
             connection.end()
-        connection.carry()
+        self.broken += not connection.carry()
 
     def close(self):
         self.is_over = True
@@ -192,13 +237,17 @@ class Door:
             connection.end()
 
 
-def doors_of(network, own, plan_of, chance, most_late=1_000):
-    """A door for each pair of which one calls the other. `own` says where each listens, and `plan_of` gives the plan of a pair."""
-    return {pair: Door(pair, own[pair[1]], plan_of(pair), random.Random(chance.random()), most_late) for pair in network.pairs()}
+def doors_of(network, places, plan_of, chance, most_late=1_000, **how):
+    """A door for each pair of which one calls the other. `places` has where each listens, a port of 127.0.0.1 or an
+    address and a port; `plan_of` gives the plan of a pair."""
+    def place_of(key):
+        return places[key] if isinstance(places[key], tuple) else (HOST, places[key])
+    return {pair: Door(pair, place_of(pair[1]), plan_of(pair), random.Random(chance.random()), most_late, **how)
+            for pair in network.pairs()}
 
 
 def first_byes(doors):
-    """When each replica said its first Bye to anyone, as far as one was seen."""
+    """When each replica sent its first Bye to anyone, as far as one was seen."""
     found = {}
     for door in doors.values():
         for key, moment in door.byes.items():

@@ -1,5 +1,6 @@
 """Tries many times, some at once, and leaves off where much is wrong, so that a step ends in its time."""
 
+import random
 from concurrent.futures import ThreadPoolExecutor
 
 # No more is tried once so much is wrong, and no more of it is printed.
@@ -7,7 +8,8 @@ MOST_FAULTS = 20
 
 
 def each(works, one, at_once):
-    """What `one` comes to for each work, so many at once: first of it stands a list of what is wrong. Works that were not tried are left out."""
+    """What `one` comes to for each work, so many at once: first of it stands a list of what is wrong. Works that were
+    not tried are left out."""
     wrong = 0
 
     def tried(work):
@@ -21,14 +23,19 @@ def each(works, one, at_once):
         return [found for found in pool.map(tried, works) if found is not None]
 
 
+def chances(chance, times):
+    """A chance for each of so many runs, and its number."""
+    return [(random.Random(chance.random()), number) for number in range(times)]
+
+
 def faults_of(ends):
     """All that is wrong."""
     return [fault for end in ends for fault in end[0]]
 
 
-def tell(faults, said):
-    """Prints what is wrong, and last what was tried: whether nothing is wrong."""
+def end(faults, line):
+    """Prints what is wrong, and last what was tried: the status."""
     for fault in faults[:MOST_FAULTS]:
         print(fault)
-    print(f"{said}; {len(faults)} wrong", flush=True)
-    return not faults
+    print(f"{line}; {len(faults)} wrong", flush=True)
+    return 1 if faults else 0

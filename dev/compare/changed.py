@@ -1,14 +1,12 @@
-"""Whether the comparison sees what is wrong: networks that ns-3 is told otherwise than nullsim have to differ, and for no known reason."""
+"""Whether the comparison sees what is wrong: networks that ns-3 gets otherwise than nullsim have to differ, and for no
+known reason."""
 
 import copy
 import os
-import tempfile
 
-import pcaps
-import plain
-import programs
-import sets
-import traces
+from dev.compare import plain, programs, traces
+from dev.compare.differences import Compared
+from dev.lib import here, process
 
 
 def later_arrival(topology):
@@ -46,15 +44,15 @@ def is_seen(topology, change):
     """Whether a changed network is found to differ, without a known reason."""
     changed = copy.deepcopy(topology)
     change(changed)
-    with tempfile.TemporaryDirectory(prefix="compare.") as folder:
-        for name, one, words in (("ours", topology, [programs.NULLSIM, "run"]), ("theirs", changed, [programs.NS3])):
+    with process.folder("compare") as folder:
+        for name, one, words in (("ours", topology, [here.NULLSIM, "run"]), ("theirs", changed, [programs.NS3])):
             traces.write_traces(one, folder, name, words)
         names = [iface["name"] for iface in topology["iface"]]
-        compared = pcaps.Compared(names, os.path.join(folder, "ours"), os.path.join(folder, "theirs"))
+        compared = Compared(names, os.path.join(folder, "ours"), os.path.join(folder, "theirs"))
     return bool(compared.differences and traces.reasons_of(topology, compared)[1])
 
 
 def unseen():
     """The changes that the comparison does not see."""
-    topology = plain.read(os.path.join(sets.ROOT, "examples", "office.toml"))
+    topology = plain.read(here.example("office"))
     return [change.__name__ for change in CHANGES if not is_seen(topology, change)]
