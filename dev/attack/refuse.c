@@ -1,6 +1,6 @@
-/* Refuses calls of a program for what the system may not have: the allocation that the variable REFUSE numbers, from 1, or the thread that REFUSE_THREAD
-   numbers, or every thread where that is `all`. Where it refuses one, it makes the file that the variable REFUSED names. tools/refuse-growths and
-   tools/refuse-threads load it before the C library. */
+/* Refuses calls of a program for what the system may not have: the allocation that the variable REFUSE numbers, from 1,
+   or the thread that REFUSE_THREAD numbers, or every thread where that is `all`. Where it refuses one, it makes the
+   file that the variable REFUSED names. refusing.py has it loaded before the C library. */
 #define _GNU_SOURCE
 #include <dlfcn.h>
 #include <errno.h>
@@ -49,6 +49,7 @@ int pthread_create(pthread_t *thread, const pthread_attr_t *how, void *(*run)(vo
 {
     static int (*next)(pthread_t *, const pthread_attr_t *, void *(*)(void *), void *);
     if (!next)
-        next = (int (*)(pthread_t *, const pthread_attr_t *, void *(*)(void *), void *))dlsym(RTLD_NEXT, "pthread_create");
+        next = (int (*)(pthread_t *, const pthread_attr_t *, void *(*)(void *), void *))dlsym(
+            RTLD_NEXT, "pthread_create");
     return is_refused("REFUSE_THREAD", &threads) ? EAGAIN : next(thread, how, run, given);
 }

@@ -1,4 +1,5 @@
-// What levels ns-3 with nullsim's rules (docs/RULES.md): small subclasses of ns-3's classes, each with the difference that it takes away.
+// What levels ns-3 with nullsim's rules (docs/RULES.md): small subclasses of ns-3's classes, each with the difference
+// that it takes away.
 #pragma once
 
 #include "network.h"
@@ -15,8 +16,9 @@
 namespace ns3
 {
 
-// The place of the next event that is put into the event list. Of the events of one nanosecond, those with lesser places come first: the arrivals
-// at interface i have place 2i, its completions 2i + 1, source j has 2I + j of I interfaces, and the end of the run comes before all.
+// The place of the next event that is put into the event list. Of the events of one nanosecond, those with lesser
+// places come first: the arrivals at interface i have place 2i, its completions 2i + 1, source j has 2I + j of I
+// interfaces, and the end of the run comes before all.
 inline int64_t g_place = -1;
 
 // ns-3 does events of one nanosecond in the order in which they were put into the list; this list does them by place.
@@ -70,7 +72,8 @@ class PlaceScheduler : public Scheduler
 // The octets of the PPP header, which nullsim has not.
 const uint32_t PPP_OCTETS = 2;
 
-// What is to be added to ns-3's time for a packet with its PPP header, so that it is nullsim's time for the packet without. It is negative.
+// What is to be added to ns-3's time for a packet with its PPP header, so that it is nullsim's time for the packet
+// without. It is negative.
 inline int64_t
 TimeCorrection(uint32_t octetsWithPpp, uint64_t rate)
 {
@@ -78,8 +81,8 @@ TimeCorrection(uint32_t octetsWithPpp, uint64_t rate)
     return static_cast<int64_t>(TransmissionTime(octetsWithPpp - PPP_OCTETS, rate)) - theirs;
 }
 
-// A channel whose arrivals come at nullsim's time, and in their place. It is used where one correction does not serve packets of all lengths, or
-// where places are asked for.
+// A channel whose arrivals come at nullsim's time, and in their place. It is used where one correction does not serve
+// packets of all lengths, or where places are asked for.
 class ExactChannel : public PointToPointChannel
 {
   public:
@@ -113,7 +116,8 @@ class ExactChannel : public PointToPointChannel
     uint32_t m_numberOfA = 0, m_numberOfB = 0;
 };
 
-// Called where a transmission starts, before ns-3 computes when it is complete: sets the completion's time, and its place.
+// Called where a transmission starts, before ns-3 computes when it is complete: sets the completion's time, and its
+// place.
 inline void
 OnStart(PointToPointNetDevice* device, uint64_t rate, bool isCorrected, int64_t place, Ptr<const Packet> packet)
 {
@@ -124,8 +128,8 @@ OnStart(PointToPointNetDevice* device, uint64_t rate, bool isCorrected, int64_t 
     }
 }
 
-// A drop-tail queue for `queue = 0`, with which ns-3's would drop packets that are offered to an idle device too, and for a limit in octets: what
-// counts is the octets that wait, without PPP headers.
+// A drop-tail queue for `queue = 0`, with which ns-3's would drop packets that are offered to an idle device too, and
+// for a limit in octets: what counts is the octets that wait, without PPP headers.
 class WaitQueue : public Queue<Packet>
 {
   public:
@@ -185,8 +189,9 @@ IsMartian(uint32_t address)
     return address >> 24 == 0 || address >> 24 == 127 || address >> 28 >= 14;
 }
 
-// IPv4 that numbers what a node originates by one counter: ns-3 has a counter for each source, destination and protocol. An echo reply has type of
-// service 0, and nothing is originated to an address of the node itself or to a martian.
+// IPv4 that numbers what a node originates by one counter: ns-3 has a counter for each source, destination and
+// protocol. An echo reply has type of service 0, and nothing is originated to an address of the node itself or to a
+// martian.
 class CountingIpv4 : public Ipv4L3Protocol
 {
   public:
@@ -201,7 +206,8 @@ class CountingIpv4 : public Ipv4L3Protocol
         return GetTypeId();
     }
 
-    void Send(Ptr<Packet> packet, Ipv4Address source, Ipv4Address destination, uint8_t protocol, Ptr<Ipv4Route> route) override
+    void Send(Ptr<Packet> packet, Ipv4Address source, Ipv4Address destination, uint8_t protocol,
+              Ptr<Ipv4Route> route) override
     {
         if (GetInterfaceForAddress(destination) >= 0 || IsMartian(destination.Get()))
         {
@@ -234,8 +240,8 @@ class CountingIpv4 : public Ipv4L3Protocol
     }
 
   private:
-    // A time exceeded quotes the header with the TTL that ns-3 lowered to 0: here it is 1 again, as it came. With it the quoted checksum goes down by
-    // as much as the TTL's word goes up, so that the message's checksum stays.
+    // A time exceeded quotes the header with the TTL that ns-3 lowered to 0: here it is 1 again, as it came. With it
+    // the quoted checksum goes down by as much as the TTL's word goes up, so that the message's checksum stays.
     static Ptr<Packet> WithTtlAsItCame(Ptr<Packet> message)
     {
         const uint32_t quote = 8, ttl = quote + 8, checksum = quote + 10;
@@ -257,8 +263,8 @@ class CountingIpv4 : public Ipv4L3Protocol
     uint16_t m_identification = 0;
 };
 
-// Whether ns-3 can read a packet: it does not test the lengths of headers before it reads on, which may end the program. Martian destinations are held
-// back here too. Used where there are raw packets.
+// Whether ns-3 can read a packet: it does not test the lengths of headers before it reads on, which may end the
+// program. Martian destinations are held back here too. Used where there are raw packets.
 inline bool
 IsReadable(const Ipv4L3Protocol& ipv4, Ptr<const Packet> packet)
 {
@@ -281,7 +287,8 @@ IsReadable(const Ipv4L3Protocol& ipv4, Ptr<const Packet> packet)
 }
 
 inline bool
-ReceiveIfReadable(Ptr<CountingIpv4> ipv4, Ptr<NetDevice> device, Ptr<const Packet> packet, uint16_t protocol, const Address& from)
+ReceiveIfReadable(Ptr<CountingIpv4> ipv4, Ptr<NetDevice> device, Ptr<const Packet> packet, uint16_t protocol,
+                  const Address& from)
 {
     if (IsReadable(*ipv4, packet))
     {

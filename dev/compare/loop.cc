@@ -1,11 +1,13 @@
-// A bare event loop: what a plain C++ program costs that forwards the same packets, with nothing proved and nothing left open to change.
+// A bare event loop: what a plain C++ program costs that forwards the same packets, with nothing proved and nothing
+// left open to change.
 //
 //   compare-loop NETWORK [--traces FOLDER]
 //
-// NETWORK is a text as network.h says. It makes whole packets, looks up the longest prefix, lowers the time to live, computes the header's checksum
-// anew, and keeps drop-tail queues and counters. Its events have nullsim's order. With --traces each interface has a pcap file FOLDER/NAME.pcap, raw IP with
-// nanosecond times. It prints the packet-hops and each counter. It tests no checksum of UDP, which it made itself. Where a source is not of kind cbr, or
-// where an ICMP error would be due, it ends with status 3.
+// NETWORK is a text as network.h says. It makes whole packets, looks up the longest prefix, lowers the time to live,
+// computes the header's checksum anew, and keeps drop-tail queues and counters. Its events have nullsim's order. With
+// --traces each interface has a pcap file FOLDER/NAME.pcap, raw IP with nanosecond times. It prints the packet-hops and
+// each counter. It tests no checksum of UDP, which it made itself. Where a source is not of kind cbr, or where an ICMP
+// error would be due, it ends with status 3.
 #include "network.h"
 
 #include <algorithm>
@@ -21,7 +23,8 @@ namespace
 // A packet has one owner at any time: an event, a queue, or who is at it.
 using Octets = std::unique_ptr<std::vector<uint8_t>>;
 
-// An event: an arrival of a packet at interface i has place 2i, a completion of its transmission 2i + 1, source j has 2I + j of I interfaces.
+// An event: an arrival of a packet at interface i has place 2i, a completion of its transmission 2i + 1, source j has
+// 2I + j of I interfaces.
 struct Event
 {
     uint64_t time, place, number;
@@ -216,7 +219,8 @@ class Simulation
         }
         for (Place& place : m_places)
         {
-            std::stable_sort(place.routes.begin(), place.routes.end(), [](const Prefix& a, const Prefix& b) { return a.mask > b.mask; });
+            std::stable_sort(place.routes.begin(), place.routes.end(),
+                             [](const Prefix& a, const Prefix& b) { return a.mask > b.mask; });
         }
     }
 
@@ -330,7 +334,8 @@ class Simulation
         {
             Start(port, number, std::move(packet));
         }
-        else if (port.waiting.size() < port.limit && (port.octetLimit < 0 || port.waitingOctets + octets <= port.octetLimit))
+        else if (port.waiting.size() < port.limit &&
+                 (port.octetLimit < 0 || port.waitingOctets + octets <= port.octetLimit))
         {
             port.waitingOctets += octets;
             port.waiting.push_back(std::move(packet));
@@ -370,7 +375,8 @@ class Simulation
             return;
         }
         uint32_t size = static_cast<uint32_t>(octets.size());
-        const uint32_t head[4] = {static_cast<uint32_t>(m_now / 1000000000), static_cast<uint32_t>(m_now % 1000000000), size, size};
+        const uint32_t head[4] = {static_cast<uint32_t>(m_now / 1000000000),
+                                  static_cast<uint32_t>(m_now % 1000000000), size, size};
         std::fwrite(head, 1, sizeof head, port.trace);
         std::fwrite(octets.data(), 1, size, port.trace);
     }
@@ -406,7 +412,8 @@ main(int argc, char** argv)
     AllowFiles(net.ifaces.size());
     Simulation simulation(net, hasTraces ? argv[3] : nullptr);
     const Counters& counters = simulation.Run();
-    std::cout << "hops " << counters.hops << "\ndelivered " << counters.delivered << "\ndropped " << counters.dropped << "\nrefused "
+    std::cout << "hops " << counters.hops << "\ndelivered " << counters.delivered << "\ndropped "
+              << counters.dropped << "\nrefused "
               << counters.refused << "\n";
     return 0;
 }

@@ -1,7 +1,7 @@
-// A network as tools/compare.d/plain.py writes it: one line for each thing, words parted by one space, numbers in decimal.
+// A network as dev/compare/plain.py writes it: one line for each thing, words parted by one space, numbers in decimal.
 //
 //   stop NANOSECONDS            mtu OCTETS              node NAME host|router           port NODE PORT
-//   iface NAME NODE ADDRESS QUEUE OCTETS                QUEUE packets may wait, and OCTETS octets, or -1 for any number of octets
+//   iface NAME NODE ADDRESS QUEUE OCTETS                QUEUE packets may wait, and OCTETS octets, or -1 for any number
 //   link IFACE IFACE RATE DELAY                         bits per second, nanoseconds
 //   route NODE ADDRESS LENGTH IFACE
 //   cbr NODE TO SPORT DPORT SIZE FILL START INTERVAL COUNT TTL

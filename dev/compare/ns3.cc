@@ -1,9 +1,11 @@
-// Simulates a network with ns-3, as tools/compare asks for it: the packets that docs/RULES.md has, as far as ns-3 can.
+// Simulates a network with ns-3, as dev/compare/compare asks for it: the packets that docs/RULES.md has, as far as ns-3
+// can.
 //
 //   compare-ns3 NETWORK [--traces FOLDER] [--places]
 //
-// NETWORK is a text as network.h says. With --traces each interface has a pcap file FOLDER/NAME.pcap with nanosecond times; its packets have the
-// two octets of PPP first. With --places the events of one nanosecond are done in nullsim's order, and not in ns-3's.
+// NETWORK is a text as network.h says. With --traces each interface has a pcap file FOLDER/NAME.pcap with nanosecond
+// times; its packets have the two octets of PPP first. With --places the events of one nanosecond are done in nullsim's
+// order, and not in ns-3's.
 #include "levelled.h"
 
 #include <cstring>
@@ -31,7 +33,8 @@ struct Built
     std::vector<uint32_t> indexes; // of each interface at its node, as ns-3 counts them
 };
 
-// A node with IPv4, ICMP and UDP, static routes, and no queue discipline: these come with InternetStackHelper and Ipv4AddressHelper alone.
+// A node with IPv4, ICMP and UDP, static routes, and no queue discipline: these come with InternetStackHelper and
+// Ipv4AddressHelper alone.
 void
 AddNode(const NodeLine& line, Built& built)
 {
@@ -45,7 +48,8 @@ AddNode(const NodeLine& line, Built& built)
     ipv4->SetRoutingProtocol(CreateObject<Ipv4StaticRouting>());
     for (uint16_t port : line.ports)
     {
-        // an end point without a callback takes what comes, and forgets it; a second one for a port is refused, and not needed
+        // an end point without a callback takes what comes, and forgets it; a second one for a port is refused, and not
+        // needed
         udp->Allocate(Ptr<NetDevice>(), port);
     }
     built.nodes.push_back(node);
@@ -90,7 +94,8 @@ AddIface(const Network& net, const Iface& iface, bool isGuarded, Built& built)
     built.indexes.push_back(index);
 }
 
-// Whether one correction serves packets of all lengths: then ns-3's own channel and device do, with a gap and a delay that have it in them.
+// Whether one correction serves packets of all lengths: then ns-3's own channel and device do, with a gap and a delay
+// that have it in them.
 bool
 IsOneCorrection(uint64_t rate, uint32_t mtu)
 {
@@ -269,7 +274,8 @@ AddSources(const Network& net, Built& built)
     std::vector<std::unique_ptr<Traffic>> all;
     for (size_t j = 0; j < net.sources.size(); j++)
     {
-        all.push_back(std::make_unique<Traffic>(net.sources[j], static_cast<int64_t>(2 * net.ifaces.size() + j), built));
+        const int64_t place = static_cast<int64_t>(2 * net.ifaces.size() + j);
+        all.push_back(std::make_unique<Traffic>(net.sources[j], place, built));
         all.back()->Plan();
     }
     return all;

@@ -91,7 +91,8 @@ def without_raw(topology):
 def source_parts(topology):
     """The number of each source, with each of its packets where it is raw, or nothing."""
     for number, source in enumerate(topology["source"]):
-        yield from ((number, packet) for packet in (range(len(source["packet"])) if source["kind"] == "raw" else [None]))
+        yield from ((number, packet)
+                    for packet in (range(len(source["packet"])) if source["kind"] == "raw" else [None]))
 
 
 def with_parts(topology, parts):

@@ -1,7 +1,8 @@
 """Why ns-3 sends another packet than nullsim: the known reasons, told from the two packets of the first difference.
 
-A port is first in, first out, so that of all interfaces the earliest record that differs is itself what one of both sends otherwise, and no consequence
-of it. A reason is taken only where the packets show it: what no reason explains is an unknown difference.
+A port is first in, first out, so that of all interfaces the earliest record that differs is itself what one of both
+sends otherwise, and no consequence of it. A reason is taken only where the packets show it: what no reason explains is
+an unknown difference.
 """
 
 import struct
@@ -13,7 +14,8 @@ REASONS = {
     "options": "ns-3 takes the options out of a header that it forwards or quotes",
     "short quote": "ns-3 fills a quote of fewer than 8 octets of data with zeros",
     "not withheld": "ns-3 sends an error about an ICMP error, an empty ICMP message or a later fragment",
-    "reassembly": "ns-3 puts fragments together at their destination, and sends the error 11, 1 where some do not come in 30 s",
+    "reassembly": "ns-3 puts fragments together at their destination, and sends the error 11, 1 where some do not come "
+                  "in 30 s",
     "UDP length": "ns-3 sums all octets after the header, where the UDP length says fewer",
     "UDP checksum": "ns-3 takes a UDP checksum of 0, which says that there is none, for a wrong one",
     "echo code": "ns-3 answers an echo request whose code is not 0",
@@ -33,7 +35,8 @@ class Header:
         self.octets = octets
         self.length = (octets[0] & 15) * 4
         self.total, self.identification, fragment = struct.unpack_from(">HHH", octets, 2)
-        self.is_reserved, self.has_more, self.offset = bool(fragment & 0x8000), bool(fragment & 0x2000), fragment & 0x1FFF
+        self.is_reserved, self.has_more = bool(fragment & 0x8000), bool(fragment & 0x2000)
+        self.offset = fragment & 0x1FFF
         self.ttl, self.protocol = octets[8], octets[9]
         self.payload = octets[self.length:self.total]
 
@@ -95,12 +98,14 @@ def extra(theirs, arrived):
 
 def as_it_came(quote, arrived):
     """The packet that is quoted, which may have had options, where it is among those that came."""
-    return next((come for come in arrived if come.identification == quote.identification and come.octets[12:20] == quote.octets[12:20]), quote)
+    return next((come for come in arrived if come.identification == quote.identification
+                 and come.octets[12:20] == quote.octets[12:20]), quote)
 
 
 def is_withheld(packet):
     """Whether a packet is one about which we send no error."""
-    return packet.offset > 0 or (packet.protocol == ICMP and (packet.total == packet.length or packet.octets[packet.length] in ERRORS))
+    return packet.offset > 0 or (packet.protocol == ICMP
+                                 and (packet.total == packet.length or packet.octets[packet.length] in ERRORS))
 
 
 def reply(theirs, arrived):

@@ -30,7 +30,8 @@ def row(kind, count, folder):
 def table():
     """Whether all files were equal, and the lines of the table."""
     runs = [f"{RUNS} runs of {workers} workers: files that differ" for workers in WORKERS]
-    lines, wrong = [f"| Network | Partitions | Interfaces | {' | '.join(runs)} |", "|---|---|---|" + "---|" * len(runs)], 0
+    lines, wrong = [f"| Network | Partitions | Interfaces | {' | '.join(runs)} |",
+                    "|---|---|---|" + "---|" * len(runs)], 0
     for kind, count in NETWORKS:
         with process.folder("compare") as folder:
             found, line = row(kind, count, folder)

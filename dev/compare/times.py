@@ -44,7 +44,8 @@ def row(name, files, hops, found):
     """A line of the table: millions of packet-hops a second of processor time, and memory."""
     rates = [count / seconds / 1e6 for count, (seconds, _) in zip(hops, found)]
     least = min(seconds for seconds, _ in found)
-    cells = [name, files, *(f"{rate:.2f}" for rate in rates), f"{rates[1] / rates[0]:.1f}", f"{rates[2] / rates[1]:.1f}",
+    cells = [name, files, *(f"{rate:.2f}" for rate in rates), f"{rates[1] / rates[0]:.1f}",
+             f"{rates[2] / rates[1]:.1f}",
              *(f"{memory:.0f} MiB" for _, memory in found), f"{least:.1f} s"]
     return f"| {' | '.join(cells)} |"
 

@@ -1,4 +1,5 @@
-"""The comparison of traces: each set of topologies through nullsim and ns-3, interface by interface and packet by packet."""
+"""The comparison of traces: each set of topologies through nullsim and ns-3, interface by interface and packet by
+packet."""
 
 import collections
 import os
@@ -157,7 +158,8 @@ def try_whole(label, topology, tally):
 
 
 def try_parts():
-    """Each source of the stored networks alone, each raw packet alone; then each network with all sources and packets that are equal alone."""
+    """Each source of the stored networks alone, each raw packet alone; then each network with all sources and packets
+    that are equal alone."""
     alone = Tally(ALONE, "the same, of each network one source or one raw packet at a time")
     rest = Tally("rest", "the same, of each network all sources and raw packets that are equal alone")
     for name, topology in sets.networks():

@@ -49,10 +49,10 @@ def targets():
 def comments():
     """The comments of the code, each with its place."""
     for path in here.files("crates", ends=".rt"):
-        if f"{os.sep}out{os.sep}" not in path:
-            for number, line in enumerate(here.read(path).split("\n"), 1):
-                if "//" in line:
-                    yield f"{os.path.relpath(path, here.ROOT)}:{number}", line.partition("//")[2]
+        name = os.path.relpath(path, here.ROOT)
+        for number, line in enumerate(here.read(path).split("\n") if "/out/" not in name else [], 1):
+            if "//" in line:
+                yield f"{name}:{number}", line.partition("//")[2]
 
 
 def check_paths(report):

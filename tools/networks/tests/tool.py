@@ -75,7 +75,8 @@ class Folder(unittest.TestCase):
 
     def nullsim(self, *words):
         """What nullsim prints, which has to end well."""
-        ended = subprocess.run([NULLSIM, *words], stdout=subprocess.PIPE, stderr=subprocess.PIPE, timeout=SECONDS, check=False)
+        ended = subprocess.run([NULLSIM, *words], stdout=subprocess.PIPE, stderr=subprocess.PIPE, timeout=SECONDS,
+                               check=False)
         self.assertEqual(ended.returncode, 0, (words, ended.stdout[-500:], ended.stderr))
         return ended.stdout
 
