@@ -80,7 +80,7 @@ def closure(paths):
 
 
 def needs_of(script):
-    """The least Python and the packages of a script, which may have an option behind it."""
+    """The least Python and the packages of a script; with an option behind it, it looks for no package."""
     paths = [here.path(script.split()[0])]
     for other in CALLS.get(script, []):
         paths += filter(is_python, here.files(other) if os.path.isdir(here.path(other)) else [here.path(other)])
@@ -88,7 +88,7 @@ def needs_of(script):
     for names in closure(paths).values():
         python = max([python, *(NEWER[name] for name in names if name in NEWER)])
         packages |= {PACKAGES[name] for name in names if name in PACKAGES}
-    return python, packages
+    return python, packages if script in CALLS or " " not in script else set()
 
 
 def scripts_of_targets():

@@ -5,71 +5,70 @@ import runpy
 
 from dev.lib import here
 
-LIMITS, TRANSPORT = "nm_base/src/limits.rt", "nm_transport/src/limits.rt"
-POLICY, REPLICA = "nm_policy/src/limits.rt", "nm_replica/src/limits.rt"
-PCAP, FRAMES, FORMS = "nm_pcap/src/format.rt", "nm_frames/src/format.rt", "nm_topology/src/parse/forms.rt"
-SPREAD, NUMBER = "nm_measure/src/spread.rt", r"([\d,^]+|[a-z]+)"
-# What a document says: a sentence with # in the place of the number, and the file and the constant that it is. `s` and
-# `ms` are times that the code counts in periods.
-SENTENCES = {"docs/FORMATS.md": (
-    ("A text of more than # octets is Range", LIMITS, "MAX_TEXT_OCTETS"),
-    ("`stop` 1 to # (nanoseconds)", LIMITS, "MAX_TIME"),
-    ("`mtu` # to", LIMITS, "MIN_MTU"),
-    ("`mtu` 576 to # (octets)", LIMITS, "MAX_MTU"),
-    ("`partition` 0 to #;", LIMITS, "MAX_PARTITION"),
-    ("`ports` o, at most # whole", LIMITS, "MAX_PORTS_OF_NODE"),
-    ("`queue` 0 to # (packets)", LIMITS, "MAX_QUEUE"),
-    ("`queue_octets` o 0 to # (octets)", LIMITS, "MAX_QUEUE_OCTETS"),
-    ("`rate` # to", LIMITS, "MIN_RATE"),
-    ("`rate` 1,000 to # (bits per second)", LIMITS, "MAX_RATE"),
-    ("`delay` 0 to # (nanoseconds)", LIMITS, "MAX_DELAY"),
-    ("`interval` 1 to # (nanoseconds)", LIMITS, "MAX_INTERVAL"),
-    ("`packet`: array of tables, at most #", LIMITS, "MAX_RAW_PACKETS"),
-    ("**Limits**: # nodes", LIMITS, "MAX_NODES"),
-    ("nodes, # interfaces", LIMITS, "MAX_IFACES"),
-    ("interfaces, # links", LIMITS, "MAX_LINKS"),
-    ("links, # sources", LIMITS, "MAX_SOURCES"),
-    ("sources, # partitions", LIMITS, "MAX_PARTITIONS"),
-    ("partitions, # channels", LIMITS, "MAX_CHANNELS"),
-    ("channels, # routes", LIMITS, "MAX_ROUTES"),
-    ("routes and # of one node", LIMITS, "MAX_ROUTES_OF_NODE"),
-    ("A name has 1 to # characters", FORMS, "MAX_NAME"),
-    ("The file header has # octets", PCAP, "FILE_HEADER_OCTETS"),
-    ("u32 snapshot length #,", PCAP, "SNAPSHOT_LENGTH"),
-    ("u32 link type # (raw IP)", PCAP, "LINK_TYPE_RAW"),
-    ("`rounds TOPO MAX`, MAX 1 to #.", LIMITS, "MAX_ROUNDS"),
-    ("`certify TOPO WORKERS DIR..`, WORKERS 1 to #,", LIMITS, "MAX_WORKERS"),
-    ("WORKERS 1 to # and REPLICAS", LIMITS, "MAX_WORKERS"),
-    ("and REPLICAS 1 or #,", LIMITS, "MAX_REPLICAS"),
-    ("over TCP, PARTITION 0 to # and", LIMITS, "MAX_PARTITION"),
-    ("does up to # events after each poll", "nm_run/src/sides.rt", "OWN_EVENTS"),
-    ("merge what the other knows after every # polls", REPLICA, "MERGE_POLLS"),
-    ("in periods of # ms,", TRANSPORT, "PERIOD_MILLISECONDS"),
-    ("is called again # ms later", POLICY, "REST_PERIODS"),
-    ("calls once more, since the last Bye may have been lost, and then once # second", POLICY, "RECALL_PERIODS", "s"),
-    ("no Hello for # seconds", POLICY, "HELLO_PERIODS", "s"),
-    ("After the Hello nothing comes for # seconds", POLICY, "SILENCE_PERIODS", "s"),
-    ("more than # connections without a Hello", POLICY, "MAX_STRANGERS"),
-    ("without a Hello are closed after # a second", REPLICA, "SCARCE_PERIODS", "s"),
-    ("after # second the node ends", REPLICA, "SHORT_PERIODS", "s"),
-    ("for # minute the node neither", REPLICA, "MAX_IDLE_PERIODS", "min"),
-    ("count from # second after its Hello on", POLICY, "GREETING_PERIODS", "s"),
-    ("it stays up to # seconds for peers", POLICY, "LINGER_PERIODS", "s"),
-    ("the length is 0 or above #", LIMITS, "MAX_BODY_OCTETS"),
-    ("SHA-256 of the topology text | # |", FRAMES, "HELLO_OCTETS"),
-    ("u64 number of messages held | # |", FRAMES, "HAVE_OCTETS"),
-    ("arrive at `clock` or later | # |", FRAMES, "NULL_OCTETS"),
-    ("each step past the first #;", LIMITS, "MAX_SCRIPT_STEPS"),
-    ("each other table follows, at most # and", "nm_check/src/faults.rt", "MAX_FAULTS"),
-    ("sends to ADDRESS with a time to live of #:", "nm_paths/src/path.rt", "DEFAULT_TIME_TO_LIVE"),
-    ("while a source has up to # different delays", SPREAD, "EXACT_ROWS"),
-    ("rounded down to its # highest bits", SPREAD, "KEPT_BITS"),
-    ("A source takes at most # rows", "nm_series/src/buckets.rt", "MOST_ROWS"),
-    ("More than # rows are refused", "nm_series/src/steps.rt", "MAX_ROWS"),
-    ("It may have # octets; one more", LIMITS, "MAX_INPUT_OCTETS"),
-), "docs/ARCHITECTURE.md": (
-    ("There are # counters", "nm_forward/src/counter.rt", "COUNTERS"),
-)}
+LIMITS, PERIOD = "nm_base/limits", ("nm_transport/limits", "PERIOD_MILLISECONDS")
+NUMBER = r"([\d,^]+|[a-z]+)"
+# What a document says: behind a file and a constant of the code a sentence, with # in the place of the number. `s` and
+# `min` are times that the code counts in periods.
+SENTENCES = """
+docs/FORMATS.md
+nm_base/limits MAX_TEXT_OCTETS: A text of more than # octets is Range
+nm_base/limits MAX_TIME: `stop` 1 to # (nanoseconds)
+nm_base/limits MIN_MTU: `mtu` # to
+nm_base/limits MAX_MTU: `mtu` 576 to # (octets)
+nm_base/limits MAX_PARTITION: `partition` 0 to #;
+nm_base/limits MAX_PORTS_OF_NODE: `ports` o, at most # whole
+nm_base/limits MAX_QUEUE: `queue` 0 to # (packets)
+nm_base/limits MAX_QUEUE_OCTETS: `queue_octets` o 0 to # (octets)
+nm_base/limits MIN_RATE: `rate` # to
+nm_base/limits MAX_RATE: `rate` 1,000 to # (bits per second)
+nm_base/limits MAX_DELAY: `delay` 0 to # (nanoseconds)
+nm_base/limits MAX_INTERVAL: `interval` 1 to # (nanoseconds)
+nm_base/limits MAX_RAW_PACKETS: `packet`: array of tables, at most #
+nm_base/limits MAX_NODES: **Limits**: # nodes
+nm_base/limits MAX_IFACES: nodes, # interfaces
+nm_base/limits MAX_LINKS: interfaces, # links
+nm_base/limits MAX_SOURCES: links, # sources
+nm_base/limits MAX_PARTITIONS: sources, # partitions
+nm_base/limits MAX_CHANNELS: partitions, # channels
+nm_base/limits MAX_ROUTES: channels, # routes
+nm_base/limits MAX_ROUTES_OF_NODE: routes and # of one node
+nm_topology/parse/forms MAX_NAME: A name has 1 to # characters
+nm_pcap/format FILE_HEADER_OCTETS: The file header has # octets
+nm_pcap/format SNAPSHOT_LENGTH: u32 snapshot length #,
+nm_pcap/format LINK_TYPE_RAW: u32 link type # (raw IP)
+nm_base/limits MAX_ROUNDS: `rounds TOPO MAX`, MAX 1 to #.
+nm_base/limits MAX_WORKERS: `certify TOPO WORKERS DIR..`, WORKERS 1 to #,
+nm_base/limits MAX_WORKERS: WORKERS 1 to # and REPLICAS
+nm_base/limits MAX_REPLICAS: and REPLICAS 1 or #,
+nm_base/limits MAX_PARTITION: over TCP, PARTITION 0 to # and
+nm_run/sides OWN_EVENTS: does up to # events after each poll
+nm_replica/limits MERGE_POLLS: merge what the other knows after every # polls
+nm_transport/limits PERIOD_MILLISECONDS: in periods of # ms,
+nm_policy/limits REST_PERIODS: is called again # ms later
+nm_policy/limits RECALL_PERIODS s: calls once more, since the last Bye may have been lost, and then once # second
+nm_policy/limits HELLO_PERIODS s: no Hello for # seconds
+nm_policy/limits SILENCE_PERIODS s: After the Hello nothing comes for # seconds
+nm_policy/limits MAX_STRANGERS: more than # connections without a Hello
+nm_replica/limits SCARCE_PERIODS s: without a Hello are closed after # a second
+nm_replica/limits SHORT_PERIODS s: after # second the node ends
+nm_replica/limits MAX_IDLE_PERIODS min: for # minute the node neither
+nm_policy/limits GREETING_PERIODS s: count from # second after its Hello on
+nm_policy/limits LINGER_PERIODS s: it stays up to # seconds for peers
+nm_base/limits MAX_BODY_OCTETS: the length is 0 or above #
+nm_frames/format HELLO_OCTETS: SHA-256 of the topology text | # |
+nm_frames/format HAVE_OCTETS: u64 number of messages held | # |
+nm_frames/format NULL_OCTETS: arrive at `clock` or later | # |
+nm_base/limits MAX_SCRIPT_STEPS: each step past the first #;
+nm_check/faults MAX_FAULTS: each other table follows, at most # and
+nm_paths/path DEFAULT_TIME_TO_LIVE: sends to ADDRESS with a time to live of #:
+nm_measure/spread EXACT_ROWS: while a source has up to # different delays
+nm_measure/spread KEPT_BITS: rounded down to its # highest bits
+nm_series/buckets MOST_ROWS: A source takes at most # rows
+nm_series/steps MAX_ROWS: More than # rows are refused
+nm_base/limits MAX_INPUT_OCTETS: It may have # octets; one more
+docs/ARCHITECTURE.md
+nm_forward/counter COUNTERS: There are # counters
+"""
 # How many of a unit a constant of periods is.
 UNITS = {"s": 1_000, "min": 60_000}
 WORDS = {"a": 1, "one": 1, "two": 2, "three": 3, "four": 4, "five": 5, "six": 6, "seven": 7, "eight": 8, "nine": 9,
@@ -85,10 +84,23 @@ TOOL_LIMITS = {
 }
 
 
+def rows():
+    """The document, the file, the constant, the unit or '', and the sentence of each row of SENTENCES."""
+    document = ""
+    for line in SENTENCES.strip().splitlines():
+        head, _, sentence = line.partition(": ")
+        path, name, unit = [*head.split(), "", ""][:3]
+        if sentence:
+            yield document, path, name, unit, sentence
+        else:
+            document = path
+
+
 def constant_of(path, name):
     """The number of a constant of the code, or None. Where it is worked out from others of the same file, so are
     these."""
-    found = re.search(rf"const {name}: \w+ = ([^;]+);", here.read("crates", path))
+    crate, _, module = path.partition("/")
+    found = re.search(rf"const {name}: \w+ = ([^;]+);", here.read("crates", crate, "src", f"{module}.rt"))
     if not found:
         return None
     term = re.sub(r"(?<=\w)_(?=\d)|(?<=\d)_(?=\w)", "", re.sub(r" as \w+|\w+::", "", found[1]))
@@ -111,22 +123,21 @@ def found_in(text, sentence):
     return re.search(before + NUMBER + behind, text, re.I)
 
 
-def check_sentence(document, row, report):
+def check_sentence(row, report):
     """A number that a document says, beside the code."""
-    sentence, path, name, *unit = row
-    is_, found = constant_of(path, name), found_in(here.read(document), sentence)
+    document, path, name, unit, sentence = row
+    value, found = constant_of(path, name), found_in(here.read(document), sentence)
     said = found[1].lower() if found else None
-    if is_ is not None and name.endswith("_PERIODS"):
-        is_ = is_ * constant_of(TRANSPORT, "PERIOD_MILLISECONDS") / UNITS.get(*unit or ["ms"], 1)
-    what = f"{document}: {sentence!r} has {said}, where {name} of {path} is {is_}"
-    report.note(is_ is not None and number_of(said) == is_, what)
+    if value is not None and name.endswith("_PERIODS"):
+        value = value * constant_of(*PERIOD) / UNITS.get(unit, 1)
+    what = f"{document}: {sentence!r} has {said}, where {name} of {path} is {value}"
+    report.note(value is not None and number_of(said) == value, what)
 
 
 def check_sentences(report):
     """What documents say, beside the code."""
-    for document, rows in SENTENCES.items():
-        for row in rows:
-            check_sentence(document, row, report)
+    for row in rows():
+        check_sentence(row, report)
 
 
 def check_tool_limits(report):
@@ -136,5 +147,5 @@ def check_tool_limits(report):
         values = [it if isinstance(it, int) else constant_of(LIMITS, it) for it in wanted]
         found = list(own[name]) if isinstance(own[name], tuple) else [own[name]]
         report.note(found == values, f"tools/networks/limits.py: {name} is {found}, where the code has {values}")
-    names = own["NAME_LENGTH"], constant_of(FORMS, "MAX_NAME")
+    names = own["NAME_LENGTH"], constant_of("nm_topology/parse/forms", "MAX_NAME")
     report.note(names[0] == names[1], f"tools/networks/limits.py: NAME_LENGTH and MAX_NAME of the code are {names}")

@@ -11,9 +11,14 @@ def path_of(crate, end="bugs"):
 
 
 def bugs_of(crate):
-    """The bugs of a crate's list, each as its keys and its edits: pairs of an old text and a new one."""
+    """The bugs of a crate's list."""
+    return blocks(here.read("dev", "planted", f"{crate}.bugs"))
+
+
+def blocks(text):
+    """The bugs of a text, each as its keys and its edits: pairs of an old text and a new one."""
     bugs = []
-    for line in here.read("dev", "planted", f"{crate}.bugs").splitlines():
+    for line in text.splitlines():
         key, _, text = line.partition(": ")
         if not line.strip() or line.startswith("#"):
             continue
