@@ -1,4 +1,4 @@
-"""Why ns-3 sends another packet than nullsim: the known reasons, told from the two packets of the first difference.
+"""Why ns-3 sends another packet than nullsim: the known reasons, by the two packets of the first difference.
 
 A port is first in, first out, so that of all interfaces the earliest record that differs is itself what one of both
 sends otherwise, and no consequence of it. A reason is taken only where the packets show it: what no reason explains is

@@ -16,7 +16,7 @@ class Counts(proxy.Watch):
         self.cuts = self.late = self.byes = 0
         # The numbers of the messages that a sender began to send to a receiver on a channel.
         self.sent = defaultdict(set)
-        # Those that were sent to a receiver on a channel by anyone, and those that were handed to its present process
+        # Those that were sent to a receiver on a channel by anyone, and those that came to its present process
         # to their last octet.
         self.wanted, self.whole = defaultdict(set), defaultdict(set)
 
@@ -29,7 +29,7 @@ class Counts(proxy.Watch):
                 numbers.add(frame.number)
                 self.wanted[frame.channel, receiver].add(frame.number)
 
-    def handed(self, frame, receiver):
+    def delivered(self, frame, receiver):
         if frame.kind == frames.DATA:
             with self.lock:
                 self.whole[frame.channel, receiver].add(frame.number)

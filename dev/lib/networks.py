@@ -1,9 +1,13 @@
 """Networks whose partitions run as processes, and the trace files that the one event list writes of them."""
 
 import os
-import tomllib
+import sys
 
 from dev.lib import here, process, topologies
+
+if sys.version_info < (3, 11):
+    sys.exit(f"this needs Python 3.11 or later, and {sys.executable} is {sys.version.split()[0]}")
+import tomllib
 
 # A network has many interfaces: of what `all` writes so many files are compared with those of `one`.
 COMPARED = 8

@@ -44,20 +44,20 @@ class Manner:
 
 
 class Watch:
-    """What a door tells of the frames that it carries: to nobody."""
+    """Who sees the frames that a door carries: nobody."""
 
     def read(self, frame, sender, receiver):
         """A frame was read from its sender."""
 
-    def handed(self, frame, receiver):
-        """A frame was handed to its receiver to its last octet."""
+    def delivered(self, frame, receiver):
+        """A frame was forwarded to its receiver to its last octet."""
 
     def cut(self, is_late, lost):
         """A connection was cut, perhaps once a Bye had come, and these frames were lost with it."""
 
 
 class Way:
-    """One direction of a connection: what was read, and what of it was not handed on yet."""
+    """One direction of a connection: what was read, and what of it was not forwarded yet."""
 
     def __init__(self, side, other, ends, chance):
         self.side, self.other, self.ends, self.chance = side, other, ends, chance
@@ -65,7 +65,7 @@ class Way:
         self.passed, self.has_bye = 0, False
 
     def finished(self):
-        """The frames that were handed on to their last octet since."""
+        """The frames that were forwarded to their last octet since."""
         while self.whole and self.whole[0].end <= self.passed:
             yield self.whole.popleft()
 
@@ -81,7 +81,7 @@ class Connection:
         self.begun, self.over = time.monotonic(), threading.Event()
 
     def carry(self):
-        """Carries it to its end: whether both Byes were handed on."""
+        """Carries it to its end: whether both Byes were forwarded."""
         threads = [threading.Thread(target=self.carry_way, args=(way,), daemon=True) for way in self.ways]
         for thread in threads:
             thread.start()
@@ -92,7 +92,7 @@ class Connection:
         return all(way.has_bye for way in self.ways)
 
     def carry_way(self, way):
-        """Hands on what a side sends, until it ends or the connection is cut."""
+        """Forwards what a side sends, until it ends or the connection is cut."""
         stop = self.manner.stop
         try:
             while not self.over.is_set():
@@ -105,7 +105,7 @@ class Connection:
                     way.other.shutdown(socket.SHUT_WR)
                     return
                 keep, is_cut = self.keep(way, octets)
-                self.hand_on(way, octets[:keep])
+                self.forward(way, octets[:keep])
                 if is_cut:
                     self.cut()
         except OSError:
@@ -121,7 +121,7 @@ class Connection:
         return self.manner.cut_after - way.passed if is_cut else ENDLESS
 
     def keep(self, way, octets):
-        """How many of these octets are handed on, and whether the connection is cut behind them."""
+        """How many of these octets are forwarded, and whether the connection is cut behind them."""
         left, seconds = self.left(way), self.manner.cut_seconds
         keep, is_cut = max(0, min(len(octets), left)), left <= len(octets)
         if seconds is not None and time.monotonic() >= self.begun + seconds and self.door.may_cut():
@@ -137,7 +137,7 @@ class Connection:
                 self.door.byes_cut += frame.end - way.passed > keep
         return keep, is_cut
 
-    def hand_on(self, way, octets):
+    def forward(self, way, octets):
         if self.manner.held_least or self.manner.held:
             self.over.wait(self.manner.held_least + way.chance.random() * self.manner.held)
         slow = max(0, min(len(octets), self.manner.trickled - way.passed))
@@ -148,7 +148,7 @@ class Connection:
         way.passed += len(octets)
         for frame in way.finished():
             way.has_bye |= frame.kind == BYE
-            self.door.watch.handed(frame, way.ends[1])
+            self.door.watch.delivered(frame, way.ends[1])
 
     def cut(self):
         """Cuts the connection, where it is not over by itself."""

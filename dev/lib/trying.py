@@ -8,7 +8,7 @@ MOST_FAULTS = 20
 
 
 def each(works, one, at_once):
-    """What `one` comes to for each work, so many at once: first of it stands a list of what is wrong. Works that were
+    """What `one` comes to for each work, so many at once: its first part is a list of what is wrong. Works that were
     not tried are left out."""
     wrong = 0
 
