@@ -29,7 +29,11 @@ PARTS = (
 def check_parts(report):
     """Each part is what the tree has."""
     for document, name, make in PARTS:
-        found = here.between(document, name)[0].rstrip("\n")
+        try:
+            found = here.between(document, name)[0].rstrip("\n")
+        except ValueError as fault:
+            report.note(False, str(fault))
+            continue
         report.note(found == make(), f"{document}: its part {name} is not what the tree has: dev/check/docs --write")
 
 
