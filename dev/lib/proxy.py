@@ -227,7 +227,8 @@ class Door:
         self.open.append(connection)
         if self.is_over:
             connection.end()
-        self.broken += not connection.carry()
+        is_whole = connection.carry()
+        self.broken += not is_whole
 
     def close(self):
         self.is_over = True
