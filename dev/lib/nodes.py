@@ -122,12 +122,7 @@ class Node:
 
     def end(self, seconds=MINUTE):
         """Awaits its end, and says its status: where it is late it is killed."""
-        until = time.monotonic() + seconds
-        while self.runs() and time.monotonic() < until:
-            time.sleep(LOOK_SECONDS)
-        self.is_late = self.runs()
-        self.kill()
-        return self.status()
+        return end_all([self], seconds)[0]
 
     def status(self):
         return "late" if self.is_late else self.child.returncode
@@ -151,6 +146,17 @@ class Node:
 
     def wrong_files(self, wanted):
         return wrong_files(self.folder, self.network.ifaces(self.key[0]), wanted)
+
+
+def end_all(some, seconds=MINUTE):
+    """Awaits the end of nodes, and says their statuses. Those that are late are killed."""
+    until = time.monotonic() + seconds
+    while any([node.runs() for node in some]) and time.monotonic() < until:
+        time.sleep(LOOK_SECONDS)
+    for node in some:
+        node.is_late = node.runs()
+        node.kill()
+    return [node.status() for node in some]
 
 
 class Nodes:
@@ -179,10 +185,7 @@ class Nodes:
 
     def end(self, seconds=MINUTE):
         """Awaits the end of all. Those that are late are killed."""
-        if self.until(time.monotonic() + seconds):
-            for node in self.all.values():
-                node.is_late = node.runs()
-                node.kill()
+        end_all(list(self.all.values()), seconds)
 
     def statuses(self):
         return {key: node.status() for key, node in self.all.items()}
