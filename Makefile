@@ -21,45 +21,48 @@ all: bin/nullsim
 # dev/check/docs compares the stars and the packages with what the scripts import.
 define HELP
 Build
-  make             proves what the program needs, and builds bin/nullsim; the first time some 80 processor minutes, and
-                   it says what is left (JOBS=N: N jobs at a time)
-  make clean       removes what was built
+  make                   proves what the program needs, and builds bin/nullsim; the first time some 80 processor
+                         minutes, and it says what is left (JOBS=N: N jobs at a time)
+  make clean             removes what was built
 Try it
-  make try         runs the program before it is proved, in some 2 processor minutes: TOPO=FILE and IFACE=NAME choose
-                   what it shows
-  make run         builds it and shows a trace in hexadecimal; TOPO and IFACE as for make try
-  make demo *      eight processes whose connections are cut again and again, one of which is killed and begun again;
-                   half a minute
-  make tutorial *  runs the commands of docs/TUTORIAL.md, and compares what they print (graphviz metis
-                   python3-matplotlib python3-networkx)
+  make try               runs the program before it is proved, in some 2 processor minutes: TOPO=FILE and IFACE=NAME
+                         choose what it shows
+  make run               builds it and shows a trace in hexadecimal; TOPO and IFACE as for make try
+  make demo *            eight processes whose connections are cut again and again, one of which is killed and begun
+                         again; half a minute
+  make tutorial *        runs the commands of docs/TUTORIAL.md, and compares what they print (graphviz metis
+                         python3-matplotlib python3-networkx)
 Check
-  make test        the gate: proves everything from nothing and runs every test; the last line is N passed, M failed
-  make words       lists names that two crates define, one of which sees the other; the gate refuses a new one
-  make check-tools tries the scripts on fixtures, and reads them with flake8 where that is installed (python3-flake8)
-  make check-docs *  checks that facts, links and names in the documents are right, and runs the commands of README
-                   (graphviz metis python3-matplotlib python3-networkx)
-  make check-edge  checks the help, and what is printed of faults on a terminal
-  make check-parts *  tries links, files that were left and other processes where trace files are written
-  make check-series *  compares steps, ways and delays with the trace files
-  make check-frames  compares the reader of frames with a model of its own over generated streams
-  make check-links  breaks the connections of replicas at random octets, with ten thousand seeds, and certifies what
-                   they come to
-  make check-worlds  tries replicas in a million worlds of several machines, each drawn from a seed
-  make check-network *  runs the tests of tools/network (python3-networkx metis graphviz)
-  make check-pcap *  reads the traces of the examples (tshark, or else tcpdump)
-  make cases       compares the program with cases of an independent model; CASES=FOLDER: with those of a folder
-  make run-cases *  runs the partitions of many topologies at once, and has each file verified
-  make cut-connections *  cuts the connection of two nodes a thousand times, and compares their files with those of the
-                   one event list
-  make deep *      all that is too long for the gate: all checks, attacks and planted bugs; STEPS=WORD: some of it
+  make test              the gate: proves everything from nothing and runs every test; the last line is N passed, M
+                         failed
+  make words             lists names that two crates define, one of which sees the other; the gate refuses a new one
+  make check-tools       tries the scripts on fixtures, and reads them with flake8 where that is installed
+                         (python3-flake8)
+  make check-docs *      checks that facts, links and names in the documents are right, and runs the commands of
+                         README (graphviz metis python3-matplotlib python3-networkx)
+  make check-edge        checks the help, and what is printed of faults on a terminal
+  make check-parts *     tries links, files that were left and other processes where trace files are written
+  make check-series *    compares steps, ways and delays with the trace files
+  make check-frames      compares the reader of frames with a model of its own over generated streams
+  make check-links       breaks the connections of replicas at random octets, with ten thousand seeds, and certifies
+                         what they come to
+  make check-worlds      tries replicas in a million worlds of several machines, each drawn from a seed
+  make check-network *   runs the tests of tools/network (python3-networkx metis graphviz)
+  make check-pcap *      reads the traces of the examples (tshark, or else tcpdump)
+  make cases             compares the program with cases of an independent model; CASES=FOLDER: with those of a folder
+  make run-cases *       runs the partitions of many topologies at once, and has each file verified
+  make cut-connections * cuts the connection of two nodes a thousand times, and compares their files with those of the
+                         one event list
+  make deep *            all that is too long for the gate: all checks, attacks and planted bugs; STEPS=WORD: some of
+                         it
 Measure
-  make bench *     times it on generated topologies, and event lists and knowledge alone (docs/BENCH.md)
-  make compare *   compares traces, speed and memory with ns-3 (docs/COMPARED.md) (ns3 libns3-dev g++); ANYWAY=1: on a
-                   busy host too
-  make gate-times  the gate, with the processor minutes of each crate (docs/CONTRIBUTING.md)
+  make bench *           times it on generated topologies, and event lists and knowledge alone (docs/BENCH.md)
+  make compare *         compares traces, speed and memory with ns-3 (docs/COMPARED.md) (ns3 libns3-dev g++);
+                         ANYWAY=1: on a busy host too
+  make gate-times        the gate, with the processor minutes of each crate (docs/CONTRIBUTING.md)
 Install
-  make install     puts bin/nullsim, its manual page and its completion for bash below PREFIX (/usr/local)
-  make uninstall   removes them
+  make install           puts bin/nullsim, its manual page and its completion for bash below PREFIX (/usr/local)
+  make uninstall         removes them
 All need the Rattle toolchain (rt) on PATH and python3 of 3.9 or later, and those with a star python3 of 3.11 or later.
 In parentheses are packages of Debian without which something is passed over. None needs a network.
 endef
