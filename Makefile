@@ -1,10 +1,12 @@
 # `make help` lists the targets.
 
-.PHONY: all help try run bench compare cases run-cases check-docs check-edge check-parts check-frames check-links check-network check-pcap cut-connections deep demo tutorial words test gate-times install uninstall clean toolchain
+.PHONY: all help try run bench compare cases run-cases check-docs check-edge check-parts check-frames check-links \
+  check-network check-pcap check-series check-tools check-worlds cut-connections deep demo tutorial words test \
+  gate-times install uninstall clean toolchain
 
-# The topology and the interface of `make try` and `make run`; the folder of `make cases`; how many jobs `make` proves with; which steps of `make deep`;
-# whether `make compare` writes the times of a busy host; where `make install` puts the program, its manual page and its completion for bash (DESTDIR stands
-# before it, for those who make packages).
+# The topology and the interface of `make try` and `make run`; the folder of `make cases`; how many jobs `make` proves
+# with; which steps of `make deep`; whether `make compare` writes the times of a busy host; where `make install` puts
+# the program, its manual page and its completion for bash (DESTDIR stands before it, for those who make packages).
 TOPO = examples/duo.toml
 IFACE =
 CASES =
@@ -16,32 +18,58 @@ DESTDIR =
 
 all: bin/nullsim
 
+# dev/check/docs compares the stars and the packages with what the scripts import.
+define HELP
+Build
+  make                   proves what the program needs, and builds bin/nullsim; the first time some 80 processor
+                         minutes, and it says what is left (JOBS=N: N jobs at a time)
+  make clean             removes what was built
+Try it
+  make try               runs the program before it is proved, in some 2 processor minutes: TOPO=FILE and IFACE=NAME
+                         choose what it shows
+  make run               builds it and shows a trace in hexadecimal; TOPO and IFACE as for make try
+  make demo *            eight processes whose connections are cut again and again, one of which is killed and begun
+                         again; half a minute
+  make tutorial *        runs the commands of docs/TUTORIAL.md, and compares what they print (graphviz metis
+                         python3-matplotlib python3-networkx)
+Check
+  make test              the gate: proves everything from nothing and runs every test; the last line is N passed, M
+                         failed
+  make words             lists names that two crates define, one of which sees the other; the gate refuses a new one
+  make check-tools       tries the scripts on fixtures, and reads them with flake8 where that is installed
+                         (python3-flake8)
+  make check-docs *      checks that facts, links and names in the documents are right, and runs the commands of
+                         README (graphviz metis python3-matplotlib python3-networkx)
+  make check-edge        checks the help, and what is printed of faults on a terminal
+  make check-parts *     tries links, files that were left and other processes where trace files are written
+  make check-series *    compares steps, ways and delays with the trace files
+  make check-frames      compares the reader of frames with a model of its own over generated streams
+  make check-links       breaks the connections of replicas at random octets, with ten thousand seeds, and certifies
+                         what they come to
+  make check-worlds      tries replicas in a million worlds of several machines, each drawn from a seed
+  make check-network *   runs the tests of tools/network (python3-networkx metis graphviz)
+  make check-pcap *      reads the traces of the examples (tshark, or else tcpdump)
+  make cases             compares the program with cases of an independent model; CASES=FOLDER: with those of a folder
+  make run-cases *       runs the partitions of many topologies at once, and has each file verified
+  make cut-connections * cuts the connection of two nodes a thousand times, and compares their files with those of the
+                         one event list
+  make deep *            all that is too long for the gate: all checks, attacks and planted bugs; STEPS=WORD: some of
+                         it
+Measure
+  make bench *           times it on generated topologies, and event lists and knowledge alone (docs/BENCH.md)
+  make compare *         compares traces, speed and memory with ns-3 (docs/COMPARED.md) (ns3 libns3-dev g++);
+                         ANYWAY=1: on a busy host too
+  make gate-times        the gate, with the processor minutes of each crate (docs/CONTRIBUTING.md)
+Install
+  make install           puts bin/nullsim, its manual page and its completion for bash below PREFIX (/usr/local)
+  make uninstall         removes them
+All need the Rattle toolchain (rt) on PATH and python3 of 3.9 or later, and those with a star python3 of 3.11 or later.
+In parentheses are packages of Debian without which something is passed over. None needs a network.
+endef
+export HELP
+
 help:
-	@echo 'make             proves what the program needs, and builds bin/nullsim; the first time some 80 processor minutes, and it says what is left (JOBS=N: N jobs at a time)'
-	@echo 'make try         runs the program before it is proved, in some 2 processor minutes: TOPO=FILE and IFACE=NAME choose what it shows'
-	@echo 'make run         builds it and shows a trace in hexadecimal; TOPO and IFACE as for make try'
-	@echo 'make bench       times it on generated topologies, and event lists and knowledge alone (docs/BENCH.md)'
-	@echo 'make compare     compares traces, speed and memory with ns-3 (docs/COMPARED.md); needs Debian'"'"'s ns3, libns3-dev and g++; ANYWAY=1: on a busy host too'
-	@echo 'make cases       compares it with cases of an independent model; CASES=FOLDER: with those of a folder'
-	@echo 'make run-cases   runs the partitions of many topologies at once, and has each file verified'
-	@echo 'make tutorial    runs the commands of docs/TUTORIAL.md, and compares what they print'
-	@echo 'make check-docs  checks that links and names in the documents are right, and runs the commands of README'
-	@echo 'make check-edge  checks the help, and what is said of faults on a terminal'
-	@echo 'make check-parts  tries links, files that were left and other processes where trace files are written'
-	@echo 'make check-frames compares the reader of frames with a model of its own over generated streams'
-	@echo 'make check-links breaks the connections of replicas at random octets, with ten thousand seeds, and certifies what they come to'
-	@echo 'make check-worlds tries replicas in a million worlds of several machines, each drawn from a seed'
-	@echo 'make check-network runs the tests of tools/network, which wants networkx, METIS and Graphviz (docs/FORMATS.md); a test passed over is no pass'
-	@echo 'make check-pcap  reads the traces of the examples with tshark, or else tcpdump, one of which it needs'
-	@echo 'make cut-connections cuts the connection of two nodes a thousand times, and compares their files with those of the one event list'
-	@echo 'make demo        eight processes whose connections are cut again and again, one of which is killed and begun anew; half a minute'
-	@echo 'make deep        all that is too long for the gate: refused memory, frames, links, connections, networks, runs and planted bugs; STEPS=WORD: some of it'
-	@echo 'make words       lists names that two crates define, one of which sees the other; the gate refuses a new one'
-	@echo 'make test        the gate: proves everything from nothing and runs every test; the last line is N passed, M failed'
-	@echo 'make gate-times  the gate, with the processor minutes of each crate (docs/CONTRIBUTING.md)'
-	@echo 'make install     puts bin/nullsim, its manual page and its completion for bash below PREFIX (/usr/local); make uninstall removes them'
-	@echo 'make clean       removes what was built'
-	@echo 'All need the Rattle toolchain (rt) on PATH and python3; tools that read topologies (tools/network, and most that try the program) python3 of 3.11 or later; none needs a network.'
+	@echo "$$HELP"
 
 toolchain:
 	@command -v rt >/dev/null 2>&1 || { echo "nullsim: the Rattle toolchain is missing: put its command rt on PATH" >&2; exit 1; }
@@ -49,8 +77,8 @@ toolchain:
 SOURCES := crates.txt $(shell find crates -name out -prune -o -name '*_tests' -prune -o -name '*_cases' -prune -o \
   \( -name '*.rt' -o -name '*.antt' \) -print)
 
-bin/nullsim: $(SOURCES) | toolchain
-	@tools/build nullsim $@ $(JOBS)
+bin/nullsim bin/nm_bench bin/nm_worlds: bin/%: $(SOURCES) | toolchain
+	@dev/build $* $@ $(JOBS)
 
 try: toolchain
 	@echo 'nullsim: what runs now is not proved yet: make proves it' >&2
@@ -59,103 +87,53 @@ try: toolchain
 run: bin/nullsim
 	@bin/nullsim onehex '$(TOPO)' $(IFACE)
 
-bin/nm_bench: $(SOURCES) | toolchain
-	@tools/build nm_bench $@ $(JOBS)
-
-bin/nm_worlds: $(SOURCES) | toolchain
-	@tools/build nm_worlds $@ $(JOBS)
-
 bench: bin/nullsim bin/nm_bench
-	@python3 bench/one.py bin/nullsim bin/nm_bench line grid star line-1000 grid-1000 star-1000 ring-1000 mixed routes large many line=79365
-	@python3 bench/one.py bin/nullsim bin/nm_bench $(foreach packets,64000 128000 256000 512000 1024000,hub=$(packets) spread=$(packets))
-	@for work in heap-random sorted-random heap-nearly sorted-nearly know copy write read-1 read-100 read-65536 \
-    sends-100 links-100 sends-1500 links-1500; do \
-	  python3 bench/time.py $$work bin/nm_bench $$work || exit 1; \
-	done
-	@for channels in 1 100; do \
-	  python3 bench/topology.py channels $$channels > bin/channels-$$channels.toml && \
-	  python3 bench/time.py "$$channels channels, told" bin/nm_bench told bin/channels-$$channels.toml || exit 1; \
-	done
-	@for work in acts-1 acts-2 acts-4 apart-2 apart-4 jobs; do \
-	  python3 bench/time.py "1 channel, $$work" bin/nm_bench $$work bin/channels-1.toml || exit 1; \
-	done
-	@python3 bench/topology.py limits > bin/limits.toml
-	@for work in topology parts; do \
-	  python3 bench/time.py "limits, $$work" bin/nm_bench $$work bin/limits.toml || exit 1; \
-	done
-	@for packets in 15900 31800; do \
-	  python3 bench/topology.py line $$packets > bin/line-$$packets.toml && \
-	  for work in kept flat; do \
-	    python3 bench/time.py "line of $$packets packets, $$work" bin/nm_bench $$work bin/line-$$packets.toml || exit 1; \
-	  done; \
-	done
-	@for kind in line-cut grid-cut; do \
-	  for partitions in 1 4 16; do \
-	    file=bin/$$kind-$$partitions.toml; \
-	    python3 bench/topology.py $$kind $$partitions > $$file && bin/nm_bench rounds $$file && \
-	    for work in kept rounds; do \
-	      python3 bench/time.py "$$kind, $$partitions partitions, $$work" bin/nm_bench $$work $$file || exit 1; \
-	    done; \
-	  done; \
-	done
-	@python3 bench/nodes.py bin/nullsim nulls=1000 nulls=10000 one-way=10000 one-way=100000
-	@python3 bench/runs.py bin/nullsim $(foreach kind,grid-far grid-near,$(kind)=1:1x1 $(kind)=2:1x1,2x1 $(kind)=4:1x1,2x1,4x1,2x2) grid-cut=16:2x1 line-cut=4:1x1 nulls=1000 ring-cut=64:2x1
+	@dev/bench/bench
 
 compare: bin/nullsim
-	@tools/compare $(if $(ANYWAY),--anyway)
+	@dev/compare/compare $(if $(ANYWAY),--anyway)
 
 cases: bin/nullsim
-	@tools/cases.sh bin/nullsim $(if $(CASES),'$(CASES)',crates/nullsim_cases/data/cases/networks crates/nullsim_cases/data/cases/readings)
+	@dev/check/cases $(if $(CASES),'$(CASES)')
 
 run-cases: bin/nullsim
-	@tools/run-cases
+	@dev/check/runs
+
+check-docs check-edge check-network check-parts check-pcap check-series: check-%: bin/nullsim
+	@dev/check/$*
 
 tutorial: bin/nullsim
-	@tools/tutorial
+	@dev/check/tutorial
 
-words:
-	@tools/words --all
-
-check-edge: bin/nullsim
-	@tools/check-edge
-
-check-parts: bin/nullsim
-	@tools/check-parts
-
-check-docs: bin/nullsim
-	@tools/check-docs
-
-check-frames: bin/nm_bench
-	@tools/check-frames
-
-check-links: bin/nm_bench
-	@tools/check-links
-
-check-network: bin/nullsim
-	@tools/check-network bin/nullsim
+check-frames check-links: check-%: bin/nm_bench
+	@dev/check/$*
 
 check-worlds: bin/nm_worlds
-	@tools/check-worlds
+	@dev/check/worlds
 
-check-pcap: bin/nullsim
-	@tools/check-pcap bin/nullsim examples/*.toml
+check-tools:
+	@dev/check/tools
+
+words:
+	@dev/words --all
 
 cut-connections: bin/nullsim
-	@tools/cut-connections
+	@dev/attack/cut-connections
 
 demo: bin/nullsim
-	@tools/demo
+	@dev/demo/demo
 
 deep: bin/nullsim bin/nm_bench bin/nm_worlds
-	@tools/deep $(STEPS)
+	@dev/deep $(STEPS)
 
 test: toolchain
-	@tools/words
-	@tools/check-docs --still
+	@dev/words
+	@dev/check/docs --still
+	@dev/check/tools --fixtures
 	@rt ci
 
 gate-times: toolchain
-	@tools/gate-times --write
+	@dev/gate-times --write
 
 MANUAL = $(DESTDIR)$(PREFIX)/share/man/man1/nullsim.1
 COMPLETION = $(DESTDIR)$(PREFIX)/share/bash-completion/completions/nullsim
@@ -171,3 +149,4 @@ uninstall:
 
 clean:
 	@rm -rf bin crates/*/out
+	@find dev tools -name __pycache__ -prune -exec rm -rf {} +

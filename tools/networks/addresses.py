@@ -1,4 +1,5 @@
-"""Which interface has which address: a router and the hosts behind it share one prefix, and routers near each other have prefixes near each other."""
+"""Which interface has which address: a router and the hosts behind it share one prefix, and routers near each other
+have prefixes near each other."""
 
 import heapq
 
@@ -29,7 +30,8 @@ def tree_order(network):
 
 
 def orders(network):
-    """Orders of the nodes in which addresses may be given: as in a tree, and as they are written. Which needs fewer routes depends on the network."""
+    """Orders of the nodes in which addresses may be given: as in a tree, and as they are written. Which needs fewer
+    routes depends on the network."""
     return [tree_order(network), list(range(len(network.nodes)))]
 
 
@@ -52,11 +54,13 @@ def blocks(network, order):
 
 
 def give(network, order, prefix, place):
-    """Gives each interface an address of the prefix; says how many blocks there are and how many addresses they take."""
+    """Gives each interface an address of the prefix; says how many blocks there are and how many addresses they
+    take."""
     base, length = prefix
     last = base + (1 << 32 - length) - 1
     if any(base <= high and low <= last for low, high in fields.MARTIANS):
-        raise errors.Refused(place, f"of the prefix {fields.prefix_said(*prefix)} no addresses are given: nothing may be sent to some of them")
+        raise errors.Refused(place, f"of the prefix {fields.prefix_said(*prefix)} no addresses are given: nothing may "
+                                    "be sent to some of them")
     ifaces_of = [[] for _ in network.nodes]
     for number, iface in enumerate(network.ifaces):
         ifaces_of[iface.node].append(number)
@@ -71,5 +75,6 @@ def give(network, order, prefix, place):
         past += size
     if past > 1 << 32 - length:
         least = 32 - (past - 1).bit_length()
-        raise errors.Refused(place, f"the prefix {fields.prefix_said(*prefix)} is too small for {past:,} addresses: one of length {least} or less is needed")
+        raise errors.Refused(place, f"the prefix {fields.prefix_said(*prefix)} is too small for {past:,} addresses: "
+                                    f"one of length {least} or less is needed")
     return len(found), past

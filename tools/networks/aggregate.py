@@ -1,12 +1,13 @@
 """Few prefixes for many addresses: the least table of which the longest prefix decides as asked.
 
-The manner is that of Draves, King, Venkatachary and Zill, "Constructing Optimal IP Routing Tables" (1999), with one difference: what no interface has
-is left open, and a prefix is no shorter than what it stands for.
+The manner is that of Draves, King, Venkatachary and Zill, "Constructing Optimal IP Routing Tables" (1999), with one
+difference: what no interface has is left open, and a prefix is no shorter than what it stands for.
 """
 
 
 class Tree:
-    """The addresses as a binary tree: a leaf for those of one owner that stand together, and an inner place where two parts part. Each place has a prefix."""
+    """The addresses as a binary tree: a leaf for those of one owner that stand together, and an inner place where two
+    parts part. Each place has a prefix."""
 
     def __init__(self, addresses, owners):
         """`addresses` are numbers, rising; `owners` has a number for each."""
@@ -47,7 +48,8 @@ class Tree:
         return held
 
     def table(self, asked):
-        """Prefixes, each with an answer: the longest that holds an address has asked[its owner], where that is not None."""
+        """Prefixes, each with an answer: the longest that holds an address has asked[its owner], where that is not
+        None."""
         if self.root is None:
             return []
         held, found = self.wanted(asked), []
@@ -58,7 +60,8 @@ class Tree:
                 continue
             pair = self.children[place]
             if pair and self.is_parted(held, pair):
-                # An answer here would save a prefix on one side and cost this one: the two sides have their own, which reads more easily.
+                # An answer here would save a prefix on one side and cost this one: the two sides have their own, which
+                # reads more easily.
                 waiting += [(pair[1], given), (pair[0], given)]
                 continue
             if given not in held[place] and not (pair and None in (held[pair[0]], held[pair[1]])):

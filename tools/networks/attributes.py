@@ -28,7 +28,8 @@ def node_of(key, attributes, at):
 def rate_of(held, at):
     """The rate that attributes of a link say: exactly, by a number with its unit, or in a text."""
     if held.get("linkspeedraw"):
-        return found.checked_rate(round(found.number(held["linkspeedraw"], at, "LinkSpeedRaw")), at, f"LinkSpeedRaw {held['linkspeedraw']}")
+        return found.checked_rate(round(found.number(held["linkspeedraw"], at, "LinkSpeedRaw")), at,
+                                  f"LinkSpeedRaw {held['linkspeedraw']}")
     if held.get("linkspeed") and held.get("linkspeedunits", "")[:1].lower() in found.SCALES:
         scale = found.SCALES[held["linkspeedunits"][0].lower()]
         said = f"LinkSpeed {held['linkspeed']} {held['linkspeedunits']}"
@@ -53,4 +54,5 @@ def link_of(one, other, attributes, at):
     """A link of a file."""
     held = lowered(attributes)
     remark = held.get("linklabel") or held.get("label") or ""
-    return FoundLink(one, other, rate_of(held, at), delay_of(held, at), None, "".join(letter for letter in remark[:60] if letter.isprintable()), at)
+    return FoundLink(one, other, rate_of(held, at), delay_of(held, at), None,
+                     "".join(letter for letter in remark[:60] if letter.isprintable()), at)

@@ -33,7 +33,8 @@ def read(name, text):
 def link_of(words, line, at):
     """An edge: its number, its two nodes, its length, delay and rate."""
     if len(words) < EDGE_WORDS or not words[0].isdecimal():
-        raise errors.Refused(at, f"{errors.shown(line.strip())} is no edge: it begins with its number, two nodes, length, delay and rate")
+        raise errors.Refused(at, f"{errors.shown(line.strip())} is no edge: it begins with its number, two nodes, "
+                                 "length, delay and rate")
     delay = round(found.number(words[4], at, "the delay") * 10**6)
     rate = round(found.number(words[5], at, "the rate") * 10**6)
     # BRITE writes -1 for what it did not choose.

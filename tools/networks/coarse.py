@@ -1,6 +1,8 @@
-"""Which links are not to be cut: those with a lookahead below a bound. The nodes that they join are one node of a coarser graph.
+"""Which links are not to be cut: those with a lookahead below a bound. The nodes that they join are one node of a
+coarser graph.
 
-The least lookahead of the cut links decides how far partitions run ahead of each other, so the bound is as high as a fair sharing out of the work lets it be.
+The least lookahead of the cut links decides how far partitions run ahead of each other, so the bound is as high as a
+fair sharing out of the work lets it be.
 """
 
 from networks import cutting, traffic, weights
@@ -58,7 +60,8 @@ def shares_of(group_of, heavy):
 
 
 def cut(network, found, count, by=None):
-    """The partition of each node, and what cut. Of the bounds tried the highest with fair parts is taken, or else the one with the fairest."""
+    """The partition of each node, and what cut. Of the bounds tried the highest with fair parts is taken, or else the
+    one with the fairest."""
     heavy, costs = weights.graph(network, found)
     best = None
     for bound in bounds(network, heavy, count):

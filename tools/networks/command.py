@@ -66,18 +66,22 @@ def do_show(words):
 def parser():
     """What the words mean."""
     top = argparse.ArgumentParser(
-        prog="network", description="Makes topology texts for nullsim; docs/FORMATS.md says more. What was chosen is said on standard error.", allow_abbrev=False
+        prog="network", description="Makes topology texts for nullsim; docs/FORMATS.md says more. What was chosen is "
+                                    "said on standard error.", allow_abbrev=False
     )
     some = top.add_subparsers(dest="word", required=True, metavar="WORD")
     one = some.add_parser("make", help="SPEC.toml > x.toml: a whole topology from a short description")
     one.set_defaults(do=do_make)
-    one = some.add_parser("import", help="FILE > SPEC.toml: a SPEC from GraphML, GML, an edge list, Rocketfuel weights or BRITE")
-    one.add_argument("--format", choices=("graphml", "gml", "edges", "rocketfuel", "brite"), help="where the file's name and text do not tell")
+    one = some.add_parser("import", help="FILE > SPEC.toml: a SPEC from GraphML, GML, an edge list, Rocketfuel weights "
+                                         "or BRITE")
+    one.add_argument("--format", choices=("graphml", "gml", "edges", "rocketfuel", "brite"),
+                     help="where the file's name and text do not tell")
     one.add_argument("--latencies", metavar="FILE", help="Rocketfuel's latencies (milliseconds) beside its weights")
     one.add_argument("--largest", action="store_true", help="of a network in pieces take the largest")
     one.set_defaults(do=do_import)
     one = some.add_parser("routes", help="x.toml > y.toml: the routes anew, by shortest paths")
-    one.add_argument("--weight", choices=[weight for weight in paths.WEIGHTS if weight != "cost"], default="delay", help="what is least (delay)")
+    one.add_argument("--weight", choices=[weight for weight in paths.WEIGHTS if weight != "cost"], default="delay",
+                     help="what is least (delay)")
     one.add_argument("--spread", action="store_true", help="of equal paths another one for each destination")
     one.add_argument("--only-flows", action="store_true", help="only to nodes at the ends of flows")
     one.set_defaults(do=do_routes)

@@ -42,7 +42,8 @@ def lacking(by):
     python = f"the Python that runs is {sys.executable}"
     metis = "METIS is not installed: apt-get install metis, or pip install pymetis"
     other = f"networkx is not installed for it: apt-get install python3-networkx, or pip install networkx ({python})"
-    return {"metis": f"{metis} ({python})", "kernighan-lin": f"Kernighan-Lin needs networkx; {other}"}.get(by, f"{metis}; and {other}")
+    return {"metis": f"{metis} ({python})",
+            "kernighan-lin": f"Kernighan-Lin needs networkx; {other}"}.get(by, f"{metis}; and {other}")
 
 
 def neighbours(weights, costs):
@@ -63,7 +64,8 @@ def by_program(program, weights, costs, count):
         path = os.path.join(folder, "graph")
         with open(path, "w", encoding="ascii") as file:
             file.write("\n".join(lines) + "\n")
-        words = [program, f"-seed={SEED}", f"-ufactor={UNEVEN}", "-ptype=rb" if count < 9 else "-ptype=kway", path, str(count)]
+        words = [program, f"-seed={SEED}", f"-ufactor={UNEVEN}", "-ptype=rb" if count < 9 else "-ptype=kway", path,
+                 str(count)]
         ended = subprocess.run(words, stdout=subprocess.PIPE, stderr=subprocess.STDOUT, timeout=SECONDS, check=False)
         made = f"{path}.part.{count}"
         if ended.returncode or not os.path.exists(made):
@@ -81,7 +83,8 @@ def by_pymetis(weights, costs, count):
         starts.append(len(others))
     metis = module("pymetis")
     options = metis.Options(seed=SEED, ufactor=UNEVEN)
-    return list(metis.part_graph(count, xadj=starts, adjncy=others, eweights=prices, vweights=weights, options=options)[1])
+    return list(metis.part_graph(count, xadj=starts, adjncy=others, eweights=prices, vweights=weights,
+                                 options=options)[1])
 
 
 def by_kernighan_lin(weights, costs, count):
@@ -105,7 +108,8 @@ def bisected(weights, near, nodes, share):
     inside = set(nodes)
     graph = graph_of.Graph()
     graph.add_nodes_from(nodes)
-    graph.add_weighted_edges_from((node, other, cost) for node in nodes for other, cost in near[node] if other in inside and node < other)
+    graph.add_weighted_edges_from((node, other, cost) for node in nodes
+                                  for other, cost in near[node] if other in inside and node < other)
     order = list(graph_of.bfs_tree(graph, nodes[0])) if nodes else []
     order += [node for node in nodes if node not in set(order)]
     aim, held, count = share * sum(weights[node] for node in nodes), 0, 0

@@ -31,17 +31,20 @@ def width(load):
 def dot_text(network, loads):
     """The network for Graphviz."""
     lines = ["graph network {", "overlap=prism; splines=true; outputorder=edgesfirst; bgcolor=transparent; sep=0.1;"]
-    lines += ['node [style=filled, fontname="Helvetica", fontsize=10, color="#475569", margin="0.08,0.04", height=0.3];']
+    lines += ['node [style=filled, fontname="Helvetica", fontsize=10, color="#475569", '
+              'margin="0.08,0.04", height=0.3];']
     for number, node in enumerate(network.nodes):
         shape = "box" if node.kind == "router" else "ellipse"
-        look = f'shape={shape}, fillcolor="{FILLS[node.partition % len(FILLS)]}", tooltip="{node.name}: partition {node.partition}"'
+        fill, says = FILLS[node.partition % len(FILLS)], f"{node.name}: partition {node.partition}"
+        look = f'shape={shape}, fillcolor="{fill}", tooltip="{says}"'
         lines.append(f'n{number} [label="{node.name}", {look}];')
     for number, link in enumerate(network.links):
         one, other = network.link_nodes(number)
         says = f"{units.rate_said(link.rate)}, {units.time_said(link.delay)}, busy {loads[number] / 10**4:.2f}%"
         style = ', style="dashed"' if network.nodes[one].partition != network.nodes[other].partition else ""
         far = 1.6 if "host" not in (network.nodes[one].kind, network.nodes[other].kind) else 0.9
-        lines.append(f'n{one} -- n{other} [color="{colour(loads[number])}", penwidth={width(loads[number]):.2f}, len={far}, tooltip="{says}"{style}];')
+        lines.append(f'n{one} -- n{other} [color="{colour(loads[number])}", penwidth={width(loads[number]):.2f}, '
+                     f'len={far}, tooltip="{says}"{style}];')
     return "\n".join([*lines, "}"]) + "\n"
 
 
@@ -64,12 +67,14 @@ def by_graphviz(network, loads):
 def on_a_circle(network, loads):
     """Routers on a circle, and each host outside of it beside the node that it hangs on."""
     ends = network.ends()
-    anchors = [ends[number][0][1] if node.kind == "host" and len(ends[number]) == 1 else None for number, node in enumerate(network.nodes)]
+    anchors = [ends[number][0][1] if node.kind == "host" and len(ends[number]) == 1 else None
+               for number, node in enumerate(network.nodes)]
     order = []
     for number, anchor in enumerate(anchors):
         if anchor is None:
             order.append(number)
-            order += [other for other, held in enumerate(anchors) if held is not None and network.ifaces[held].node == number]
+            order += [other for other, held in enumerate(anchors) if held is not None
+                      and network.ifaces[held].node == number]
     order += [number for number in range(len(network.nodes)) if number not in set(order)]
     radius = max(160, len(order) * RADIUS_A_NODE / (2 * math.pi))
     # Wider than high, as names are.
@@ -90,8 +95,10 @@ def on_a_circle(network, loads):
         x, y = places[number]
         fill, corner = FILLS[node.partition % len(FILLS)], 2 if node.kind == "router" else 9
         wide = 10 + 6.2 * len(node.name)
-        lines.append(f'<rect x="{x - wide / 2:.1f}" y="{y - 9:.1f}" width="{wide:.1f}" height="18" rx="{corner}" fill="{fill}" stroke="#475569"/>')
-        lines.append(f'<text x="{x:.1f}" y="{y + 4:.1f}" text-anchor="middle" font-family="Helvetica, sans-serif" font-size="10">{html.escape(node.name)}</text>')
+        lines.append(f'<rect x="{x - wide / 2:.1f}" y="{y - 9:.1f}" width="{wide:.1f}" height="18" rx="{corner}" '
+                     f'fill="{fill}" stroke="#475569"/>')
+        lines.append(f'<text x="{x:.1f}" y="{y + 4:.1f}" text-anchor="middle" font-family="Helvetica, sans-serif" '
+                     f'font-size="10">{html.escape(node.name)}</text>')
     return "\n".join([*lines, "</svg>"])
 
 
@@ -100,4 +107,5 @@ def drawn(network, loads):
     picture = by_graphviz(network, loads)
     if picture:
         return picture, "Graphviz"
-    return on_a_circle(network, loads), "tools/network, on a circle: Graphviz is not installed, or took too long (apt-get install graphviz)"
+    why = "Graphviz is not installed, or took too long (apt-get install graphviz)"
+    return on_a_circle(network, loads), f"tools/network, on a circle: {why}"

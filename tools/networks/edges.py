@@ -1,4 +1,5 @@
-"""Imports lists of edges: two names a line, parted by blanks, a comma, a semicolon or a tab, and perhaps a rate and a delay with their units."""
+"""Imports lists of edges: two names a line, parted by blanks, a comma, a semicolon or a tab, and perhaps a rate and a
+delay with their units."""
 
 import re
 
@@ -29,7 +30,8 @@ def read(name, text):
         if not words or line.startswith(COMMENTS) or {word.lower() for word in words[:2]} in HEADS and not made.links:
             continue
         if len(words) < 2:
-            raise errors.Refused(at, f"{errors.shown(line)} is no edge: a line has two names, and perhaps a rate and a delay")
+            raise errors.Refused(at, f"{errors.shown(line)} is no edge: a line has two names, and perhaps a rate and a "
+                                     "delay")
         for word in words[:2]:
             if word not in made.nodes:
                 made.add_node(word, FoundNode(word, None, at))

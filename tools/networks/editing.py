@@ -33,7 +33,8 @@ def set_keys(text, array, key, values):
 
 
 def comments_of(text, start, end, tables):
-    """The comments of an array: for each table those before it, the last list of those behind all; and for each table the one on its line."""
+    """The comments of an array: for each table those before it, the last list of those behind all; and for each table
+    the one on its line."""
     before, behind = [[] for _ in range(len(tables) + 1)], {}
     place = start
     for number, table in enumerate([*tables, None]):
@@ -48,7 +49,8 @@ def comments_of(text, start, end, tables):
 
 
 def route_lines(network, before, behind, old):
-    """The lines of the new array. A comment before a route that is no more goes to the next one that is; that on its line, to the end."""
+    """The lines of the new array. A comment before a route that is no more goes to the next one that is; that on its
+    line, to the end."""
     held = {(route.node, route.prefix, route.length, route.via) for route in network.routes}
     kept = [(route.node, route.prefix, route.length, route.via) for route in old]
     above, waiting, gone = {}, [], []
@@ -59,7 +61,8 @@ def route_lines(network, before, behind, old):
         elif number in behind:
             node, prefix, length, via = key
             to = fields.prefix_said(prefix, length)
-            gone.append(f"# no more, {network.nodes[node].name} to {to} via {network.ifaces[via].name}: {behind[number]}")
+            gone.append(f"# no more, {network.nodes[node].name} to {to} via {network.ifaces[via].name}: "
+                        f"{behind[number]}")
     remark_of = {key: behind[number] for number, key in enumerate(kept) if number in behind}
     lines = []
     for route in network.routes:
@@ -80,7 +83,8 @@ def with_routes(text, network, old):
         return spliced(text, [(item.start, item.end, "\n".join(["[", *lines, "]"]))])
     lines = "\n".join(["route = [", *route_lines(network, [[]], {}, []), "]"])
     blocks = [member.start for found in root.keys.values() if found.is_block for member in (found.members or [found])]
-    after = [root.keys[key].end for key in ("link", "iface", "node") if key in root.keys and not root.keys[key].is_block]
+    after = [root.keys[key].end for key in ("link", "iface", "node") if key in root.keys
+             and not root.keys[key].is_block]
     if after:
         # Behind the rest of the line, where a comment may stand.
         place = text.find("\n", after[0])

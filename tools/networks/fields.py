@@ -1,4 +1,5 @@
-"""How the values of a table are read: each reader takes a value and gives what it means, or says in a sentence what it has to be."""
+"""How the values of a table are read: each reader takes a value and gives what it means, or says in a sentence what it
+has to be."""
 
 from networks import errors, limits, names, units
 
@@ -55,7 +56,8 @@ def choice(*words):
 def name(value):
     """A name."""
     if not names.is_name(value):
-        raise Wrong(f"has to be a name of 1 to {limits.NAME_LENGTH} of a to z, 0 to 9 and hyphen, which it does not begin with")
+        raise Wrong(f"has to be a name of 1 to {limits.NAME_LENGTH} of a to z, 0 to 9 and hyphen, which it does not "
+                    "begin with")
     return value
 
 
@@ -103,7 +105,8 @@ def pattern(value):
 def address(value):
     """Four numbers, as a whole number of 32 bits."""
     parts = value.split(".") if isinstance(value, str) else []
-    if len(parts) != 4 or any(not part.isascii() or not part.isdecimal() or str(int(part[:4])) != part or int(part) > 255 for part in parts):
+    if len(parts) != 4 or any(not part.isascii() or not part.isdecimal() or str(int(part[:4])) != part
+                              or int(part) > 255 for part in parts):
         raise Wrong('has to be an address such as "10.0.0.1"')
     first, second, third, fourth = map(int, parts)
     return first << 24 | second << 16 | third << 8 | fourth

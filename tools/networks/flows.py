@@ -5,7 +5,8 @@ import fnmatch
 from networks import errors, limits, units
 from networks.topology import Source
 
-# Where a flow and the defaults say neither: bits per second of a cbr flow, nanoseconds between echo requests, octets of data.
+# Where a flow and the defaults say neither: bits per second of a cbr flow, nanoseconds between echo requests, octets of
+# data.
 CBR_RATE = 10**6
 ECHO_INTERVAL = 10**8
 SIZES = {"cbr": 1000, "echo": 56}
@@ -18,9 +19,11 @@ def matching(spec, patterns, place, key):
     """The nodes that patterns name, in the order of the patterns, each once."""
     found = {}
     for pattern in patterns:
-        some = [name for name in spec.nodes if fnmatch.fnmatchcase(name, pattern)] if "*" in pattern else [name for name in (pattern,) if name in spec.nodes]
+        is_one = "*" not in pattern
+        some = [name for name in spec.nodes if (name == pattern if is_one else fnmatch.fnmatchcase(name, pattern))]
         if not some:
-            raise errors.Refused(place(key), f'key "{key}": no node is named {errors.shown(pattern)}{errors.meant(pattern, spec.nodes)}')
+            raise errors.Refused(place(key), f'key "{key}": no node is named '
+                                             f'{errors.shown(pattern)}{errors.meant(pattern, spec.nodes)}')
         found.update(dict.fromkeys(some))
     return list(found)
 
@@ -67,14 +70,17 @@ def count_of(spec, table, start, interval, place):
     if "count" in table:
         last = start + (table["count"] - 1) * interval
         if last >= spec.stop:
-            raise errors.Refused(place("count"), f"the last packet would go at {units.time_said(last)}, and the run stops at {units.time_said(spec.stop)}")
+            raise errors.Refused(place("count"), f"the last packet would go at {units.time_said(last)}, and the run "
+                                                 f"stops at {units.time_said(spec.stop)}")
         return table["count"]
     until = table.get("until", spec.stop * TENTHS // 10)
     if start >= until:
-        raise errors.Refused(place("start"), f"the flow would start at {units.time_said(start)} and end at {units.time_said(until)}: it has no packet")
+        raise errors.Refused(place("start"), f"the flow would start at {units.time_said(start)} and end at "
+                                             f"{units.time_said(until)}: it has no packet")
     count = (until - start - 1) // interval + 1
     if count > limits.COUNT[1]:
-        raise errors.Refused(place(), f"the flow would have {count:,} packets, and at most {limits.COUNT[1]:,} may be: send less often, or end sooner with `until`")
+        raise errors.Refused(place(), f"the flow would have {count:,} packets, and at most {limits.COUNT[1]:,} may be: "
+                                      "send less often, or end sooner with `until`")
     return count
 
 
@@ -82,7 +88,8 @@ def sources_of(spec, table, chance, place, first):
     """The sources of a flow: (source, name of the node that sends, name of the one that takes)."""
     kind, size = table["kind"], table.get("size", SIZES[table["kind"]])
     if size > spec.mtu - limits.HEADERS:
-        raise errors.Refused(place("size"), f"{size} octets of data do not fit the mtu of {spec.mtu} octets: at most {spec.mtu - limits.HEADERS} do")
+        raise errors.Refused(place("size"), f"{size} octets of data do not fit the mtu of {spec.mtu} octets: at most "
+                                            f"{spec.mtu - limits.HEADERS} do")
     interval = interval_of(table, size, place)
     for number, (one, other) in enumerate(pairs_of(spec, table, chance, place)):
         start = table["start"] + number * table["stagger"]
@@ -108,7 +115,9 @@ def add(spec, network, numbers, chance):
             if source.kind == "cbr" and source.dport not in ports:
                 ports.append(source.dport)
             if len(ports) > limits.NODE_PORTS:
-                raise errors.Refused(place("dport"), f'more than {limits.NODE_PORTS} ports of node "{other}" would be used: flows may share a port')
+                raise errors.Refused(place("dport"), f'more than {limits.NODE_PORTS} ports of node "{other}" would be '
+                                                     'used: flows may share a port')
             if len(network.sources) > limits.SOURCES:
-                raise errors.Refused(place(), f"there would be more than {limits.SOURCES:,} flows: name fewer nodes, or leave `pairs = \"all\"`")
+                raise errors.Refused(place(), f"there would be more than {limits.SOURCES:,} flows: name fewer nodes, "
+                                              "or leave `pairs = \"all\"`")
     return place_of

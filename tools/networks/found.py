@@ -11,6 +11,7 @@ RATE_TEXT = re.compile(r"([0-9]+(?:\.[0-9]+)?)\s*([kKmMgGtT])\s*(?:b(?:it)?s?(?:
 # Of optical carriers: OC-1 has so many bits per second.
 CARRIER_TEXT = re.compile(r"\bOC-?([0-9]{1,4})\b", re.IGNORECASE)
 CARRIER = 51_840_000
+NUMBER = re.compile(r"[+-]?[0-9]*\.?[0-9]+(?:[eE][+-]?[0-9]{1,3})?|[0-9]+\.")
 SCALES = {"k": 10**3, "m": 10**6, "g": 10**9, "t": 10**12}
 # A delay that a distance gives is at least this long (nanoseconds): two places of one city.
 LEAST_DELAY = 10_000
@@ -29,7 +30,8 @@ class FoundNode:
 
 @dataclass
 class FoundLink:
-    """`a` and `b` are keys of nodes; rate in bits per second, delay in nanoseconds, cost as in a SPEC; `remark` for people."""
+    """`a` and `b` are keys of nodes; rate in bits per second, delay in nanoseconds, cost as in a SPEC; `remark` for
+    people."""
 
     a: object
     b: object
@@ -50,9 +52,11 @@ class Found:
     def add_node(self, key, node):
         """A node, whose key is new."""
         if key in self.nodes:
-            raise errors.Refused(node.at, f"two nodes have the id {errors.shown(key)}: the other one is at {self.nodes[key].at}")
+            raise errors.Refused(node.at, f"two nodes have the id {errors.shown(key)}: the other one is at "
+                                          f"{self.nodes[key].at}")
         if len(self.nodes) >= limits.NODES:
-            raise errors.Refused(node.at, f"there are more than {limits.NODES:,} nodes, and a topology has at most so many: leave some out")
+            raise errors.Refused(node.at, f"there are more than {limits.NODES:,} nodes, and a topology has at most so "
+                                          "many: leave some out")
         self.nodes[key] = node
 
     def add_link(self, link):
@@ -61,10 +65,12 @@ class Found:
             if end not in self.nodes:
                 raise errors.Refused(link.at, f"there is no node {errors.shown(end)}")
         if link.a == link.b:
-            self.remarks.append(f"{link.at}: a link from {errors.shown(self.nodes[link.a].label)} to itself was left out")
+            self.remarks.append(f"{link.at}: a link from {errors.shown(self.nodes[link.a].label)} to itself was left "
+                                "out")
             return
         if len(self.links) >= limits.LINKS:
-            raise errors.Refused(link.at, f"there are more than {limits.LINKS:,} links, and a topology has at most so many: leave some out")
+            raise errors.Refused(link.at, f"there are more than {limits.LINKS:,} links, and a topology has at most so "
+                                          "many: leave some out")
         self.links.append(link)
 
     def once(self):
@@ -77,7 +83,8 @@ class Found:
             known[pair] = link
             kept.append(link)
         if len(kept) < len(self.links):
-            self.remarks.append(f"lines left out, for an earlier one joins the same nodes: {len(self.links) - len(kept)}")
+            self.remarks.append("lines left out, for an earlier one joins the same nodes: "
+                                f"{len(self.links) - len(kept)}")
         self.links = kept
 
 
@@ -101,14 +108,15 @@ def checked_rate(rate, at, said):
 def checked_delay(delay, at, said):
     """The delay, if a link may have it."""
     if not limits.DELAY[0] <= delay <= limits.DELAY[1]:
-        raise errors.Refused(at, f"{said} is a delay of {delay:,} nanoseconds, and a link has at most {limits.DELAY[1]:,}")
+        raise errors.Refused(at, f"{said} is a delay of {delay:,} nanoseconds, and a link has at most "
+                                 f"{limits.DELAY[1]:,}")
     return delay
 
 
 def number(text, at, said):
     """A number in decimal, exactly."""
     try:
-        value = Fraction(text) if len(text) <= 40 and re.fullmatch(r"[+-]?[0-9]*\.?[0-9]+(?:[eE][+-]?[0-9]{1,3})?|[0-9]+\.", text) else None
+        value = Fraction(text) if len(text) <= 40 and NUMBER.fullmatch(text) else None
     except (ValueError, ZeroDivisionError):
         value = None
     if value is None or abs(value) > LARGEST:
@@ -143,5 +151,6 @@ def place_of(latitude, longitude, at):
     """A place on the earth."""
     north, east = float(number(latitude, at, "the latitude")), float(number(longitude, at, "the longitude"))
     if abs(north) > 90 or abs(east) > 360:
-        raise errors.Refused(at, f"{latitude}, {longitude} is no place: the latitude is -90 to 90 degrees, the longitude -180 to 180")
+        raise errors.Refused(at, f"{latitude}, {longitude} is no place: the latitude is -90 to 90 degrees, the "
+                                 "longitude -180 to 180")
     return north, east

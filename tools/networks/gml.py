@@ -41,7 +41,8 @@ class Reading:
             token = self.token()
             if token is None or token["end"]:
                 if (token is None) != (depth == 0):
-                    raise errors.Refused(self.at(), "a list has no closing bracket" if token is None else "a closing bracket has no opening one")
+                    raise errors.Refused(self.at(), "a list has no closing bracket" if token is None
+                                         else "a closing bracket has no opening one")
                 return found
             if not token["word"] or not KEY.fullmatch(token["word"]):
                 raise errors.Refused(self.at(), f"{errors.shown(token[0].strip())} stands where a key has to")
@@ -50,8 +51,8 @@ class Reading:
                 raise errors.Refused(at, f'key "{token["word"]}" has no value')
             if value["list"] and depth >= DEEPEST:
                 raise errors.Refused(at, f"lists are nested more than {DEEPEST} deep")
-            held = self.pairs(depth + 1) if value["list"] else value["word"] if value["text"] is None else html.unescape(value["text"])
-            found.append((token["word"], held, at))
+            word = value["word"] if value["text"] is None else html.unescape(value["text"])
+            found.append((token["word"], self.pairs(depth + 1) if value["list"] else word, at))
 
 
 def read(name, text):

@@ -47,7 +47,8 @@ class Reading:
         elif tag in ("node", "edge"):
             self.open = (tag, held, {}, self.at())
         elif tag == "hyperedge":
-            raise errors.Refused(self.at(), "it has a hyperedge, and a link has two ends: write edges to a node in its place")
+            raise errors.Refused(self.at(), "it has a hyperedge, and a link has two ends: write edges to a node in its "
+                                            "place")
         elif tag == "data" and self.open:
             self.data_key, self.data_text = self.keys.get(held.get("key"), held.get("key", "")), ""
 

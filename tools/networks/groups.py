@@ -1,4 +1,5 @@
-"""Groups of nodes in a known shape: each maker gives the names of its nodes, which of them have hosts, and its links by names."""
+"""Groups of nodes in a known shape: each maker gives the names of its nodes, which of them have hosts, and its links by
+names."""
 
 from dataclasses import dataclass, field
 
@@ -76,7 +77,8 @@ def tree(table, _):
 
 
 def fat_tree(table, _):
-    """Of Al-Fares, Loukissas and Vahdat (2008): k pods of k/2 upper and k/2 lower routers, (k/2)^2 core routers, k/2 hosts a lower router."""
+    """Of Al-Fares, Loukissas and Vahdat (2008): k pods of k/2 upper and k/2 lower routers, (k/2)^2 core routers, k/2
+    hosts a lower router."""
     k, name = table["k"], table["name"]
     half = k // 2
     core = [f"{name}-core-{number}" for number in range(1, half * half + 1)]
@@ -140,10 +142,12 @@ def make(table, chance, place):
             raise errors.Refused(place(), "a random group needs `seed = NUMBER` at the top of the SPEC")
         if not count - 1 <= table["links"] <= count * (count - 1) // 2:
             least, most = count - 1, count * (count - 1) // 2
-            raise errors.Refused(place("links"), f"{count} nodes are joined by {least:,} links at least and {most:,} at most, not {table['links']:,}")
+            raise errors.Refused(place("links"), f"{count} nodes are joined by {least:,} links at least and {most:,} "
+                                                 f"at most, not {table['links']:,}")
     shape = KINDS[kind][0](table, chance)
     if len(shape.nodes) > limits.NODES or len(shape.links) > limits.LINKS:
-        raise errors.Refused(place(), f"the group has {len(shape.nodes):,} nodes and {len(shape.links):,} links; {most_said()}")
+        raise errors.Refused(place(), f"the group has {len(shape.nodes):,} nodes and {len(shape.links):,} links; "
+                                      f"{most_said()}")
     return shape
 
 

@@ -5,7 +5,8 @@ import re
 
 from networks import brite, edges, errors, found, gml, graphml, limits, names, rocketfuel, toml, units
 
-READERS = {"graphml": graphml.read, "gml": gml.read, "edges": edges.read, "rocketfuel": rocketfuel.read, "brite": brite.read}
+READERS = {"graphml": graphml.read, "gml": gml.read, "edges": edges.read, "rocketfuel": rocketfuel.read,
+           "brite": brite.read}
 # So many letters leave room for -h1 to -h1023 behind them.
 LONGEST = limits.NAME_LENGTH - 6
 # With more routers than this there is no room for a host behind each.
@@ -33,7 +34,8 @@ def read(words):
     text = toml.octets(words.file)
     kind = words.format or format_of(words.file, text)
     if words.latencies and kind != "rocketfuel":
-        raise errors.Refused("", "--latencies stands with Rocketfuel weights: for other files say --format rocketfuel, or leave it out")
+        raise errors.Refused("", "--latencies stands with Rocketfuel weights: for other files say --format rocketfuel, "
+                                 "or leave it out")
     if kind == "rocketfuel" and words.latencies:
         latencies = rocketfuel.latencies_of(words.latencies, toml.octets(words.latencies))
         return rocketfuel.read(words.file, text, latencies)
@@ -71,7 +73,8 @@ def joined(made, name, is_largest):
     one, other = (made.nodes[piece[0]] for piece in several[:2])
     if not is_largest:
         sizes = ", ".join(f"{len(piece)}" for piece in several[:5]) + (", .." if len(several) > 5 else "")
-        sentence = f"the network is in {len(several)} pieces of {sizes} nodes: no links lead from {errors.shown(one.label)} to {errors.shown(other.label)}"
+        sentence = (f"the network is in {len(several)} pieces of {sizes} nodes: "
+                    f"no links lead from {errors.shown(one.label)} to {errors.shown(other.label)}")
         raise errors.Refused(other.at, f"{sentence}; --largest takes the largest piece")
     kept = set(several[0])
     made.remarks.append(f"{len(made.nodes) - len(kept)} nodes outside the largest piece were left out")
@@ -125,15 +128,18 @@ def renamed_lines(made, name_of):
     width = max((len(new) for new, _ in changed), default=0)
     if not changed:
         return ["# Names are those of the file."]
-    return [f"# {len(changed)} of {len(made.nodes)} names were changed; new name, old name:", *(f"#   {new.ljust(width)}  {comment(old)}" for new, old in changed)]
+    return [f"# {len(changed)} of {len(made.nodes)} names were changed; new name, old name:",
+            *(f"#   {new.ljust(width)}  {comment(old)}" for new, old in changed)]
 
 
 def ending(made, weight):
     """Traffic to begin with, and the defaults, to be edited."""
     has_hosts = len(made.nodes) <= MOST_WITH_HOSTS and len(made.nodes) + len(made.links) <= limits.LINKS
     lines = ["# Traffic to begin with: each sends to the one half the list away. Write your own."]
-    lines += ["[[flow]]", f'among = "{"*-h1" if has_hosts else "*"}"', 'pairs = "across"', 'rate = "1 Mbit/s"', 'stagger = "50 us"', ""]
-    lines += ["[defaults]", f"node = {{hosts = {1 if has_hosts else 0}}}{'   # hosts behind each router' if has_hosts else ''}"]
+    lines += ["[[flow]]", f'among = "{"*-h1" if has_hosts else "*"}"', 'pairs = "across"', 'rate = "1 Mbit/s"',
+              'stagger = "50 us"', ""]
+    lines += ["[defaults]",
+              f"node = {{hosts = {1 if has_hosts else 0}}}{'   # hosts behind each router' if has_hosts else ''}"]
     lines += ['link = {rate = "1 Gbit/s", delay = "1 ms", queue = 100}   # what holds where a link says nothing else']
     lines += ['host_link = {rate = "1 Gbit/s", delay = "10 us"}'] if has_hosts else []
     return [f'weight = "{weight}"', "", *lines]
@@ -157,6 +163,8 @@ def spec_text(words):
     said = [f"{len(made.nodes)} nodes, {len(made.links)} links, read as {made.kind}", *unsaid(made), *made.remarks]
     tail = ending(made, weight)
     title = comment(os.path.basename(words.file)).replace("\\", "?").replace('"', "?")
-    lines = [f"# A SPEC for `network make`, imported from {title}.", *(f"# {comment(line)}" for line in said), "#", *renamed_lines(made, name_of), ""]
-    lines += [f'title = "Imported from {title}"', 'stop = "1 s"', tail[0], "", *node_lines(made, name_of), "", *link_lines(made, name_of), *tail[1:]]
+    lines = [f"# A SPEC for `network make`, imported from {title}.", *(f"# {comment(line)}" for line in said), "#",
+             *renamed_lines(made, name_of), ""]
+    lines += [f'title = "Imported from {title}"', 'stop = "1 s"', tail[0], "", *node_lines(made, name_of), "",
+              *link_lines(made, name_of), *tail[1:]]
     return "\n".join(lines) + "\n", said

@@ -38,18 +38,21 @@ def joined(spec):
 def check_limits(network, name):
     """Refuses more interfaces or channels than a topology has."""
     if len(network.ifaces) > limits.IFACES:
-        raise errors.Refused(name, f"there are {len(network.ifaces):,} interfaces, and at most {limits.IFACES:,} may be")
+        raise errors.Refused(name,
+                             f"there are {len(network.ifaces):,} interfaces, and at most {limits.IFACES:,} may be")
     cut = channels(network)
     if cut > limits.CHANNELS:
         raise errors.Refused(
-            name, f"the partitions are joined by {cut:,} channels (two for each link between them), and at most {limits.CHANNELS} may be: {channel_advice()}"
+            name, f"the partitions are joined by {cut:,} channels (two for each link between them), and at most "
+                  f"{limits.CHANNELS} may be: {channel_advice()}"
         )
 
 
 def channels(network):
     """How many channels the partitions of a network have."""
     nodes = network.nodes
-    return 2 * sum(nodes[one].partition != nodes[other].partition for one, other in map(network.link_nodes, range(len(network.links))))
+    return 2 * sum(nodes[one].partition != nodes[other].partition
+                   for one, other in map(network.link_nodes, range(len(network.links))))
 
 
 def channel_advice():
@@ -67,12 +70,15 @@ def make(spec, name):
     blocks, taken = routed(spec, network)
     routes.check_counts(network, network.routes, name)
     routes.check_flows(network, lambda number: place_of[number])
-    first = "No seed: nothing here was chosen by chance." if spec.seed is None else f"Seed {spec.seed}: what was chosen by chance follows from it."
+    first = f"Seed {spec.seed}: what was chosen by chance follows from it."
+    if spec.seed is None:
+        first = "No seed: nothing here was chosen by chance."
     return Made(network, chosen_lines(spec, network, blocks, taken, raised), first)
 
 
 def routed(spec, network):
-    """Gives addresses and routes in the order of nodes that needs fewer routes; says how many blocks and addresses there are."""
+    """Gives addresses and routes in the order of nodes that needs fewer routes; says how many blocks and addresses
+    there are."""
     chosen, goals = routes.choices(network, spec.weight, spec.spread), [source.to for source in network.sources]
     best = None
     for order in addresses.orders(network):
@@ -104,11 +110,15 @@ def chosen_lines(spec, network, blocks, taken, raised):
     to = " to the ends of flows" if spec.only_flows else ""
     spread = "; of equal ones another for each destination" if spec.spread else "; of equal ones the first"
     lines = [
-        f"nodes       {kinds_said(network)}, {len(network.links)} links; an interface is named after its node and the node at the far end",
-        f"addresses   {taken:,} of {fields.prefix_said(*spec.prefix)}, in {blocks} blocks: a router and the hosts behind it have one",
-        f"routes      {len(network.routes):,}{to}, by least {spec.weight}{spread}; one for each address would be {before:,}",
+        f"nodes       {kinds_said(network)}, {len(network.links)} links; an interface is named after its node and the "
+        "node at the far end",
+        f"addresses   {taken:,} of {fields.prefix_said(*spec.prefix)}, in {blocks} blocks: a router and the hosts "
+        "behind it have one",
+        f"routes      {len(network.routes):,}{to}, by least {spec.weight}{spread}; one for each address would be "
+        f"{before:,}",
         f"flows       {len(network.sources)} with {packets:,} packets; where a cbr flow ends its port is open",
-        f"stop        {units.time_said(spec.stop)}; a flow that says no other end ends at {units.time_said(spec.stop * flows.TENTHS // 10)}",
+        f"stop        {units.time_said(spec.stop)}; a flow that says no other end ends at "
+        f"{units.time_said(spec.stop * flows.TENTHS // 10)}",
         f"partitions  {partitions}, with {channels(network)} channels",
     ]
     if raised:

@@ -7,7 +7,8 @@ from networks import limits
 
 FORM = re.compile(r"[a-z0-9][a-z0-9-]{0,31}")
 # Letters that have no decomposition into a plain letter and an accent.
-PLAIN = str.maketrans({"ß": "ss", "æ": "ae", "Æ": "ae", "ø": "o", "Ø": "o", "œ": "oe", "Œ": "oe", "ł": "l", "Ł": "l", "đ": "d", "Đ": "d", "ı": "i"})
+PLAIN = str.maketrans({"ß": "ss", "æ": "ae", "Æ": "ae", "ø": "o", "Ø": "o", "œ": "oe", "Œ": "oe", "ł": "l", "Ł": "l",
+                       "đ": "d", "Đ": "d", "ı": "i"})
 
 
 def is_name(word):

@@ -7,14 +7,17 @@ from networks import drawing, fields, limits, topology, traffic, units
 
 STYLE = """
 :root { color-scheme: light; }
-body { font: 15px/1.45 system-ui, Helvetica, Arial, sans-serif; margin: 2rem auto; max-width: 76rem; padding: 0 1rem; color: #0f172a; background: #fff; }
+body { font: 15px/1.45 system-ui, Helvetica, Arial, sans-serif; margin: 2rem auto; max-width: 76rem; padding: 0 1rem;
+  color: #0f172a; background: #fff; }
 h1 { font-size: 1.5rem; margin-bottom: .2rem; } h2 { font-size: 1.15rem; margin-top: 2rem; }
-.picture { border: 1px solid #cbd5e1; border-radius: .5rem; padding: .5rem; background: #f8fafc; overflow: auto; text-align: center; }
+.picture { border: 1px solid #cbd5e1; border-radius: .5rem; padding: .5rem; background: #f8fafc; overflow: auto;
+  text-align: center; }
 .picture svg { max-width: 100%; height: auto; max-height: 80vh; }
 .key span { display: inline-block; margin-right: 1.2rem; }
 .key i { display: inline-block; width: 1rem; height: .7rem; border: 1px solid #64748b; margin-right: .3rem; }
 .table { overflow-x: auto; } table { border-collapse: collapse; font-size: .9rem; }
-th, td { padding: .2rem .7rem; border-bottom: 1px solid #e2e8f0; text-align: right; white-space: nowrap; font-variant-numeric: tabular-nums; }
+th, td { padding: .2rem .7rem; border-bottom: 1px solid #e2e8f0; text-align: right; white-space: nowrap;
+  font-variant-numeric: tabular-nums; }
 th { background: #f1f5f9; position: sticky; top: 0; } th:first-child, td:first-child, .left { text-align: left; }
 p.small { color: #475569; font-size: .85rem; }
 """
@@ -22,10 +25,12 @@ p.small { color: #475569; font-size: .85rem; }
 
 def table(heads, rows):
     """A table; the texts of rows are escaped."""
-    lines = ["<div class=table><table>", "<thead><tr>" + "".join(f"<th>{html.escape(head)}</th>" for head in heads) + "</tr></thead><tbody>"]
+    lines = ["<div class=table><table>", "<thead><tr>" + "".join(f"<th>{html.escape(head)}</th>" for head in heads)
+             + "</tr></thead><tbody>"]
     for row in rows:
         sides = [" class=left" if isinstance(cell, str) and cell[:1].isalpha() else "" for cell in row]
-        lines.append("<tr>" + "".join(f"<td{side}>{html.escape(str(cell))}</td>" for side, cell in zip(sides, row)) + "</tr>")
+        lines.append("<tr>" + "".join(f"<td{side}>{html.escape(str(cell))}</td>" for side, cell in zip(sides, row))
+                     + "</tr>")
     return "\n".join([*lines, "</tbody></table></div>"])
 
 
@@ -47,7 +52,8 @@ def links_table(network, found, loads):
                 " and ".join(f"{part}" for part in sorted(cut)) if len(cut) > 1 else "",
             )
         )
-    return table(("link", "rate", "delay", "queue (packets)", "packets there", "packets back", "busy", "joins partitions"), rows)
+    return table(("link", "rate", "delay", "queue (packets)", "packets there", "packets back", "busy",
+                  "joins partitions"), rows)
 
 
 def flows_table(network, found):
@@ -62,7 +68,8 @@ def flows_table(network, found):
         rate = (source.size + limits.HEADERS) * 8 * 10**9 // source.interval
         end = f"{found.lengths[number]} links" if found.ends[number] is not None else "no route"
         port = f"port {source.dport}" if source.kind == "cbr" else f"identifier {source.ident}"
-        rows.append((f"{number}: {source.kind}", name, goal, port, source.size, f"{count:,}", units.rate_said(rate), end))
+        rows.append((f"{number}: {source.kind}", name, goal, port, source.size, f"{count:,}", units.rate_said(rate),
+                     end))
     return table(("flow", "from", "to", "to port", "data (octets)", "packets", "rate", "way"), rows)
 
 
@@ -72,15 +79,18 @@ def nodes_table(network, found):
     rows = []
     for number, node in enumerate(network.nodes):
         first = fields.address_said(network.ifaces[ends[number][0][0]].address) if ends[number] else ""
-        rows.append((node.name, node.kind, node.partition, len(ends[number]), first, len(routes[number]), f"{found.hops[number]:,}"))
+        rows.append((node.name, node.kind, node.partition, len(ends[number]), first, len(routes[number]),
+                     f"{found.hops[number]:,}"))
     return table(("node", "kind", "partition", "links", "first address", "routes", "packets in and out"), rows)
 
 
 def key_of_colours(network):
     """What the colours mean."""
     parts = sorted({node.partition for node in network.nodes})[: len(drawing.FILLS)]
-    pieces = [f'<span><i style="background:{drawing.FILLS[part % len(drawing.FILLS)]}"></i>partition {part}</span>' for part in parts]
-    pieces += [f'<span><i style="background:{drawing.colour(load)}"></i>{load // 10**4}% busy</span>' for load in (0, 500_000, 1_000_000)]
+    pieces = [f'<span><i style="background:{drawing.FILLS[part % len(drawing.FILLS)]}"></i>partition {part}</span>'
+              for part in parts]
+    pieces += [f'<span><i style="background:{drawing.colour(load)}"></i>{load // 10**4}% busy</span>'
+               for load in (0, 500_000, 1_000_000)]
     return f"<p class=key>{''.join(pieces)}<span>boxes: routers; ellipses: hosts; dashed: between partitions</span></p>"
 
 
@@ -88,18 +98,22 @@ def html_text(text):
     """The page of a topology text."""
     network = topology.read(text)
     found = traffic.expected(network)
-    loads = [max(traffic.load(network, found, end, number) for end in (link.a, link.b)) for number, link in enumerate(network.links)]
+    loads = [max(traffic.load(network, found, end, number) for end in (link.a, link.b))
+             for number, link in enumerate(network.links)]
     picture, drawer = drawing.drawn(network, loads) if network.nodes else ("", "nothing")
     title = html.escape(os.path.basename(text.name))
     partitions = max((node.partition for node in network.nodes), default=-1) + 1
-    counts = f"{topology.kinds_said(network)}, {len(network.links)} links, {len(network.routes):,} routes, {len(network.sources)} flows, {partitions} partitions"
+    counts = (f"{topology.kinds_said(network)}, {len(network.links)} links, {len(network.routes):,} routes, "
+              f"{len(network.sources)} flows, {partitions} partitions")
     parts = [
         "<!doctype html>\n<html lang=en><head><meta charset=utf-8><meta name=viewport content='width=device-width'>",
         f"<title>{title}</title><style>{STYLE}</style></head><body>",
         f"<h1>{title}</h1><p>{counts}. The run stops at {units.time_said(network.stop)}.</p>",
         f"<div class=picture>{picture}</div>{key_of_colours(network)}",
-        "<p class=small>Packets and busy shares are what the sources send, followed along the routes. Nothing was simulated for this page: queues and drops are"
-        f" not in it, and <code>nullsim report</code> measures them. Drawn by {html.escape(drawer)}.</p>",
-        f"<h2>Links</h2>{links_table(network, found, loads)}<h2>Flows</h2>{flows_table(network, found)}<h2>Nodes</h2>{nodes_table(network, found)}</body></html>",
+        "<p class=small>Packets and busy shares are what the sources send, followed along the routes. Nothing was "
+        "simulated for this page: queues and drops are not in it, and <code>nullsim report</code> measures "
+        f"them. Drawn by {html.escape(drawer)}.</p>",
+        f"<h2>Links</h2>{links_table(network, found, loads)}<h2>Flows</h2>{flows_table(network, found)}"
+        f"<h2>Nodes</h2>{nodes_table(network, found)}</body></html>",
     ]
     return "\n".join(parts) + "\n"

@@ -14,9 +14,11 @@ def chosen(text, count, by=None):
     parts, how = ([0] * len(network.nodes), "nothing to cut") if count == 1 else split(network, found, count, by)
     for node, part in zip(network.nodes, parts):
         node.partition = part
-    cut = [number for number in range(len(network.links)) if len({parts[node] for node in network.link_nodes(number)}) == 2]
+    cut = [number for number in range(len(network.links))
+           if len({parts[node] for node in network.link_nodes(number)}) == 2]
     if 2 * len(cut) > limits.CHANNELS:
-        raise errors.Refused(text.name, f"{2 * len(cut):,} channels would join the partitions, and at most {limits.CHANNELS} may be: {making.channel_advice()}")
+        raise errors.Refused(text.name, f"{2 * len(cut):,} channels would join the partitions, and at most "
+                                        f"{limits.CHANNELS} may be: {making.channel_advice()}")
     raised = {number: limits.CUT_DELAY for number in cut if network.links[number].delay < limits.CUT_DELAY}
     lines = said(network, found, parts, cut, how, raised)
     edited = editing.set_keys(text.text, "node", "partition", dict(enumerate(parts)))
@@ -37,7 +39,8 @@ def filled(network, found, parts, count):
     """Gives an empty partition the busiest node of the one with most packets that has another node."""
     parts = list(parts)
     for empty in sorted(set(range(count)) - set(parts)):
-        shares = {part: sum(found.hops[node] for node, held in enumerate(parts) if held == part) for part in set(parts) if parts.count(part) > 1}
+        shares = {part: sum(found.hops[node] for node, held in enumerate(parts) if held == part)
+                  for part in set(parts) if parts.count(part) > 1}
         most = max(shares, key=lambda part: (shares[part], -part))
         parts[max((node for node, held in enumerate(parts) if held == most), key=lambda node: found.hops[node])] = empty
     return parts
@@ -58,10 +61,12 @@ def said(network, found, parts, cut, how, raised):
         lines += ["", *tables.aligned(rows), "", *summary(network, found, cut)]
     for number in raised:
         one, other = (network.nodes[node].name for node in network.link_nodes(number))
-        lines.append(f"the delay of {one} to {other} is now {limits.CUT_DELAY} ns: a link between partitions has one, and what is simulated changes by it")
+        lines.append(f"the delay of {one} to {other} is now {limits.CUT_DELAY} ns: a link between partitions has one, "
+                     "and what is simulated changes by it")
     lost = sum(end is None and source.kind != "raw" for source, end in zip(network.sources, found.ends))
     if lost:
-        lines.append(f"{lost} of {len(network.sources)} flows do not arrive by the routes of this text, and count for little: `network routes` computes routes")
+        lines.append(f"{lost} of {len(network.sources)} flows do not arrive by the routes of this text, and count for "
+                     "little: `network routes` computes routes")
     if len(paths.parts(network)) > 1:
         lines.append("the network is in pieces that no link joins")
     return lines
@@ -86,9 +91,11 @@ def summary(network, found, cut):
     window = min(traffic.lookahead(network.links[number]) for number in cut)
     hops, channels = sum(found.packets), 2 * len(cut)
     lines = [
-        f"{channels} channels; least lookahead {units.time_said(window)}; {window_events(network, hops, window)} packet-hops of the whole network are expected"
+        f"{channels} channels; least lookahead {units.time_said(window)}; {window_events(network, hops, window)} "
+        "packet-hops of the whole network are expected"
         " in such a window"
     ]
     if hops * window < network.stop * channels:
-        lines.append("fewer events than channels a window: the partitions will wait for each other more than they simulate; try fewer, or longer links")
+        lines.append("fewer events than channels a window: the partitions will wait for each other more than they "
+                     "simulate; try fewer, or longer links")
     return lines

@@ -41,20 +41,23 @@ def distances(network, ends, costs, goal):
 
 
 def next_ifaces(network, ends, costs, goal, spread):
-    """The interface by which each node sends to the goal: on a shortest path the first, or, spread, one that the goal's number chooses."""
+    """The interface by which each node sends to the goal: on a shortest path the first, or, spread, one that the goal's
+    number chooses."""
     found = distances(network, ends, costs, goal)
     hops = distances(network, ends, [1] * len(costs), goal) if spread else None
     chosen = [None] * len(network.nodes)
     for node, past in enumerate(found):
         if past is None or node == goal:
             continue
-        equal = [own for own, far, link in ends[node] if leads(network, found, far, goal) and found[network.ifaces[far].node] + costs[link] == past]
+        equal = [own for own, far, link in ends[node] if leads(network, found, far, goal)
+                 and found[network.ifaces[far].node] + costs[link] == past]
         chosen[node] = equal[digit(goal, len(equal), hops[node])] if spread else equal[0]
     return chosen
 
 
 def digit(goal, count, hops):
-    """Which of equal ways a goal takes: a digit of its number, another one at the next node, so that all ways of a tree are taken."""
+    """Which of equal ways a goal takes: a digit of its number, another one at the next node, so that all ways of a tree
+    are taken."""
     return goal // count ** (hops % 3) % count
 
 

@@ -15,7 +15,8 @@ def choices(network, weight, spread=False):
 
 
 def tables(network, chosen, only_flows=False):
-    """The routes of all nodes. A host with one link has a default route, the others what they need: to all nodes, or to those at the ends of flows."""
+    """The routes of all nodes. A host with one link has a default route, the others what they need: to all nodes, or to
+    those at the ends of flows."""
     order = sorted(network.ifaces, key=lambda iface: iface.address)
     tree = aggregate.Tree([iface.address for iface in order], [iface.node for iface in order])
     goals = flow_ends(network) if only_flows else range(len(network.nodes))
@@ -40,7 +41,8 @@ def check_counts(network, routes, name):
     if count > limits.NODE_ROUTES:
         raise errors.Refused(name, f'node "{network.nodes[node].name}" would need {count:,} routes{advice()}')
     if len(routes) > limits.ROUTES:
-        raise errors.Refused(name, f"the network would need {len(routes):,} routes, and at most {limits.ROUTES:,} may be{advice(False)}")
+        raise errors.Refused(name, f"the network would need {len(routes):,} routes, and at most {limits.ROUTES:,} may "
+                                   f"be{advice(False)}")
 
 
 def computed(network, weight, spread=False, name="", only_flows=False):
@@ -53,13 +55,15 @@ def computed(network, weight, spread=False, name="", only_flows=False):
 def advice(is_of_node=True):
     """What helps against too many routes."""
     most = f", and at most {limits.NODE_ROUTES:,} may be" if is_of_node else ""
-    return f"{most}: route only to the ends of flows (`only_flows = true` in a SPEC, `routes --only-flows`), leave out spread, or have fewer routers"
+    return (f"{most}: route only to the ends of flows (`only_flows = true` in a SPEC, `routes --only-flows`), "
+            "leave out spread, or have fewer routers")
 
 
 def flow_ends(network):
     """The nodes that send or take a flow's packets: others get none, but for raw packets."""
     owners = network.node_of_address()
-    return {source.node for source in network.sources} | {owners[source.to] for source in network.sources if source.to in owners}
+    return {source.node for source in network.sources} | {owners[source.to]
+                                                          for source in network.sources if source.to in owners}
 
 
 def unaggregated(network):
@@ -73,7 +77,8 @@ def check_joined(network, name, place_of=None):
     if len(pieces) > 1:
         one, other = (network.nodes[piece[0]].name for piece in pieces[:2])
         place = place_of(pieces[1][0]) if place_of else name
-        raise errors.Refused(place, f'the network is in {len(pieces)} pieces: no links lead from node "{one}" to node "{other}"')
+        raise errors.Refused(place, f'the network is in {len(pieces)} pieces: no links lead from node "{one}" to node '
+                                    f'"{other}"')
 
 
 def check_flows(network, place_of):
@@ -89,4 +94,5 @@ def check_flows(network, place_of):
         if source.kind == "echo" and passed:
             back = network.ifaces[passed[0][1]].address
             if ways.way(end, back)[1] is None:
-                raise errors.Refused(place_of(number), f'there is no way by routers back from node "{goal}" to node "{begin}"')
+                raise errors.Refused(place_of(number), f'there is no way by routers back from node "{goal}" to node '
+                                                       f'"{begin}"')

@@ -26,7 +26,9 @@ class Item:
         """The item that a way of keys and numbers leads to, or the last one on it that is there."""
         item = self
         for step in way:
-            found = item.keys.get(step) if isinstance(step, str) else (item.members[step] if step < len(item.members) else None)
+            found = item.keys.get(step) if isinstance(step,
+                                                      str) else (item.members[step] if step < len(item.members)
+                                                                 else None)
             if found is None:
                 return item
             item = found
@@ -81,42 +83,28 @@ class Reader:
         start = self.place
         mark = self.text[start]
         if mark == "[":
-            return self.array(Item(start, kind="array"))
+            return self.inside(Item(start, kind="array"), "]", lambda item: item.members.append(self.value()))
         if mark == "{":
-            return self.inline(Item(start, kind="table"))
+            return self.inside(Item(start, kind="table"), "}", self.pair)
         if mark in "\"'":
             self.string()
         else:
             self.place = start + len(SCALAR.match(self.text, start)[0].rstrip())
         return Item(start, self.place)
 
-    def array(self, item):
-        """The members of an array."""
+    def inside(self, item, close, take):
+        """What stands between a mark and the one that closes it, with commas between: `take` takes each."""
         self.place += 1
         while True:
             self.blank()
-            if self.text[self.place] == "]":
+            mark = self.text[self.place]
+            if mark in (close, ","):
                 self.place += 1
+            if mark == close:
                 item.end = self.place
                 return item
-            if self.text[self.place] == ",":
-                self.place += 1
-            else:
-                item.members.append(self.value())
-
-    def inline(self, item):
-        """The keys of a table in braces."""
-        self.place += 1
-        while True:
-            self.blank()
-            if self.text[self.place] == "}":
-                self.place += 1
-                item.end = self.place
-                return item
-            if self.text[self.place] == ",":
-                self.place += 1
-            else:
-                self.pair(item)
+            if mark != ",":
+                take(item)
 
     def pair(self, table):
         """A key with its value, into a table."""

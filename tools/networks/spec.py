@@ -92,7 +92,8 @@ TOP = {
 }
 DEFAULTS = {"node": NODE, "link": LINK, "host_link": LINK, "flow": FLOW}
 ARRAYS = ("node", "link", "group", "flow")
-# What holds where neither a table nor `defaults` says it: delays in nanoseconds, rates in bits per second, queues in packets.
+# What holds where neither a table nor `defaults` says it: delays in nanoseconds, rates in bits per second, queues in
+# packets.
 BUILT_IN = {
     "node": {"kind": "router", "partition": 0, "hosts": 0},
     "link": {"rate": 10**9, "delay": 10**6, "queue": 100},
@@ -142,7 +143,8 @@ class Reading:
         means = self.text.means
         keys = {**TOP, **{key: lambda value: value for key in (*ARRAYS, "defaults")}}
         if "format" in means and "iface" in means:
-            raise errors.Refused(self.text.name, "this is a topology, not a SPEC: `network routes`, `partition` and `show` take it")
+            raise errors.Refused(self.text.name, "this is a topology, not a SPEC: `network routes`, `partition` and "
+                                                 "`show` take it")
         read = fields.table(means, keys, self.text.place)
         self.spec.prefix_place = self.text.place("prefix") if "prefix" in means else self.text.name
         for key in TOP:
@@ -150,7 +152,8 @@ class Reading:
                 setattr(self.spec, key, read[key])
         self.chance = None if self.spec.seed is None else Chance(self.spec.seed)
         defaults = means.get("defaults", {})
-        fields.table(defaults, {key: lambda value: value for key in DEFAULTS}, lambda *way: f"{self.text.place('defaults', *way)}: defaults")
+        fields.table(defaults, {key: lambda value: value for key in DEFAULTS},
+                     lambda *way: f"{self.text.place('defaults', *way)}: defaults")
         for key, members in DEFAULTS.items():
             place = self.place_of_defaults(key)
             self.defaults[key].update(fields.table(defaults.get(key, {}), members, place))
@@ -170,9 +173,11 @@ class Reading:
     def add(self, name, kind, partition, place, ports=()):
         """A node."""
         if not names.is_name(name):
-            raise errors.Refused(place(), f"the name {errors.shown(name)} would be longer than {limits.NAME_LENGTH} letters: shorten that of the node or group")
+            raise errors.Refused(place(), f"the name {errors.shown(name)} would be longer than {limits.NAME_LENGTH} "
+                                          "letters: shorten that of the node or group")
         if name in self.spec.nodes:
-            raise errors.Refused(place(), f'two nodes have the name "{name}": the other one is at {self.spec.nodes[name].place()}')
+            raise errors.Refused(place(), f'two nodes have the name "{name}": the other one is at '
+                                          f'{self.spec.nodes[name].place()}')
         self.spec.nodes[name] = SpecNode(name, kind, partition, list(ports), place)
 
     def hosts(self, router, count, partition, place):
@@ -184,12 +189,14 @@ class Reading:
     def joined(self, one, other, table, defaults, place):
         """A link, with the defaults for what its table does not say."""
         held = {**self.defaults[defaults], **table}
-        return SpecLink(one, other, held["rate"], held["delay"], held["queue"], held.get("queue_octets"), held.get("cost"), place)
+        return SpecLink(one, other, held["rate"], held["delay"], held["queue"], held.get("queue_octets"),
+                        held.get("cost"), place)
 
     def node(self, number, value):
         named = errors.shown(value["name"]) if isinstance(value, dict) and "name" in value else ""
         place = self.place("node", number, named)
-        table = {**self.defaults["node"], **fields.table(value, {"name": fields.name, **NODE, "ports": PORTS}, place, ("name",))}
+        table = {**self.defaults["node"], **fields.table(value, {"name": fields.name, **NODE, "ports": PORTS}, place,
+                                                         ("name",))}
         # A host has no hosts, unless its own table says so: then that is a mistake.
         count = value.get("hosts", 0) if table["kind"] == "host" else table["hosts"]
         if table["kind"] == "host" and count:
@@ -201,22 +208,26 @@ class Reading:
         kind = value.get("kind") if isinstance(value, dict) else None
         named = f"{kind} {errors.shown(value['name'])}" if kind in groups.KINDS and "name" in value else ""
         place = self.place("group", number, named)
-        own = groups.KINDS[kind][1] if kind in groups.KINDS else {key: lambda value: value for _, keys in groups.KINDS.values() for key in keys}
-        keys = {"kind": fields.choice(*groups.KINDS), "name": fields.name, **own, "hosts": HOSTS, "partition": PARTITION, **LINK, **COST}
+        own = groups.KINDS[kind][1] if kind in groups.KINDS else {key: lambda value: value
+                                                                  for _, keys in groups.KINDS.values() for key in keys}
+        keys = {"kind": fields.choice(*groups.KINDS), "name": fields.name, **own, "hosts": HOSTS,
+                "partition": PARTITION, **LINK, **COST}
         table = fields.table(value, keys, place, ("kind", "name", *(own if kind in groups.KINDS else ())))
         shape = groups.make(table, self.chance, place)
         partition = table.get("partition", self.defaults["node"]["partition"])
         for name in shape.nodes:
             self.add(name, "router", partition, place)
         for one, other in shape.links:
-            self.spec.links.append(self.joined(one, other, {key: table[key] for key in (*LINK, *COST) if key in table}, "link", place))
+            self.spec.links.append(self.joined(one, other, {key: table[key] for key in (*LINK, *COST) if key in table},
+                                               "link", place))
         count = table.get("hosts", shape.hosts or self.defaults["node"]["hosts"])
         for name in shape.leaves:
             self.hosts(name, count, partition, place)
 
     def link(self, number, value):
         ends = [value.get(key) for key in ("a", "b")] if isinstance(value, dict) else []
-        named = " to ".join(errors.shown(end) for end in ends) if all(isinstance(end, str) for end in ends) and ends else ""
+        named = " to ".join(errors.shown(end) for end in ends) if all(isinstance(end, str)
+                                                                      for end in ends) and ends else ""
         place = self.place("link", number, named)
         table = fields.table(value, {"a": fields.name, "b": fields.name, **LINK, **COST}, place, ("a", "b"))
         for key in ("a", "b"):
@@ -226,13 +237,16 @@ class Reading:
         if table["a"] == table["b"]:
             raise errors.Refused(place(), "a link joins two nodes, and both ends of this are one")
         kinds = {self.spec.nodes[table[key]].kind for key in ("a", "b")}
-        self.spec.links.append(self.joined(table["a"], table["b"], table, "host_link" if "host" in kinds else "link", place))
+        self.spec.links.append(self.joined(table["a"], table["b"], table, "host_link" if "host" in kinds else "link",
+                                           place))
 
     def counts(self):
         """Refuses more nodes, links or interfaces than a topology has."""
-        for count, most, what in ((len(self.spec.nodes), limits.NODES, "nodes"), (len(self.spec.links), limits.LINKS, "links")):
+        for count, most, what in ((len(self.spec.nodes), limits.NODES, "nodes"),
+                                  (len(self.spec.links), limits.LINKS, "links")):
             if count > most:
-                raise errors.Refused(self.text.name, f"there are {count:,} {what}, hosts and groups written out; {groups.most_said()}")
+                raise errors.Refused(self.text.name, f"there are {count:,} {what}, hosts and groups written out; "
+                                                     f"{groups.most_said()}")
 
     def flow(self, number, value):
         place = self.place("flow", number)

@@ -23,7 +23,8 @@ class Text:
             other = "; it looks like XML, which `network import` takes" if text.lstrip().startswith("<") else ""
             raise errors.Refused(name, f"this is no TOML text: {why}{other}") from None
         except RecursionError:
-            raise errors.Refused(name, "this is no TOML text that can be read: its arrays or tables are nested too deep") from None
+            why = "this is no TOML text that can be read: its arrays or tables are nested too deep"
+            raise errors.Refused(name, why) from None
         self.spans = spans.read(text)
 
     def place(self, *way):
@@ -51,7 +52,8 @@ def octets(name):
     if len(held) > limits.TEXT_OCTETS:
         raise errors.Refused(name, f"it has more than {limits.TEXT_OCTETS:,} octets")
     if not held.strip():
-        raise errors.Refused(name, "it is empty; a shell empties FILE before `.. FILE > FILE` runs: write to another file")
+        raise errors.Refused(name, "it is empty; a shell empties FILE before `.. FILE > FILE` runs: write to another "
+                                   "file")
     try:
         return held.decode("utf-8-sig")
     except UnicodeDecodeError as why:

@@ -25,7 +25,8 @@ class Iface:
 
 @dataclass
 class Link:
-    """Between two interfaces; `rate` in bits per second, `delay` in nanoseconds, `cost` a number that a SPEC may give."""
+    """Between two interfaces; `rate` in bits per second, `delay` in nanoseconds, `cost` a number that a SPEC may
+    give."""
 
     a: int
     b: int
@@ -139,7 +140,8 @@ TOP = {
 # Keys that a SPEC has, and a topology has not.
 ARE_OF_SPECS = {"title", "group", "flow", "defaults", "weight", "prefix", "seed"}
 ARRAYS = ("node", "iface", "link", "route", "source")
-MOST = {"node": limits.NODES, "iface": limits.IFACES, "link": limits.LINKS, "route": limits.ROUTES, "source": limits.SOURCES}
+MOST = {"node": limits.NODES, "iface": limits.IFACES, "link": limits.LINKS, "route": limits.ROUTES,
+        "source": limits.SOURCES}
 TIMED = ("to", "size", "start", "interval", "count")
 
 
@@ -154,7 +156,8 @@ class Reading:
         """How places in a member of an array are said."""
 
         def said(*keys):
-            return f"{self.text.place(array, number, *keys)}: {array} {number}{f' ({errors.shown(name)})' if name else ''}"
+            called = f" ({errors.shown(name)})" if name else ""
+            return f"{self.text.place(array, number, *keys)}: {array} {number}{called}"
 
         return said
 
@@ -164,19 +167,22 @@ class Reading:
         if not isinstance(members, list):
             raise errors.Refused(self.text.place(array), f'key "{array}" has to be an array of tables')
         if len(members) > MOST[array]:
-            raise errors.Refused(self.text.place(array), f'"{array}" has {len(members):,} members, and at most {MOST[array]:,} may be')
+            raise errors.Refused(self.text.place(array),
+                                 f'"{array}" has {len(members):,} members, and at most {MOST[array]:,} may be')
         return enumerate(members)
 
     def named(self, known, word, place, key, what):
         """The number of what has a name."""
         if word not in known:
-            raise errors.Refused(place(key), f'key "{key}": there is no {what} {errors.shown(word)}{errors.meant(word, known)}')
+            raise errors.Refused(place(key), f'key "{key}": there is no {what} '
+                                             f'{errors.shown(word)}{errors.meant(word, known)}')
         return known[word]
 
     def new(self, known, word, number, place, what):
         """Gives a name to a number, once."""
         if word in known:
-            raise errors.Refused(place("name"), f"two {what}s have the name {errors.shown(word)}: {what} {known[word]} too")
+            raise errors.Refused(place("name"), f"two {what}s have the name {errors.shown(word)}: {what} {known[word]} "
+                                                "too")
         known[word] = number
 
     def read(self):
@@ -199,11 +205,13 @@ class Reading:
         uses = Counter(end for link in network.links for end in (link.a, link.b))
         for number, iface in enumerate(network.ifaces):
             if uses[number] != 1:
-                raise errors.Refused(self.place("iface", number, iface.name)(), f"it is at {uses[number]} ends of links, and has to be at one")
+                raise errors.Refused(self.place("iface", number, iface.name)(),
+                                     f"it is at {uses[number]} ends of links, and has to be at one")
         held = {}
         for number, iface in enumerate(network.ifaces):
             if iface.address in held:
-                raise errors.Refused(self.place("iface", number, iface.name)("address"), f"interface {held[iface.address]} has this address too")
+                raise errors.Refused(self.place("iface", number, iface.name)("address"),
+                                     f"interface {held[iface.address]} has this address too")
             held[iface.address] = number
 
     def node(self, number, value):
@@ -231,7 +239,8 @@ class Reading:
         node = self.named(self.nodes, table["node"], place, "node", "node")
         via = self.named(self.ifaces, table["via"], place, "via", "interface")
         if network.ifaces[via].node != node:
-            raise errors.Refused(place("via"), f"{errors.shown(table['via'])} is no interface of node {errors.shown(table['node'])}")
+            raise errors.Refused(place("via"), f"{errors.shown(table['via'])} is no interface of node "
+                                               f"{errors.shown(table['node'])}")
         return Route(node, *table["to"], via)
 
     def source(self, number, value):

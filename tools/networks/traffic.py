@@ -1,4 +1,5 @@
-"""What traffic is expected where: the packets of each source, followed along the routes. Drops are not counted, and queues are not either."""
+"""What traffic is expected where: the packets of each source, followed along the routes. Drops are not counted, and
+queues are not either."""
 
 from dataclasses import dataclass
 
@@ -8,7 +9,8 @@ from networks.ways import Ways
 
 @dataclass
 class Traffic:
-    """For each interface the packets and octets that it sends in the whole run; for each node the packets that it takes and those that it sends."""
+    """For each interface the packets and octets that it sends in the whole run; for each node the packets that it takes
+    and those that it sends."""
 
     packets: list
     octets: list
@@ -61,5 +63,6 @@ def load(network, traffic, iface, link):
 
 
 def lookahead(link):
-    """How far ahead of the sender's clock nothing can arrive over a link: its delay and the transmission of one octet (nanoseconds)."""
+    """How far ahead of the sender's clock nothing can arrive over a link: its delay and the transmission of one octet
+    (nanoseconds)."""
     return max(link.delay, limits.CUT_DELAY) + max(1, -(-8 * 10**9 // link.rate))

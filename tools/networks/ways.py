@@ -25,7 +25,8 @@ class Ways:
         return None if best is None else best.via
 
     def way(self, start, address, ttl=MOST_LINKS):
-        """What a packet passes from a node to an address: [(node, its interface, link)], and the node where it arrives or None."""
+        """What a packet passes from a node to an address: [(node, its interface, link)], and the node where it arrives
+        or None."""
         goal, node, passed = self.owners.get(address), start, []
         while node != goal:
             may_send = node == start or self.network.nodes[node].kind == "router"

@@ -14,7 +14,8 @@ def node_weights(found):
 
 
 def link_costs(network, found):
-    """For each link: the packets that would cross, and the null messages of windows that are as long as its lookahead."""
+    """For each link: the packets that would cross, and the null messages of windows that are as long as its
+    lookahead."""
     costs = []
     for link in network.links:
         windows = -(-network.stop // traffic.lookahead(link))
@@ -29,7 +30,8 @@ def scaled(numbers):
 
 
 def graph(network, found):
-    """(weight of each node, {(node, node): cost}): links between two nodes are put together, and those from a node to itself fall."""
+    """(weight of each node, {(node, node): cost}): links between two nodes are put together, and those from a node to
+    itself fall."""
     joined = {}
     for number, cost in enumerate(link_costs(network, found)):
         pair = tuple(sorted(network.link_nodes(number)))

@@ -12,13 +12,15 @@ def node_line(node):
 def iface_line(network, iface):
     """An interface as a table."""
     octets = "" if iface.queue_octets is None else f", queue_octets = {iface.queue_octets}"
-    place = f'name = "{iface.name}", node = "{network.nodes[iface.node].name}", address = "{fields.address_said(iface.address)}"'
+    node, address = network.nodes[iface.node].name, fields.address_said(iface.address)
+    place = f'name = "{iface.name}", node = "{node}", address = "{address}"'
     return f"{{{place}, queue = {iface.queue}{octets}}}"
 
 
 def link_line(network, link):
     """A link as a table."""
-    return f'{{a = "{network.ifaces[link.a].name}", b = "{network.ifaces[link.b].name}", rate = {link.rate}, delay = {link.delay}}}'
+    a, b = network.ifaces[link.a].name, network.ifaces[link.b].name
+    return f'{{a = "{a}", b = "{b}", rate = {link.rate}, delay = {link.delay}}}'
 
 
 def route_line(network, route):
@@ -29,7 +31,8 @@ def route_line(network, route):
 
 def source_line(network, source):
     """A source as a table."""
-    ends = f'kind = "{source.kind}", node = "{network.nodes[source.node].name}", to = "{fields.address_said(source.to)}"'
+    node, to = network.nodes[source.node].name, fields.address_said(source.to)
+    ends = f'kind = "{source.kind}", node = "{node}", to = "{to}"'
     ports = f"sport = {source.sport}, dport = {source.dport}" if source.kind == "cbr" else f"ident = {source.ident}"
     when = f"start = {source.start}, interval = {source.interval}, count = {source.count}"
     more = (f", ttl = {source.ttl}" if source.ttl != 64 else "") + (f", fill = {source.fill}" if source.fill else "")
@@ -53,14 +56,18 @@ def text(made, title=""):
     network = made.network
     is_second = any(iface.queue_octets is not None for iface in network.ifaces)
     owners = network.node_of_address()
-    head = [f"# {made.first_line}", *([f"# {title}"] if title else []), "# Made by tools/network from a SPEC. What it chose:", "#"]
+    head = [f"# {made.first_line}", *([f"# {title}"] if title else []),
+            "# Made by tools/network from a SPEC. What it chose:", "#"]
     parts = [
         "\n".join([*head, *[f"#   {line}" for line in made.chosen]]),
-        "\n".join([f"format = {2 if is_second else 1}", f"stop = {network.stop}   # nanoseconds: {units.time_said(network.stop)}", f"mtu = {network.mtu}"]),
+        "\n".join([f"format = {2 if is_second else 1}", f"stop = {network.stop}   # nanoseconds: "
+                                                        f"{units.time_said(network.stop)}", f"mtu = {network.mtu}"]),
         array("node", [(node_line(node), "") for node in network.nodes]),
         array("iface", [(iface_line(network, iface), "") for iface in network.ifaces]),
-        array("link", [(link_line(network, link), link_remark(network, number)) for number, link in enumerate(network.links)]),
+        array("link",
+              [(link_line(network, link), link_remark(network, number)) for number, link in enumerate(network.links)]),
         array("route", [(route_line(network, route), "") for route in network.routes]),
-        array("source", [(source_line(network, source), f"to {network.nodes[owners[source.to]].name}") for source in network.sources]),
+        array("source", [(source_line(network, source), f"to {network.nodes[owners[source.to]].name}")
+                         for source in network.sources]),
     ]
     return "\n\n".join(parts) + "\n"

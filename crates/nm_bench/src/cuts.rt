@@ -1,5 +1,5 @@
 //! Two replicas whose connections break at random octets, again and again, until both have said
-//! Bye; and whether their books are then certified. `tools/check-links` does so with many seeds.
+//! Bye; and whether their books are then certified. `dev/check/links` does so with many seeds.
 
 use crate::chance::Chance;
 use crate::cut_wire::{CutWire, cut_pipe};

@@ -21,10 +21,10 @@
 //!   threads, `apart-2` and `apart-4` as many replicas as threads, and `jobs` gives a pool of four
 //!   threads 100,000 jobs.
 //!
-//! `streams FILE` reads a file of streams of frames, and shows the frames (`tools/check-frames`).
+//! `streams FILE` reads a file of streams of frames, and shows the frames (`dev/check/frames`).
 //! `cuts FILE FROM COUNT` lets two replicas of a topology with two partitions tell each other all
 //! over links that break at random, with so many seeds, and says how many are not certified
-//! (`tools/check-links`).
+//! (`dev/check/links`).
 #![tactic(auto)]
 
 mod callers;

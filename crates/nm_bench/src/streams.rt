@@ -1,5 +1,5 @@
 //! Streams of frames from a file, each in pieces, and what a reader makes of them: what
-//! `tools/check-frames` compares with a model of its own.
+//! `dev/check/frames` compares with a model of its own.
 //!
 //! The file has the streams one after another: the number of pieces, and each piece behind its
 //! length; numbers have four octets, the greatest first.

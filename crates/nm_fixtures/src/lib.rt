@@ -1,5 +1,5 @@
 //! Texts that several crates of tests go over, each once: four networks, which are those of the
-//! same names in `examples/` (`tools/check-docs` compares them), and what stands in frames.
+//! same names in `examples/` (`dev/check/docs` compares them), and what stands in frames.
 #![tactic(auto)]
 
 /// Two hosts, one link, one UDP packet.

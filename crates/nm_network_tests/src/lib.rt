@@ -2,7 +2,7 @@
 //! show.
 //!
 //! Values come from outside. Those in `memory` are to be run with each allocation refused in turn
-//! (`tools/refuse-growths`).
+//! (`dev/attack/refuse-growths`).
 #![tactic(auto)]
 
 #[cfg(test)]

@@ -6,11 +6,21 @@ import tomllib
 from networks.tests import tool
 
 HEAD = '# begin\nformat = 1\nstop = 1000000\nmtu = 1500\n'
-NODES = 'node = [ {name = "a", kind = "host", partition = 0},  # first\n  {name = "b", kind = "host", partition=0 , ports = [9]} ]\n'
-IFACES = 'iface = [{name = "a0", node = "a", address = "10.0.0.1", queue = 4}, {name = "b0", node = "b", address = "10.0.0.2", queue = 4}]\n'
+NODES = """node = [ {name = "a", kind = "host", partition = 0},  # first
+  {name = "b", kind = "host", partition=0 , ports = [9]} ]
+"""
+IFACES = ('iface = [{name = "a0", node = "a", address = "10.0.0.1", queue = 4}, '
+          '{name = "b0", node = "b", address = "10.0.0.2", queue = 4}]\n')
 LINKS = 'link = [{a = "a0", b = "b0", rate = 8000000, delay = 0}]  # the link\n'
-ROUTES = 'route = [\n  # above\n  {node = "a", to = "0.0.0.0/0", via = "a0"},   # stays\n  {node = "b", to = "10.0.0.0/24", via = "b0"}, # goes\n]   # behind\n# end\n'
-BLOCKS = '[[route]] # one\nnode = "a"  # of a\nto = "0.0.0.0/0"\nvia = "a0"\n\n# between\n[[source]]\nkind = "cbr"\nnode = "a"\nto = "10.0.0.2"\nsport = 1\ndport = 9\nsize = 1\nstart = 0\ninterval = 1\ncount = 1\n'
+ROUTES = """route = [
+  # above
+  {node = "a", to = "0.0.0.0/0", via = "a0"},   # stays
+  {node = "b", to = "10.0.0.0/24", via = "b0"}, # goes
+]   # behind
+# end
+"""
+BLOCKS = ('[[route]] # one\nnode = "a"  # of a\nto = "0.0.0.0/0"\nvia = "a0"\n\n# between\n[[source]]\nkind = "cbr"\n'
+          'node = "a"\nto = "10.0.0.2"\nsport = 1\ndport = 9\nsize = 1\nstart = 0\ninterval = 1\ncount = 1\n')
 WANTED = [{"node": "a", "to": "0.0.0.0/0", "via": "a0"}, {"node": "b", "to": "0.0.0.0/0", "via": "b0"}]
 
 
@@ -26,7 +36,8 @@ class Routes(tool.Folder):
 
     def test_comments_stay(self):
         said = self.edited(HEAD + NODES + IFACES + LINKS + ROUTES)
-        for comment in ("# begin", "# first", "# the link", "# above", "  # stays", "# no more, b to 10.0.0.0/24 via b0: goes", "]   # behind", "# end"):
+        for comment in ("# begin", "# first", "# the link", "# above", "  # stays",
+                        "# no more, b to 10.0.0.0/24 via b0: goes", "]   # behind", "# end"):
             self.assertIn(comment, said)
 
     def test_a_text_without_routes_gets_them(self):
@@ -59,9 +70,11 @@ class Routes(tool.Folder):
 
     def test_a_flow_without_a_route_is_refused(self):
         nodes = 'node = [{name = "a", kind = "host"}, {name = "h", kind = "host"}, {name = "b", kind = "host"}]\n'
-        ifaces = ", ".join(f'{{name = "{name}", node = "{name[0]}", address = "10.0.0.{last}", queue = 1}}' for last, name in enumerate(("a0", "h0", "h1", "b0"), 1))
+        ifaces = ", ".join(f'{{name = "{name}", node = "{name[0]}", address = "10.0.0.{last}", queue = 1}}'
+                           for last, name in enumerate(("a0", "h0", "h1", "b0"), 1))
         links = 'link = [{a = "a0", b = "h0", rate = 1000, delay = 0}, {a = "h1", b = "b0", rate = 1000, delay = 0}]\n'
-        source = 'source = [\n{kind = "echo", node = "a", to = "10.0.0.4", ident = 1, size = 1, start = 0, interval = 1, count = 1}]\n'
+        source = ('source = [\n{kind = "echo", node = "a", to = "10.0.0.4", ident = 1, size = 1, start = 0, '
+                  'interval = 1, count = 1}]\n')
         path = self.file("x.toml", f"{HEAD}{nodes}iface = [{ifaces}]\n{links}{source}")
         status, said, beside = tool.call("routes", path)
         self.assertEqual((status, said), (3, ""))

@@ -78,7 +78,8 @@ class Partitions(tool.Folder):
         try:
             status, said, beside = tool.call("partition", self.file("x.toml", self.example("ring")), 2)
             self.assertEqual((status, said), (4, ""))
-            self.assertIn("METIS is not installed: apt-get install metis, or pip install pymetis; and networkx is not installed for it", beside)
+            self.assertIn("METIS is not installed: apt-get install metis, or pip install pymetis; and networkx is not "
+                          "installed for it", beside)
             self.assertIn("the Python that runs is /", beside)
         finally:
             cutting.shutil.which, cutting.module = held
@@ -100,7 +101,8 @@ class Partitions(tool.Folder):
         finally:
             cutting.shutil.which, cutting.module = held
         self.assertEqual((parts, how), ([0, 1, 0], "METIS (pymetis)"))
-        self.assertEqual(fake.seen, (2, [0, 1, 3, 4], [1, 0, 2, 1], [5, 5, 7, 7], [1, 2, 3], {"seed": cutting.SEED, "ufactor": cutting.UNEVEN}))
+        self.assertEqual(fake.seen, (2, [0, 1, 3, 4], [1, 0, 2, 1], [5, 5, 7, 7], [1, 2, 3],
+                                     {"seed": cutting.SEED, "ufactor": cutting.UNEVEN}))
 
     def test_raw_sources_are_left_as_they_are(self):
         raw = '{kind = "raw", node = "n0", via = "n0a", packet = [{at = 5, data = "45"}]}, '
@@ -116,7 +118,8 @@ class Partitions(tool.Folder):
         network = tool.network_of(self.example("campus"))
         group_of = coarse.groups_below(network, 2_000_008)
         self.assertEqual(max(group_of) + 1, 4)
-        self.assertEqual([group_of[number] for number in range(len(network.nodes))], [node.partition for node in network.nodes])
+        self.assertEqual([group_of[number] for number in range(len(network.nodes))],
+                         [node.partition for node in network.nodes])
 
 
 class Traffic(tool.Folder):
@@ -147,10 +150,14 @@ class Texts(tool.Folder):
         with open(os.path.join(tool.EXAMPLES, "office.toml"), encoding="utf-8") as file:
             text = file.read()
         for old, new, said in (
-            ('node = "gw", address = "192', 'node = "gv", address = "192', 'x.toml:33: iface 8 ("gw-wan"): key "node": there is no node "gv"'),
-            ('{name = "pc2", kind', '{name = "pc1", kind', 'x.toml:16: node 1 ("pc1"): two nodes have the name "pc1": node 0 too'),
-            ('address = "10.0.1.1"', 'address = "10.0.1.2"', 'x.toml:26: iface 1 ("gw-pc1"): interface 0 has this address too'),
-            ('a = "gw-wan", b', 'a = "gw-pc1", b', 'x.toml:26: iface 1 ("gw-pc1"): it is at 2 ends of links, and has to be at one'),
+            ('node = "gw", address = "192', 'node = "gv", address = "192',
+             'x.toml:33: iface 8 ("gw-wan"): key "node": there is no node "gv"'),
+            ('{name = "pc2", kind', '{name = "pc1", kind',
+             'x.toml:16: node 1 ("pc1"): two nodes have the name "pc1": node 0 too'),
+            ('address = "10.0.1.1"', 'address = "10.0.1.2"',
+             'x.toml:26: iface 1 ("gw-pc1"): interface 0 has this address too'),
+            ('a = "gw-wan", b', 'a = "gw-pc1", b', 'x.toml:26: iface 1 ("gw-pc1"): it is at 2 ends of links, and has '
+                                                   'to be at one'),
             ("rate = 2000000,", "rate = 0,", 'x.toml:44: link 4: key "rate" has to be a whole number 1,000 to'),
             ('via = "pc2-eth0"', 'via = "pc1-eth0"', 'route 1: "pc1-eth0" is no interface of node "pc2"'),
             ("stop =", "stopp =", 'x.toml:11: key "stopp" is unknown; did you mean "stop"?'),

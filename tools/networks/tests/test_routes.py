@@ -20,7 +20,8 @@ GROUPS = {
 
 def spec_of(kind, head=""):
     """A SPEC of one group, with flows among all its nodes."""
-    return f'seed = 7\nstop = "100 ms"\n{head}\n[[group]]\n{GROUPS[kind]}\n[[flow]]\namong = "*"\npairs = "across"\ncount = 3\nstagger = "100 us"\n'
+    flow = '[[flow]]\namong = "*"\npairs = "across"\ncount = 3\nstagger = "100 us"\n'
+    return f'seed = 7\nstop = "100 ms"\n{head}\n[[group]]\n{GROUPS[kind]}\n{flow}'
 
 
 def mixed(weight, spread):
@@ -31,9 +32,11 @@ def mixed(weight, spread):
         lines.append(f'[[node]]\nname = "h{number}"\nkind = "host"')
         for other in {1 + some.below(25), 1 + some.below(25)}:
             rate, delay = 10 ** (6 + some.below(4)), some.below(4) * 1000
-            lines.append(f'[[link]]\na = "h{number}"\nb = "x-{other}"\nrate = {rate}\ndelay = {delay}\ncost = {1 + some.below(3)}')
+            lines.append(f'[[link]]\na = "h{number}"\nb = "x-{other}"\nrate = {rate}\ndelay = {delay}\ncost = '
+                         f'{1 + some.below(3)}')
     for number in range(20):
-        lines.append(f'[[link]]\na = "x-{1 + some.below(12)}"\nb = "x-{13 + some.below(13)}"\nrate = {10 ** (6 + some.below(4))}\ndelay = {some.below(3) * 10**6}')
+        lines.append(f'[[link]]\na = "x-{1 + some.below(12)}"\nb = "x-{13 + some.below(13)}"\nrate = '
+                     f'{10 ** (6 + some.below(4))}\ndelay = {some.below(3) * 10**6}')
     return "\n".join(lines)
 
 
@@ -93,7 +96,8 @@ class Paths(unittest.TestCase):
         for start in range(len(network.nodes)):
             for goal, address in first.items():
                 passed, end = ways.way(start, address)
-                found[start, goal] = sum(paths.cost(network.links[link], weight) for _, _, link in passed) if end is not None else None
+                found[start, goal] = sum(paths.cost(network.links[link], weight)
+                                         for _, _, link in passed) if end is not None else None
         return found
 
     def test_shortest_by_all_pairs(self):
@@ -129,7 +133,8 @@ class Paths(unittest.TestCase):
             ways, used = Ways(network), set()
             for iface in network.ifaces:
                 if network.nodes[iface.node].kind == "host":
-                    used |= {network.nodes[node].name for node, _, _ in ways.way(network.nodes.index(network.nodes[-1]), iface.address)[0]}
+                    used |= {network.nodes[node].name
+                             for node, _, _ in ways.way(network.nodes.index(network.nodes[-1]), iface.address)[0]}
             self.assertGreaterEqual(sum("core" in name for name in used), least)
 
 
@@ -147,7 +152,8 @@ def floyd(network, weight):
         for one in range(count):
             for other in range(count):
                 left, right = found[one, middle], found[middle, other]
-                if left is not None and right is not None and (found[one, other] is None or left + right < found[one, other]):
+                if left is not None and right is not None and (found[one, other] is None
+                                                               or left + right < found[one, other]):
                     found[one, other] = left + right
     return found
 
@@ -174,7 +180,9 @@ def by_networkx(network, weight):
 
 class OnlyFlows(unittest.TestCase):
     def test_routes_to_the_ends_of_flows_are_fewer_and_as_short(self):
-        text = spec_of("random").replace('among = "*"', 'from = "x-1-h1"\nto = ["x-9-h1", "x-20-h1"]').replace('pairs = "across"\n', "")
+        text = spec_of("random").replace('among = "*"',
+                                         'from = "x-1-h1"\nto = ["x-9-h1", "x-20-h1"]').replace('pairs = "across"\n',
+                                                                                                "")
         every = tool.network_of(tool.made(text))
         few = tool.network_of(tool.made("only_flows = true\n" + text))
         self.assertLess(len(few.routes), len(every.routes) / 2)
@@ -193,10 +201,12 @@ class Limits(unittest.TestCase):
         held = limits.NODE_ROUTES, limits.ROUTES
         try:
             limits.NODE_ROUTES = 5
-            with self.assertRaisesRegex(errors.Refused, r'node "x-\d+" would need \d+ routes, and at most 5 may be: route only to the ends of flows'):
+            with self.assertRaisesRegex(errors.Refused, r'node "x-\d+" would need \d+ routes, and at most 5 may be: '
+                                                        r'route only to the ends of flows'):
                 routes.computed(network, "hops", True, "x.toml")
             limits.NODE_ROUTES, limits.ROUTES = held[0], 20
-            with self.assertRaisesRegex(errors.Refused, r"the network would need \d+ routes, and at most 20 may be: route only to the ends of flows"):
+            with self.assertRaisesRegex(errors.Refused, r"the network would need \d+ routes, and at most 20 may be: "
+                                                        r"route only to the ends of flows"):
                 routes.computed(network, "hops", True, "x.toml")
         finally:
             limits.NODE_ROUTES, limits.ROUTES = held

@@ -35,6 +35,14 @@ def needs_program(name):
     return unittest.skipUnless(shutil.which(name), f"the program {name} is not installed")
 
 
+def cases(name):
+    """The cases of a file of the tests: the line behind `== `, and the text below it."""
+    with open(os.path.join(DATA, name), encoding="utf-8") as file:
+        parts = ("\n" + file.read()).split("\n== ")[1:]
+    split = [part.rstrip("\n").partition("\n") for part in parts]
+    return [(line, text + "\n" if text else "") for line, _, text in split]
+
+
 def call(*words):
     """What tools/network ends with: its status, its standard output and standard error."""
     said, beside = io.StringIO(), io.StringIO()
@@ -75,7 +83,8 @@ class Folder(unittest.TestCase):
 
     def nullsim(self, *words):
         """What nullsim prints, which has to end well."""
-        ended = subprocess.run([NULLSIM, *words], stdout=subprocess.PIPE, stderr=subprocess.PIPE, timeout=SECONDS, check=False)
+        ended = subprocess.run([NULLSIM, *words], stdout=subprocess.PIPE, stderr=subprocess.PIPE, timeout=SECONDS,
+                               check=False)
         self.assertEqual(ended.returncode, 0, (words, ended.stdout[-500:], ended.stderr))
         return ended.stdout
 

@@ -1,6 +1,6 @@
 //! A refused growth is an error after which nothing has changed, and the same call then answers as
 //! if nothing had been refused: what these tests show where an allocation is refused
-//! (`tools/refuse-growths`).
+//! (`dev/attack/refuse-growths`).
 //!
 //! What a test only needs is asked for twice, so that it is there even where memory was refused.
 

@@ -1,0 +1,106 @@
+"""Topologies: read from TOML, cut into parts, and written as TOML or as the plain lines that the C++ programs read
+(network.h)."""
+
+from dev.lib.networks import toml_of
+
+# The keys of a source that come after its kind's own, and what they are where they are absent.
+TIMED = (("size", None), ("fill", 0), ("start", None), ("interval", None), ("count", None), ("ttl", 64))
+
+
+def read(path):
+    """A topology as a dictionary with every array there."""
+    topology = toml_of(path)
+    for name in ("node", "iface", "link", "route", "source"):
+        topology.setdefault(name, [])
+    return topology
+
+
+def number_of(address):
+    """An address as a number of 32 bits."""
+    number = 0
+    for part in address.split("."):
+        number = number << 8 | int(part)
+    return number
+
+
+def numbers(tables):
+    return {table["name"]: number for number, table in enumerate(tables)}
+
+
+def source_lines(source, nodes, ifaces):
+    node = nodes[source["node"]]
+    if source["kind"] == "raw":
+        yield f"raw {node} {ifaces[source['via']]}"
+        for packet in source["packet"]:
+            yield f"packet {packet['at']} {packet['data']}"
+        return
+    own = [source["sport"], source["dport"]] if source["kind"] == "cbr" else [source["ident"]]
+    words = [node, number_of(source["to"]), *own, *(source.get(key, absent) for key, absent in TIMED)]
+    yield f"{source['kind']} {' '.join(map(str, words))}"
+
+
+def plain_lines(topology):
+    """The lines of a topology for the C++ programs."""
+    nodes, ifaces = numbers(topology["node"]), numbers(topology["iface"])
+    yield f"stop {topology['stop']}"
+    yield f"mtu {topology['mtu']}"
+    for number, node in enumerate(topology["node"]):
+        yield f"node {node['name']} {node['kind']}"
+        yield from (f"port {number} {port}" for port in node.get("ports", []))
+    for iface in topology["iface"]:
+        octets = iface.get("queue_octets", -1)
+        yield f"iface {iface['name']} {nodes[iface['node']]} {number_of(iface['address'])} {iface['queue']} {octets}"
+    for link in topology["link"]:
+        yield f"link {ifaces[link['a']]} {ifaces[link['b']]} {link['rate']} {link['delay']}"
+    for route in topology["route"]:
+        address, length = route["to"].split("/")
+        yield f"route {nodes[route['node']]} {number_of(address)} {length} {ifaces[route['via']]}"
+    for source in topology["source"]:
+        yield from source_lines(source, nodes, ifaces)
+
+
+def write_plain(topology, path):
+    with open(path, "w", encoding="ascii") as file:
+        file.writelines(line + "\n" for line in plain_lines(topology))
+
+
+def toml_text(value):
+    if isinstance(value, dict):
+        return "{" + ", ".join(f"{key} = {toml_text(part)}" for key, part in value.items()) + "}"
+    if isinstance(value, list):
+        return "[" + ", ".join(map(toml_text, value)) + "]"
+    return f'"{value}"' if isinstance(value, str) else str(value)
+
+
+def write_toml(topology, path):
+    """Writes a topology as TOML, with a line for each key."""
+    with open(path, "w", encoding="ascii") as file:
+        file.writelines(f"{key} = {toml_text(value)}\n" for key, value in topology.items())
+
+
+def in_one_partition(topology):
+    """The same network without partitions: they change no trace."""
+    return topology | {"node": [node | {"partition": 0} for node in topology["node"]]}
+
+
+def without_raw(topology):
+    """The same network without its raw packets, and all else as it is."""
+    return topology | {"source": [source for source in topology["source"] if source["kind"] != "raw"]}
+
+
+def source_parts(topology):
+    """The number of each source, with each of its packets where it is raw, or nothing."""
+    for number, source in enumerate(topology["source"]):
+        yield from ((number, packet)
+                    for packet in (range(len(source["packet"])) if source["kind"] == "raw" else [None]))
+
+
+def with_parts(topology, parts):
+    """The same network with these parts of its sources alone; a source of which nothing is left goes."""
+    sources = []
+    for number, source in enumerate(topology["source"]):
+        packets = [packet for part, packet in parts if part == number]
+        if packets:
+            is_raw = source["kind"] == "raw"
+            sources.append(source | {"packet": [source["packet"][at] for at in packets]} if is_raw else source)
+    return topology | {"source": sources}

@@ -1,0 +1,69 @@
+"""The comparison of speed: ns-3, nullsim and a bare loop over the same networks, in turn."""
+
+import os
+
+from dev.compare import plain, programs
+from dev.lib import here, process, topologies
+
+# Each network, the packets of a source for ns-3, and for the other two, which are faster: so that each run takes about
+# two seconds or more.
+NETWORKS = (("line-1000", "a line of 64 routers", 7_940, 16), ("grid-1000", "a grid of 16 by 16 routers", 708, 12),
+            ("ring-1000", "a ring of 64 routers", 245, 16),
+            ("star-1000", "32 hosts around one whose link is too slow", 10_400, 12))
+RUNS = 3
+# Trace files of a whole run would fill a disk: with them there is this part of ns-3's packets, for all three.
+TRACED_PART = 2
+HEAD = ("Network", "Trace files", "ns-3", "nullsim", "bare loop", "nullsim to ns-3", "loop to nullsim", "Memory: ns-3",
+        "nullsim", "loop", "Shortest run")
+
+
+class Network:
+    """A network for a number of packets, as a topology and as plain lines, and its packet-hops."""
+
+    def __init__(self, kind, packets, folder):
+        self.text = topologies.generate(kind, os.path.join(folder, f"{kind}-{packets}.toml"), packets)
+        self.lines = os.path.join(folder, f"{kind}-{packets}.plain")
+        plain.write_plain(plain.read(self.text), self.lines)
+        self.hops = int(programs.call([programs.LOOP, self.lines]).split()[1])
+
+
+def timed(words):
+    """The processor seconds and the peak of memory in MiB of a run; the word DIR is a new folder for trace files."""
+    with process.folder("compare") as folder:
+        used = process.timed(*(folder if word == "DIR" else word for word in words))
+    return used.user + used.system, used.memory
+
+
+def best(works):
+    """Runs each of several works in turn, some times over, and gives the best of each."""
+    found = [[timed(words) for words in works] for _ in range(RUNS)]
+    return [(min(one[0] for one in column), max(one[1] for one in column)) for column in zip(*found)]
+
+
+def row(name, files, hops, found):
+    """A line of the table: millions of packet-hops a second of processor time, and memory."""
+    rates = [count / seconds / 1e6 for count, (seconds, _) in zip(hops, found)]
+    least = min(seconds for seconds, _ in found)
+    cells = [name, files, *(f"{rate:.2f}" for rate in rates), f"{rates[1] / rates[0]:.1f}",
+             f"{rates[2] / rates[1]:.1f}",
+             *(f"{memory:.0f} MiB" for _, memory in found), f"{least:.1f} s"]
+    return f"| {' | '.join(cells)} |"
+
+
+def rows(kind, name, packets, factor, folder):
+    slow, fast = Network(kind, packets, folder), Network(kind, packets * factor, folder)
+    works = [[programs.NS3, slow.lines], [here.NULLSIM, "one", fast.text], [programs.LOOP, fast.lines]]
+    yield row(name, "none", (slow.hops, fast.hops, fast.hops), best(works))
+    traced = Network(kind, packets // TRACED_PART, folder)
+    works = [[programs.NS3, traced.lines, "--traces", "DIR"], [here.NULLSIM, "run", traced.text, "DIR", "1", "1"],
+             [programs.LOOP, traced.lines, "--traces", "DIR"]]
+    yield row(name, "all", (traced.hops,) * 3, best(works))
+
+
+def table():
+    """The table, line by line, each as soon as it is known."""
+    yield f"| {' | '.join(HEAD)} |"
+    yield "|" + "---|" * len(HEAD)
+    with process.folder("compare") as folder:
+        for network in NETWORKS:
+            yield from rows(*network, folder)

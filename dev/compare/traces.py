@@ -1,0 +1,229 @@
+"""The comparison of traces: each set of topologies through nullsim and ns-3, interface by interface and packet by
+packet."""
+
+import collections
+import os
+
+from dev.compare import plain, programs, reasons, sets
+from dev.compare.differences import Compared, records_in
+from dev.lib import here, pcap, process
+
+# What the bare loop says of a network that it does not simulate.
+NOT_SIMULATED = "is not simulated"
+# The name of the set of networks with one source.
+ALONE = "alone"
+# The status of `verify` where a trace file differs.
+DIFFERS = 8
+
+
+class Tally:
+    """What was found in a set."""
+
+    def __init__(self, name, what):
+        self.name, self.what = name, what
+        self.topologies = self.equal = self.verified = self.ifaces = self.equal_ifaces = self.records = 0
+        self.names, self.unknown = collections.defaultdict(list), []
+        self.ties = self.tied = self.loops = 0
+
+    def add(self, name, compared, found):
+        self.topologies += 1
+        self.equal += not compared.differences
+        self.ifaces += len(compared.ours)
+        self.equal_ifaces += compared.equal
+        self.records += compared.records
+        for why in found:
+            self.names[why].append(name)
+
+
+def write_traces(topology, folder, name, words):
+    """The traces of a topology by a program, nullsim or another, in the new folder `name` of `folder`."""
+    made, text = os.path.join(folder, name), os.path.join(folder, name + ".text")
+    os.mkdir(made)
+    if words[0] == here.NULLSIM:
+        plain.write_toml(plain.in_one_partition(topology), text)
+        programs.call([*words, text, made, "1", "1"])
+    else:
+        plain.write_plain(topology, text)
+        programs.call([words[0], text, "--traces", made, *words[1:]])
+
+
+def simulate(topology, folder, words):
+    """nullsim's traces of a topology and those of another program, compared."""
+    write_traces(topology, folder, "ours", [here.NULLSIM, "run"])
+    write_traces(topology, folder, "theirs", words)
+    names = [iface["name"] for iface in topology["iface"]]
+    return Compared(names, os.path.join(folder, "ours"), os.path.join(folder, "theirs"))
+
+
+def is_verified(folder, compared):
+    """Whether `verify` says of ns-3's trace files, as files of raw IP, what the comparison of records says: the first
+    simulation in this folder."""
+    made = os.path.join(folder, "raw")
+    os.mkdir(made)
+    for name in compared.ours:
+        with open(os.path.join(made, f"{name}.pcap"), "wb") as file:
+            file.write(pcap.raw(records_in(os.path.join(folder, "theirs"), name)))
+    ended = process.nullsim("verify", os.path.join(folder, "ours.text"), made, seconds=programs.SECONDS)
+    return ended.status == (DIFFERS if compared.differences else 0)
+
+
+def reasons_of(topology, compared):
+    """The reasons of the earliest differences, and those that have none."""
+    node_of = {iface["name"]: iface["node"] for iface in topology["iface"]}
+    found, unknown = set(), []
+    for difference in compared.earliest() if compared.differences else []:
+        node = node_of[difference.iface]
+        arrived = [packet for name, records in compared.ours.items() if node_of[name] == node
+                   for time, packet in records if time <= difference.at]
+        why = reasons.reason(difference, arrived)
+        if why:
+            found.add(why)
+        else:
+            unknown.append(difference)
+    return found, unknown
+
+
+def packet_words(packet):
+    return packet.hex() if packet else "none"
+
+
+def try_topology(name, topology, tally):
+    """Compares one topology, and counts and prints what is found."""
+    with process.folder("compare") as folder:
+        try:
+            compared = simulate(topology, folder, [programs.NS3, "--places"])
+            verified = is_verified(folder, compared)
+        except process.Failed as failed:
+            tally.topologies += 1
+            tally.unknown.append(name)
+            print(f"{tally.name}: {name}: {failed}: UNKNOWN", flush=True)
+            return None
+    found, unknown = reasons_of(topology, compared)
+    tally.add(name, compared, found)
+    tally.verified += verified
+    if not verified:
+        tally.unknown.append(name)
+        print(f"{tally.name}: {name}: verify says otherwise of ns-3's files: UNKNOWN", flush=True)
+    if compared.differences:
+        first = compared.differences[0]
+        print(f"{tally.name}: {name}: {compared.equal} of {len(compared.ours)} interfaces are equal; the first "
+              f"difference is at {first.at} ns, {first.iface}: {', '.join(sorted(found))}", flush=True)
+    for one in unknown:
+        tally.unknown.append(name)
+        print(f"  UNKNOWN at {one.at} ns, {one.iface}, record {one.number}: ours {packet_words(one.our_packet)}, "
+              f"theirs {packet_words(one.their_packet)}")
+    return compared
+
+
+def try_ties(name, topology, tally):
+    """Whether ns-3's own order of the events of one nanosecond gives other traces."""
+    with process.folder("compare") as folder:
+        compared = simulate(topology, folder, [programs.NS3])
+    tally.tied += 1
+    tally.ties += bool(compared.differences)
+    if compared.differences:
+        print(f"{tally.name}: {name}: ns-3's own order of ties gives other traces at "
+              f"{len(compared.ours) - compared.equal} interfaces of {len(compared.ours)}", flush=True)
+
+
+def try_loop(topology, tally):
+    """Whether the bare loop's traces are equal too, where it simulates the topology whole."""
+    with process.folder("compare") as folder:
+        try:
+            compared = simulate(topology, folder, [programs.LOOP])
+        except process.Failed as failed:
+            if NOT_SIMULATED not in str(failed):
+                raise
+            return
+    tally.loops += 1
+    if compared.differences:
+        tally.unknown.append("the bare loop")
+        print(f"{tally.name}: the traces of the bare loop differ: UNKNOWN", flush=True)
+
+
+def try_set(name, what, topologies):
+    tally = Tally(name, what)
+    for label, topology in topologies:
+        try_whole(label, topology, tally)
+    return tally
+
+
+def try_whole(label, topology, tally):
+    """Compares a topology, and where it is equal also what ns-3's own order of ties and the bare loop make of it."""
+    compared = try_topology(label, topology, tally)
+    if compared and not compared.differences:
+        try_ties(label, topology, tally)
+        if tally.name == "generated":
+            try_loop(topology, tally)
+
+
+def try_parts():
+    """Each source of the stored networks alone, each raw packet alone; then each network with all sources and packets
+    that are equal alone."""
+    alone = Tally(ALONE, "the same, of each network one source or one raw packet at a time")
+    rest = Tally("rest", "the same, of each network all sources and raw packets that are equal alone")
+    for name, topology in sets.networks():
+        equal = []
+        for part, single in sets.by_source(topology):
+            compared = try_topology(f"{name} source {part[0]} packet {part[1]}", single, alone)
+            if compared and not compared.differences:
+                equal.append(part)
+        try_whole(name, plain.with_parts(topology, equal), rest)
+    return [alone, rest]
+
+
+def set_row(tally):
+    counts = [tally.topologies, tally.equal, tally.ifaces, tally.equal_ifaces, tally.records]
+    cells = [f"*{tally.name}*: {tally.what}", *(f"{count:,}" for count in counts)]
+    return f"| {' | '.join(cells)} | {tally.ties if tally.tied else ''} | {tally.verified:,} |"
+
+
+def set_table(tallies):
+    yield ("| Topologies | Number | Equal | Interfaces | Equal | Records in our traces "
+           "| Equal, but not with ns-3's own order of ties | `verify` says the same |")
+    yield "|---|---|---|---|---|---|---|---|"
+    yield from map(set_row, tallies)
+    loops = sum(tally.loops for tally in tallies)
+    if loops:
+        yield ""
+        yield (f"The bare loop's traces of {loops} of the generated topologies are equal too; the others need ICMP "
+               "errors, which it has not.")
+
+
+def reason_table(tallies):
+    yield "| Earliest difference | " + " | ".join(f"*{tally.name}*" for tally in tallies) + " |"
+    yield "|---|" + "---|" * len(tallies)
+    for name, words in reasons.REASONS.items():
+        counts = [len(tally.names[name]) for tally in tallies]
+        if any(counts):
+            yield f"| **{name}**: {words} | " + " | ".join(str(count or "") for count in counts) + " |"
+
+
+def name_table(tallies):
+    """Which networks differ, but for those with one source: these are printed as they are compared."""
+    yield "| Earliest difference | Networks |"
+    yield "|---|---|"
+    for tally in tallies:
+        if tally.name != ALONE:
+            for why in reasons.REASONS:
+                if tally.names[why]:
+                    names = ", ".join(name.removesuffix(".toml") for name in tally.names[why])
+                    yield f"| {why}, *{tally.name}* | {names} |"
+
+
+def tables(tallies):
+    """The tables of what was compared, as lines."""
+    yield from set_table(tallies)
+    if any(tally.equal < tally.topologies for tally in tallies):
+        yield ""
+        yield from reason_table(tallies)
+        yield ""
+        yield from name_table(tallies)
+
+
+def every(paths):
+    """Compares all sets, or the topologies of these files: the tallies."""
+    if paths:
+        return [try_set("files", "the files named", sets.of_files(paths))]
+    with process.folder("compare") as folder:
+        return [try_set(*one) for one in sets.every(folder)] + try_parts()

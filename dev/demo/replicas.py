@@ -1,0 +1,86 @@
+"""The processes, each of which prints once a second on standard error how far it is (docs/FORMATS.md, Runs)."""
+
+import ctypes
+import signal
+from collections import Counter
+
+from dev.lib import here
+from dev.lib.nodes import Node
+
+DIES_WITH_PARENT = 1
+# The words of the line `safe S events E records R messages M nulls N connections C broken B resent R`.
+WORDS = ("safe", "events", "records", "messages", "nulls", "connections", "broken", "resent")
+
+
+def numbers(words, values):
+    """The numbers that stand beside words that are known; others may come with a later program."""
+    return {word: int(value) for word, value in zip(words, values) if word in WORDS and value.isdecimal()}
+
+
+def figures(lines):
+    """What lines of standard error have last, by their words: lines `safe S events E ..`, and the row of the table that
+    comes at the end."""
+    found, head = {}, []
+    for line in lines:
+        words = line.split()
+        if words[:1] == ["safe"]:
+            found.update(numbers(words[::2], words[1::2]))
+        elif head:
+            found.update(numbers(head, words))
+        head = words if words[:2] == ["partition", "replica"] else []
+    return found
+
+
+def records(lines):
+    """How many records lines `iface NAME records N octets M` have in all."""
+    return sum(int(words[3]) for words in map(str.split, lines) if words[:1] == ["iface"])
+
+
+class Replica(Node):
+    """One replica of a partition as a process, perhaps begun again: it ends when this process does."""
+
+    def __init__(self, network, key, folder, ports, places):
+        self.places = places
+        # What the process printed, and what those before it counted.
+        self.figures, self.before = {}, Counter()
+        super().__init__(network, key, folder, ports, further=("stats", "keep"))
+
+    def prepare(self):
+        """What a child does before it becomes the program."""
+        ctypes.CDLL(None).prctl(DIES_WITH_PARENT, signal.SIGKILL)
+        self.places.enter(self.key)
+
+    def begin(self):
+        self.before.update(self.figures)
+        super().begin()
+        self.figures = {}
+
+    def lines(self):
+        """The whole lines that it printed on standard error."""
+        return self.said().decode(errors="replace").split("\n")[:-1]
+
+    def look(self):
+        """Reads what the program printed. Its last line a second may be older than its end; then all is simulated."""
+        has_ended = self.status() == 0
+        self.figures = figures(self.lines())
+        if has_ended:
+            self.figures.update(safe=self.network.stop, records=records(here.octets(self.out).decode().splitlines()))
+
+    def safe(self):
+        """Its safe time in nanoseconds, as far as the process that runs has printed it."""
+        return self.figures.get("safe", 0)
+
+    def share(self):
+        """How much of the simulated time is safe, in percent."""
+        return 100 * self.safe() // self.network.stop
+
+    def total(self, word):
+        """What the process that runs, and one that was killed before it, counted."""
+        return self.before[word] + self.figures.get(word, 0)
+
+    def status(self):
+        return self.child.poll()
+
+    def fault(self):
+        """The line that names a fault, if there is one."""
+        return next((line for line in self.lines() if line.startswith("nullsim:")), "")

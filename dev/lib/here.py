@@ -1,0 +1,87 @@
+"""Where things are, what crates.txt says, and the parts of documents that scripts write."""
+
+import os
+
+ROOT = os.path.dirname(os.path.dirname(os.path.dirname(os.path.abspath(__file__))))
+# The program that is tried; --nullsim puts another in its place.
+NULLSIM = os.path.join(ROOT, "bin", "nullsim")
+
+
+def path(*parts):
+    """A path below the root of the repository."""
+    return os.path.join(ROOT, *parts)
+
+
+def example(name):
+    """The topology of examples/ that has a name."""
+    return path("examples", f"{name}.toml")
+
+
+def topologies():
+    """The topologies of examples/, beside which SPECs of tools/network stand."""
+    names = sorted(os.listdir(path("examples")))
+    return [path("examples", it) for it in names if it.endswith(".toml") and not it.endswith(".spec.toml")]
+
+
+def read(*parts):
+    """The text of a file, by its path from the root."""
+    with open(path(*parts), encoding="utf-8") as file:
+        return file.read()
+
+
+def octets(name):
+    """The octets of a file."""
+    with open(name, "rb") as file:
+        return file.read()
+
+
+def crates():
+    """The crates of crates.txt, lowest first, each with the crates of the repository and the toolchain that it uses."""
+    return {name: uses for name, _, uses in crate_lines()}
+
+
+def crate_lines():
+    """The name of each crate, what stands before the colon of its line, and what it depends on."""
+    for line in read("crates.txt").splitlines():
+        head, found, uses = line.split("#")[0].partition(":")
+        if found:
+            yield head.split()[0], head.strip(), uses.split()
+
+
+def below(crate, known):
+    """All crates of the repository that a crate depends on, each after those that it depends on itself."""
+    found = []
+    for name in known[crate]:
+        if name in known:
+            found += [it for it in [*below(name, known), name] if it not in found]
+    return found
+
+
+def files(*parts, ends=""):
+    """The files below a folder whose names have an end, in one order."""
+    found = []
+    for folder, _, names in os.walk(path(*parts), followlinks=True):
+        found += [os.path.join(folder, name) for name in names if name.endswith(ends)]
+    return sorted(found)
+
+
+def marks(name):
+    """What stands before and behind the part of a document that a script writes."""
+    return f"<!-- {name}: begin -->\n", f"<!-- {name}: end -->"
+
+
+def between(document, name):
+    """The part of a document between its marks, and what stands before and behind it."""
+    begin, end = marks(name)
+    before, found, rest = read(document).partition(begin)
+    part, closed, behind = rest.partition(end)
+    if not found or not closed:
+        raise ValueError(f"{document} has no marks of {name}")
+    return part, before + begin, end + behind
+
+
+def write_between(document, name, text):
+    """Writes lines between the marks of a part of a document."""
+    _, before, behind = between(document, name)
+    with open(path(document), "w", encoding="utf-8") as file:
+        file.write(f"{before}{text}\n{behind}")

@@ -1,0 +1,330 @@
+#!/usr/bin/env python3
+"""Writes a topology for a measurement or an attack to standard output.
+
+docs/BENCH.md says what each kind is, and how many packets it sends where no number is given."""
+
+import sys
+
+# The octets of the headers of a datagram: IPv4 and UDP.
+HEADERS = 28
+GIGABIT = 1_000_000_000
+# The stop of a run that ends by itself.
+LATE = 10 ** 12
+
+
+def quoted(value):
+    if isinstance(value, list):
+        return "[" + ", ".join(map(str, value)) + "]"
+    return f'"{value}"' if isinstance(value, str) else str(value)
+
+
+def table(members):
+    """The fields of a member of an array, in their order."""
+    return ", ".join(f"{key} = {quoted(value)}" for key, value in members.items())
+
+
+class Net:
+    """Nodes, links and flows; routes by a shortest path from every node to each address that is reached."""
+
+    def __init__(self):
+        self.nodes, self.ifaces, self.links, self.routes, self.sources = [], [], [], [], []
+        # For each node the interface that leads to each neighbour, and its first address.
+        self.next, self.address = {}, {}
+
+    def node(self, name, kind="router", partition=0):
+        self.nodes.append({"name": name, "kind": kind, "partition": partition, "ports": [9]})
+        self.next[name] = {}
+
+    def routers(self, names, partition_of=lambda number: 0):
+        """Routers in partitions by their number."""
+        for number, name in enumerate(names):
+            self.node(name, partition=partition_of(number))
+
+    def link(self, a, b, rate=GIGABIT, delay=1_000):
+        high, low = divmod(len(self.links), 256)
+        ends = []
+        for node, far, host in ((a, b, 1), (b, a, 2)):
+            name, address = f"{node}-{len(self.next[node])}", f"10.{high}.{low}.{host}"
+            self.ifaces.append({"name": name, "node": node, "address": address, "queue": 64})
+            self.address.setdefault(node, address)
+            self.next[node][far] = name
+            ends.append(name)
+        self.links.append({"a": ends[0], "b": ends[1], "rate": rate, "delay": delay})
+
+    def route(self, node, target, via):
+        self.routes.append({"node": node, "to": f"{self.address[target]}/32", "via": via})
+
+    def reach(self, target):
+        """Routes of every node to the first address of a node, by breadth-first search: the name of the node."""
+        seen, front = {target}, [target]
+        while front:
+            after = []
+            for here in front:
+                for there in self.next[here]:
+                    if there not in seen:
+                        seen.add(there)
+                        after.append(there)
+                        self.route(there, target, self.next[there][here])
+            front = after
+        return target
+
+    def flow(self, node, target, octets, start, interval, count):
+        """Packets of so many octets from a node to the first address of another."""
+        self.sources.append({
+            "kind": "cbr", "node": node, "to": self.address[target], "sport": 1000, "dport": 9,
+            "size": octets - HEADERS, "start": start, "interval": interval, "count": count,
+        })
+
+    def text(self, stop=LATE):
+        lines = ["format = 1", f"stop = {stop}", "mtu = 1500"]
+        arrays = {"node": self.nodes, "iface": self.ifaces, "link": self.links, "route": self.routes,
+                  "source": self.sources}
+        for key, members in arrays.items():
+            lines += [f"{key} = [", *(f"  {{{table(it)}}}," for it in members), "]"]
+        return "\n".join(lines) + "\n"
+
+
+def line(packets=15_900, octets=100, interval=4_000, routers=64, stop=LATE, partitions=1):
+    """Packets along a line of routers, from one end to the other; the line is cut into parts of equal length."""
+    net, names = Net(), [f"r{number}" for number in range(routers)]
+    net.routers(names, lambda number: number * partitions // routers)
+    for name, after in zip(names, names[1:]):
+        net.link(name, after)
+    net.flow(names[0], net.reach(names[-1]), octets, 0, interval, packets)
+    return net.text(stop)
+
+
+def ring(packets=245, octets=1_000, routers=64, delay=10_000, stop=LATE, partitions=1):
+    """Flows from each router of a ring to the one across."""
+    net, names = Net(), [f"r{number}" for number in range(routers)]
+    net.routers(names, lambda number: number * partitions // routers)
+    for number, name in enumerate(names):
+        net.link(name, names[(number + 1) % routers], GIGABIT, delay)
+    for number, name in enumerate(names):
+        target = net.reach(names[(number + routers // 2) % routers])
+        net.flow(name, target, octets, 1_000 * number, 400_000, packets)
+    return net.text(stop)
+
+
+def cut_ring(partitions=64):
+    """A ring with a partition for each router, and two channels for each link: few packets, many null messages."""
+    return ring(routers=partitions, delay=1_000_000, stop=200_000_000, partitions=partitions)
+
+
+def both(packets=5):
+    """Four routers in a ring, two in each of two partitions: two links join these, and each router sends across."""
+    net, names = Net(), ["r0", "r1", "r2", "r3"]
+    net.routers(names, lambda number: number // 2)
+    for number, name in enumerate(names):
+        net.link(name, names[(number + 1) % 4], 8_000_000, 1_000_000)
+    for number, name in enumerate(names):
+        target = net.reach(names[(number + 2) % 4])
+        net.flow(name, target, HEADERS + 20 * number + 1, 100_000 * number, 1_500_000, packets)
+    return net.text(20_000_000)
+
+
+# A grid's links: all of one rate and delay, or rates and delays that differ from link to link: 100 Mbit/s to
+# 10 Gbit/s, and a microsecond to 10 milliseconds in equal ratios.
+def same_links(number, count):
+    return GIGABIT, 10_000
+
+
+def far_links(number, count):
+    return GIGABIT, 1_000_000
+
+
+def mixed_links(number, count):
+    return 10 ** (8 + number % 3), round(1_000 * 10_000 ** (number * 37 % count / (count - 1)))
+
+
+def edges(x, y):
+    """Routers at two edges of a grid."""
+    return x == 0 or y == 0
+
+
+def grid(packets=2_000, octets=228, interval=50_000, side=8, links=same_links, sends=lambda x, y: True, stop=LATE,
+         cuts=(1, 1)):
+    """Flows from the routers of a grid that send to the ones across; the grid is cut into so many by so many parts."""
+    net, (rows, columns) = Net(), cuts
+    places = [(x, y) for x in range(side) for y in range(side)]
+    for x, y in places:
+        net.node(f"g{x}-{y}", partition=x * rows // side * columns + y * columns // side)
+    for x, y in places:
+        for u, v in ((x + 1, y), (x, y + 1)):
+            if u < side and v < side:
+                net.link(f"g{x}-{y}", f"g{u}-{v}", *links(len(net.links), 2 * side * (side - 1)))
+    for x, y in places:
+        if sends(x, y):
+            target = net.reach(f"g{side - 1 - x}-{side - 1 - y}")
+            net.flow(f"g{x}-{y}", target, octets, 1_000 * (x * side + y), interval, packets)
+    return net.text(stop)
+
+
+def cut_line(partitions):
+    """`line`, cut, and stopped soon after its last packet arrived: a round is a microsecond of simulated time."""
+    return line(stop=64_000_000, partitions=partitions)
+
+
+def cut_grid(partitions):
+    """`grid`, cut into squares, and stopped soon after its last packet arrived: a round is ten microseconds."""
+    side = round(partitions ** 0.5)
+    return grid(stop=110_000_000, cuts=(side, side))
+
+
+# How many by how many parts a grid is cut into, by their number.
+CUTS = {1: (1, 1), 2: (1, 2), 4: (2, 2), 8: (2, 4), 16: (4, 4)}
+
+
+def edge_grid(partitions, links):
+    """Routers at two edges of a grid of 16 by 16 send packets of 1,000 octets across: some million packet-hops."""
+    return grid(708, 1_000, 100_000, side=16, links=links, sends=edges, stop=110_000_000, cuts=CUTS[partitions])
+
+
+def star(packets=20_000, octets=528, interval=60_000, leaves=32):
+    """Hosts that send to one host over a link that is too slow."""
+    net = Net()
+    net.node("hub")
+    net.node("sink", "host")
+    net.link("hub", "sink", 100_000_000)
+    for number in range(leaves):
+        net.node(f"h{number}", "host")
+        net.link(f"h{number}", "hub")
+        net.flow(f"h{number}", "sink", octets, 100 * number, interval, packets)
+    net.reach("sink")
+    return net.text()
+
+
+def many(packets=490, sources=1_024):
+    """Many sources at one host, which sends through a router to another."""
+    net = Net()
+    for name, kind in (("h0", "host"), ("r", "router"), ("h1", "host")):
+        net.node(name, kind)
+    net.link("h0", "r")
+    net.link("r", "h1")
+    net.reach("h1")
+    for number in range(sources):
+        net.flow("h0", "h1", 100, 1_000 * number, 1_000 * sources, packets)
+    return net.text()
+
+
+def hub(packets, delay, hosts=256):
+    """Hosts around a hub that send to it, so many packets in all; the delay of each host's link by its number."""
+    net = Net()
+    net.node("hub")
+    for number in range(hosts):
+        net.node(f"h{number}", "host")
+        net.link(f"h{number}", "hub", GIGABIT, delay(number / (hosts - 1)))
+    net.reach("hub")
+    for number in range(hosts):
+        net.flow(f"h{number}", "hub", 100, 40 * number, 10_240, packets // hosts)
+    return net.text()
+
+
+def equal(packets):
+    """Every link has a delay of a millisecond: arrivals come in the order of their keys."""
+    return hub(packets, lambda part: 1_000_000)
+
+
+def spread(packets):
+    """Delays from a microsecond to a second, in equal ratios: arrivals come in no order."""
+    return hub(packets, lambda part: round(1_000 * 1_000_000 ** part))
+
+
+def channels(count=1):
+    """A router in partition 0, with links to so many hosts in partition 1: no packet is sent."""
+    net = Net()
+    net.node("c")
+    for number in range(count):
+        net.node(f"h{number}", "host", 1)
+        net.link("c", f"h{number}")
+    return net.text(10 ** 15)
+
+
+def pair(stop, packets=0, interval=20_000):
+    """Two hosts in two partitions: the first sends datagrams to the second. Each null message raises a clock by
+    1,001,000 ns at most."""
+    net = Net()
+    net.node("a", "host")
+    net.node("b", "host", 1)
+    net.link("a", "b", 8_000_000_000 if packets else 8_000_000, 1_000_000)
+    net.reach("b")
+    if packets:
+        net.flow("a", "b", 100, 0, interval, packets)
+    return net.text(stop)
+
+
+def nulls(rounds=1_000):
+    """Two partitions that send each other null messages alone, so many each way in turn."""
+    return pair(rounds * 1_001_000)
+
+
+def one_way(packets=10_000):
+    """Two partitions, the first of which sends so many messages to the second."""
+    return pair(packets * 20_000 + 10_000_000, packets)
+
+
+def limits(packets=4, partitions=64, size=16, chords=12, between=4, is_cut=True):
+    """64 groups of 16 routers, 2,048 links, of which 256 join groups, and a source and 64 routes for each router. Where
+    it is cut, each group is a partition: every limit at once."""
+    net, groups = Net(), range(partitions)
+    for p in groups:
+        net.routers([f"p{p}-{i}" for i in range(size)], lambda _: p if is_cut else 0)
+    for p in groups:
+        for i in range(size):
+            net.link(f"p{p}-{i}", f"p{p}-{(i + 1) % size}")
+        for i in range(chords):
+            net.link(f"p{p}-{i}", f"p{p}-{(i + 5) % size}", GIGABIT, 2_000)
+        for i in range(between):
+            net.link(f"p{p}-{4 * i}", f"p{(p + 1) % partitions}-{4 * i + 2}", GIGABIT, 100_000)
+    targets = [f"p{p}-{p % size}" for p in groups]
+    for target in targets:
+        # A route at the target itself is never used, but makes 64 for each node.
+        net.route(net.reach(target), target, f"{target}-0")
+    for n, node in enumerate(net.nodes):
+        net.flow(node["name"], targets[(7 * n + n // size) % partitions], 100, 100 * n, 50_000, packets)
+    return net.text(10 ** 9)
+
+
+KINDS = {
+    "line": line,
+    "grid": grid,
+    "line-cut": cut_line,
+    "grid-cut": cut_grid,
+    "grid-far": lambda partitions: edge_grid(partitions, far_links),
+    "grid-near": lambda partitions: edge_grid(partitions, same_links),
+    "ring-cut": cut_ring,
+    "star": star,
+    "line-1000": lambda packets=7_940: line(packets, 1_000, 20_000),
+    "grid-1000": lambda packets=708: grid(packets, 1_000, 100_000, side=16, sends=edges),
+    "star-1000": lambda packets=10_400: star(packets, 1_000, 1_280_000),
+    "ring-1000": ring,
+    "mixed": lambda packets=2_000: grid(packets, links=mixed_links),
+    "routes": lambda packets=50: limits(packets, is_cut=False),
+    "large": lambda packets=2_000: grid(packets, 1_500, 400_000),
+    "many": many,
+    "limits": limits,
+    "hub": equal,
+    "spread": spread,
+    "channels": channels,
+    "both": both,
+    "nulls": nulls,
+    "one-way": one_way,
+}
+
+
+def write(path, text):
+    """Writes the text of a topology to a file: its path."""
+    with open(path, "w", encoding="ascii") as file:
+        file.write(text)
+    return path
+
+
+def generate(kind, path, *numbers):
+    """Writes a topology of a kind to a file: its path."""
+    return write(path, KINDS[kind](*map(int, numbers)))
+
+
+if __name__ == "__main__":
+    if len(sys.argv) < 2 or sys.argv[1] not in KINDS:
+        sys.exit(f"usage: dev/lib/topologies.py KIND [NUMBER]\n\n{__doc__} Kinds: {', '.join(KINDS)}")
+    sys.stdout.write(KINDS[sys.argv[1]](*map(int, sys.argv[2:])))
