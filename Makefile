@@ -126,6 +126,9 @@ demo: bin/nullsim
 deep: bin/nullsim bin/nm_bench bin/nm_worlds
 	@dev/deep $(STEPS)
 
+# How many checks `rt ci` makes side by side.
+test gate-times: export RT_JOBS ?= $(shell dev/jobs)
+
 test: toolchain
 	@dev/words
 	@dev/check/docs --still

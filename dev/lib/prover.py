@@ -5,6 +5,19 @@ import os
 
 from dev.lib import here, process
 
+# What limits the memory of a group of processes (control groups, versions 2 and 1).
+MEMORY_LIMITS = ("/sys/fs/cgroup/memory.max", "/sys/fs/cgroup/memory/memory.limit_in_bytes")
+
+
+def job_count(memory_a_job):
+    """One job a processor, where there is memory for it (octets)."""
+    memory = [os.sysconf("SC_PAGE_SIZE") * os.sysconf("SC_PHYS_PAGES")]
+    for name in MEMORY_LIMITS:
+        if os.path.exists(name):
+            limit = here.octets(name).decode().strip()
+            memory += [int(limit)] if limit.isdigit() else []
+    return max(1, min(len(os.sched_getaffinity(0)), min(memory) // memory_a_job))
+
 
 class Toolchain:
     """Where the prover and its libraries are."""
