@@ -2,7 +2,7 @@
 
 .PHONY: all help try run bench compare cases run-cases check-docs check-edge check-parts check-frames check-links \
   check-network check-pcap check-series check-tools check-worlds cut-connections deep demo tutorial words test \
-  gate-times install uninstall clean toolchain
+  gate-times install uninstall dist clean toolchain
 
 # The topology and the interface of `make try` and `make run`; the folder of `make cases`; how many jobs `make` proves
 # with; which steps of `make deep`; whether `make compare` writes the times of a busy host; where `make install` puts
@@ -61,8 +61,10 @@ Measure
                          ANYWAY=1: on a busy host too
   make gate-times        the gate, with the processor minutes of each crate (docs/CONTRIBUTING.md)
 Install
-  make install           puts bin/nullsim, its manual page and its completion for bash below PREFIX (/usr/local)
+  make install           puts nullsim, nullsim-network, nullsim-page and nullsim-plot, the manual page, the completion for
+                         bash, the documents and the examples below PREFIX (/usr/local)
   make uninstall         removes them
+  make dist              makes an archive and a Debian package of the same files in dist/, with their checksums
 All need the Rattle toolchain (rt) on PATH and python3 of 3.9 or later, and those with a star python3 of 3.11 or later.
 In parentheses are packages of Debian without which something is passed over. None needs a network.
 endef
@@ -138,18 +140,33 @@ test: toolchain
 gate-times: toolchain
 	@dev/gate-times --write
 
-MANUAL = $(DESTDIR)$(PREFIX)/share/man/man1/nullsim.1
-COMPLETION = $(DESTDIR)$(PREFIX)/share/bash-completion/completions/nullsim
+INSTALLED = $(DESTDIR)$(PREFIX)
+MANUAL = $(INSTALLED)/share/man/man1/nullsim.1
+COMPLETION = $(INSTALLED)/share/bash-completion/completions/nullsim
+TOOLS = $(INSTALLED)/share/nullsim/tools
+DOCUMENTS = $(INSTALLED)/share/doc/nullsim
 
 install: bin/nullsim
-	@install -D -m 755 bin/nullsim '$(DESTDIR)$(PREFIX)/bin/nullsim'
+	@install -D -m 755 bin/nullsim '$(INSTALLED)/bin/nullsim'
 	@install -D -m 644 docs/nullsim.1 '$(MANUAL)'
 	@install -D -m 644 tools/completion/nullsim '$(COMPLETION)'
-	@echo 'installed $(DESTDIR)$(PREFIX)/bin/nullsim'
+	@install -D -m 755 -t '$(TOOLS)' tools/network tools/page tools/plot
+	@install -D -m 644 -t '$(TOOLS)/networks' tools/networks/*.py
+	@for tool in network page plot; do ln -sf ../share/nullsim/tools/$$tool '$(INSTALLED)'/bin/nullsim-$$tool; done
+	@install -D -m 644 -t '$(DOCUMENTS)' README.md LICENSE
+	@install -D -m 644 -t '$(DOCUMENTS)/docs' docs/*.md
+	@install -D -m 644 -t '$(DOCUMENTS)/docs/pictures' docs/pictures/*
+	@install -D -m 644 -t '$(DOCUMENTS)/examples' examples/*
+	@echo 'installed $(INSTALLED)/bin/nullsim, and nullsim-network, nullsim-page and nullsim-plot beside it'
 
 uninstall:
-	@rm -f '$(DESTDIR)$(PREFIX)/bin/nullsim' '$(MANUAL)' '$(COMPLETION)'
+	@rm -f '$(INSTALLED)'/bin/nullsim '$(INSTALLED)'/bin/nullsim-network '$(INSTALLED)'/bin/nullsim-page \
+	  '$(INSTALLED)'/bin/nullsim-plot '$(MANUAL)' '$(COMPLETION)'
+	@rm -rf '$(INSTALLED)/share/nullsim' '$(DOCUMENTS)'
+
+dist: bin/nullsim
+	@dev/dist dist
 
 clean:
-	@rm -rf bin crates/*/out
+	@rm -rf bin dist crates/*/out
 	@find dev tools -name __pycache__ -prune -exec rm -rf {} +
