@@ -1,5 +1,6 @@
 """The network as a drawing in SVG: by Graphviz where it is installed, or else its nodes on a circle."""
 
+import colorsys
 import html
 import math
 import re
@@ -9,12 +10,24 @@ import subprocess
 from networks import units
 
 SECONDS = 60
-# Fills of partitions, pale, so that names can be read on them; they begin anew after the last.
+# Fills of the first partitions, pale, so that names can be read on them.
 FILLS = ("#dbeafe", "#dcfce7", "#fef3c7", "#fae8ff", "#fee2e2", "#e0e7ff", "#ccfbf1", "#f1f5f9")
-# More nodes than this are drawn by the way of Graphviz that is made for many.
+# Of the others the hues follow one another by the golden angle, which keeps all of them apart, in three lightnesses.
+GOLDEN = (3 - math.sqrt(5)) / 2
+LIGHTNESSES = (0.86, 0.74, 0.8)
+# More nodes than this are drawn by the way of Graphviz that is made for many, with straight links: those that bend
+# around nodes take minutes.
 MANY = 300
 RADIUS_A_NODE = 26
 WIDER = 1.7
+
+
+def fill_of(partition):
+    """The fill of the nodes of a partition."""
+    if partition < len(FILLS):
+        return FILLS[partition]
+    shares = colorsys.hls_to_rgb(partition * GOLDEN % 1, LIGHTNESSES[partition % len(LIGHTNESSES)], 0.6)
+    return "#" + "".join(f"{round(255 * share):02x}" for share in shares)
 
 
 def colour(load):
@@ -30,12 +43,14 @@ def width(load):
 
 def dot_text(network, loads):
     """The network for Graphviz."""
-    lines = ["graph network {", "overlap=prism; splines=true; outputorder=edgesfirst; bgcolor=transparent; sep=0.1;"]
+    splines = "line" if len(network.nodes) > MANY else "true"
+    lines = ["graph network {",
+             f"overlap=prism; splines={splines}; outputorder=edgesfirst; bgcolor=transparent; sep=0.1;"]
     lines += ['node [style=filled, fontname="Helvetica", fontsize=10, color="#475569", '
               'margin="0.08,0.04", height=0.3];']
     for number, node in enumerate(network.nodes):
         shape = "box" if node.kind == "router" else "ellipse"
-        fill, says = FILLS[node.partition % len(FILLS)], f"{node.name}: partition {node.partition}"
+        fill, says = fill_of(node.partition), f"{node.name}: partition {node.partition}"
         look = f'shape={shape}, fillcolor="{fill}", tooltip="{says}"'
         lines.append(f'n{number} [label="{node.name}", {look}];')
     for number, link in enumerate(network.links):
@@ -49,19 +64,19 @@ def dot_text(network, loads):
 
 
 def by_graphviz(network, loads):
-    """The drawing of Graphviz, or None where it is not installed or fails."""
+    """The drawing of Graphviz, or None and why there is none."""
     program = shutil.which("dot")
     if not program:
-        return None
+        return None, "Graphviz is not installed (apt-get install graphviz)"
     way = "sfdp" if len(network.nodes) > MANY else "neato"
     try:
         text, pipe = dot_text(network, loads).encode(), subprocess.PIPE
         words = [program, f"-K{way}", "-Tsvg"]
         ended = subprocess.run(words, input=text, stdout=pipe, stderr=subprocess.DEVNULL, timeout=SECONDS, check=False)
     except subprocess.TimeoutExpired:
-        return None
+        return None, f"Graphviz took more than {SECONDS} seconds"
     found = re.search(r"<svg.*</svg>", ended.stdout.decode(errors="replace"), re.DOTALL)
-    return found[0] if found and ended.returncode == 0 else None
+    return (found[0], "") if found and ended.returncode == 0 else (None, "Graphviz failed")
 
 
 def on_a_circle(network, loads):
@@ -93,7 +108,7 @@ def on_a_circle(network, loads):
         lines.append(f'<line x1="{x:.1f}" y1="{y:.1f}" x2="{u:.1f}" y2="{v:.1f}" {stroke}/>')
     for number, node in enumerate(network.nodes):
         x, y = places[number]
-        fill, corner = FILLS[node.partition % len(FILLS)], 2 if node.kind == "router" else 9
+        fill, corner = fill_of(node.partition), 2 if node.kind == "router" else 9
         wide = 10 + 6.2 * len(node.name)
         lines.append(f'<rect x="{x - wide / 2:.1f}" y="{y - 9:.1f}" width="{wide:.1f}" height="18" rx="{corner}" '
                      f'fill="{fill}" stroke="#475569"/>')
@@ -104,8 +119,7 @@ def on_a_circle(network, loads):
 
 def drawn(network, loads):
     """The drawing, and what drew it."""
-    picture = by_graphviz(network, loads)
+    picture, why = by_graphviz(network, loads)
     if picture:
         return picture, "Graphviz"
-    why = "Graphviz is not installed, or took too long (apt-get install graphviz)"
     return on_a_circle(network, loads), f"tools/network, on a circle: {why}"

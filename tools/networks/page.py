@@ -86,9 +86,8 @@ def nodes_table(network, found):
 
 def key_of_colours(network):
     """What the colours mean."""
-    parts = sorted({node.partition for node in network.nodes})[: len(drawing.FILLS)]
-    pieces = [f'<span><i style="background:{drawing.FILLS[part % len(drawing.FILLS)]}"></i>partition {part}</span>'
-              for part in parts]
+    parts = sorted({node.partition for node in network.nodes})
+    pieces = [f'<span><i style="background:{drawing.fill_of(part)}"></i>partition {part}</span>' for part in parts]
     pieces += [f'<span><i style="background:{drawing.colour(load)}"></i>{load // 10**4}% busy</span>'
                for load in (0, 500_000, 1_000_000)]
     return f"<p class=key>{''.join(pieces)}<span>boxes: routers; ellipses: hosts; dashed: between partitions</span></p>"
