@@ -45,7 +45,8 @@ class Route:
 
 @dataclass
 class Source:
-    """`to` is an address, `size` octets of data, `start` and `interval` nanoseconds. A raw source has neither."""
+    """`to` is an address, `size` octets of data, `start` and `interval` nanoseconds. A raw source has none of them,
+    but an interface and packets: (time, octets in hexadecimal)."""
 
     kind: str
     node: int
@@ -59,6 +60,11 @@ class Source:
     count: int = 0
     ttl: int = 64
     fill: int = 0
+    via: int | None = None
+    packets: list = field(default_factory=list)
+    # The flow of a SPEC that it is of, and what is planned of a flow before it has its sources.
+    flow: object = None
+    plan: object = None
 
 
 @dataclass
