@@ -74,7 +74,7 @@ ENDS = ("from", "to", "among", "pairs")
 RATES = ("rate", "packet_rate", "interval")
 ONLY = {
     "size": ("cbr", "echo", *CHANCE, "at"),
-    "ident": ("cbr", "echo", *CHANCE, "at"),
+    "ident": ("cbr", "echo"),
     **dict.fromkeys(("sizes", "weights", "seed"), (*CHANCE, "at")),
     **dict.fromkeys(("rate", "interval"), ("cbr", "echo", *CHANCE)),
     **dict.fromkeys(("until", "count"), ("cbr", "echo", *CHANCE, "trace")),

@@ -37,8 +37,11 @@ class Forming:
         """The sources of a plan."""
         plan, scale = model.plan, self.spec.scale
         if plan.is_capture:
-            packets = self.captured(model)
-            return self.said(model, "raw", self.raw(model, packets, len(packets)))
+            packets = plans.recorded_packets(plan)
+            # A capture may be many times what a text holds.
+            if sum(2 * len(packet) for _, packet in packets) > self.room.letters:
+                raise rooms.refused(self.room, plan, scale, len(packets))
+            return self.said(model, "raw", self.raw(model, self.captured(model, packets), len(packets)))
         least = limits.HEADERS if plan.kind == "trace" else (min(plan.sizes.sizes) + limits.HEADERS) // scale
         most = self.room.packets(least)
         runs = plans.runs_of(plan, self.spec.seed, max(most, self.share))
@@ -82,11 +85,11 @@ class Forming:
         for number, (at, size) in enumerate(trains.packets(runs), self.sent[model.node]):
             yield at, make.made(size, number % 65_536)
 
-    def captured(self, model):
-        """The packets of a capture between the nodes of a flow."""
+    def captured(self, model, packets):
+        """Packets of a capture, between the nodes of a flow."""
         address = self.network.ifaces[self.via(model)].address
-        return [(at, datagrams.readdressed(packet, address, model.to).hex())
-                for at, packet in plans.recorded_packets(model.plan)]
+        for at, packet in packets:
+            yield at, datagrams.readdressed(packet, address, model.to).hex()
 
     def raw(self, model, packets, count):
         """Raw sources with so many packets."""

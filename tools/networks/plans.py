@@ -3,6 +3,7 @@ packets."""
 
 import itertools
 from dataclasses import dataclass
+from fractions import Fraction
 
 from networks import errors, limits, recorded, trains, units
 from networks.chance import stream
@@ -117,4 +118,4 @@ def mean_octets(plan):
     if plan.kind != "trace":
         return plan.sizes.mean()
     sizes = [len(packet) if plan.is_capture else packet + limits.HEADERS for _, packet in plan.packets]
-    return trains.Fraction(sum(sizes), max(1, len(sizes)))
+    return Fraction(sum(sizes), max(1, len(sizes)))

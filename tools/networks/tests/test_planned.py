@@ -5,7 +5,7 @@ import hashlib
 import os
 import tomllib
 
-from networks import errors, limits
+from networks import errors, limits, routes, traffic
 from networks.tests import tool
 from networks.tests.test_recorded import A, B, datagram, pcap
 
@@ -100,6 +100,17 @@ class Texts(tool.Folder):
         self.assertEqual((made["source"][0]["size"], made["source"][0]["interval"]), (222, 8 * 10**6))
         self.assertEqual(made["iface"][0]["queue_octets"], 1000)
 
+    def test_raw_packets_are_followed_where_a_network_is_read(self):
+        network = tool.network_of(tool.made(TWO + POISSON))
+        found, count = traffic.expected(network), len(packets(TWO + POISSON))
+        self.assertEqual((found.packets, found.octets, found.hops), ([count, 0], [100 * count, 0], [count, count]))
+        self.assertEqual(routes.flow_ends(network), {0, 1})
+        # What is no packet of IPv4 goes nowhere, and a time to live ends.
+        text = tool.made(TWO + ENDS + "at = [1]\n").replace('data = "45', 'data = "65')
+        self.assertEqual(traffic.expected(tool.network_of(text)).packets, [0, 0])
+        with self.assertRaisesRegex(errors.Refused, 'source 0: key "via" is missing'):
+            tool.network_of(tool.made(TWO + POISSON).replace('via = "a-b", packet', "packet"))
+
 
 class Rooms(tool.Folder):
     def made_with(self, count, octets):
@@ -156,6 +167,16 @@ class Recorded(tool.Folder):
         late = tool.made(text.replace("0.1", "0.4"))
         self.assertIn("2 packets as 1 raw source; left out: 1 behind its end\n", late)
         self.assertEqual(len(packets(text + "count = 2\n")), 2)
+
+    def test_a_capture_that_is_too_long_is_refused(self):
+        octets = pcap([(number, datagram(1472)) for number in range(6000)])
+        text = self.flow(octets, 'from = "a"\nto = "b"\n')
+        with self.assertRaisesRegex(errors.Refused, r"it would have about 6,000 packets of 1,500 octets, and 5,5.. fit "
+                                                    r".*what helps: fewer packets \(`count = 55..`\)"):
+            tool.made(text)
+        fitting = tool.made(text + "count = 5500\n")
+        self.assertEqual(fitting.count("data = "), 5500)
+        self.assertLessEqual(len(fitting), limits.TEXT_OCTETS)
 
     def test_a_map_says_who_sends(self):
         octets = pcap([(0, datagram(3, 1, 2)), (7, datagram(4, 2, 1, 80)), (9, datagram(5, 1, 5))])
