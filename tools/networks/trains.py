@@ -118,7 +118,10 @@ def first(runs, count):
 
 def expected(kind, table, sizes, begin, end):
     """How many packets there will be in the mean, about."""
-    share, usual = 1, gap(table, sizes.mean())
-    if kind == "onoff":
-        share = Fraction(table["on"], max(1, table["on"] + table["off"]))
-    return int((end - begin) * share / usual)
+    usual = gap(table, sizes.mean())
+    if kind == "poisson":
+        return int((end - begin) / usual)
+    # A burst has its first packet however short it is; times that are drawn end half an interval behind the last one.
+    each = Fraction(table["on"]) / usual
+    each = -(-each // 1) if table["periods"] == "fixed" else max(1, each + Fraction(1, 2))
+    return int((end - begin) * each / (table["on"] + table["off"]))

@@ -90,6 +90,17 @@ class Trains(unittest.TestCase):
         # Each packet goes when the one before is over: 28 or 30 octets at 1 octet a nanosecond.
         self.assertEqual(gaps([run.at for run in found]), [run.size + 28 for run in found][:-1])
 
+    def test_how_many_packets_are_expected(self):
+        bursts = {"interval": 10**6, "on": 10**7, "off": 3 * 10**7}
+        short, fixed = {**bursts, "on": 10**5}, {**bursts, "interval": 7, "periods": "fixed"}
+        for make, kind, table in ((trains.poisson, "poisson", {"packet_rate": 1000}), (trains.onoff, "onoff", bursts),
+                                  (trains.onoff, "onoff", short), (trains.onoff, "onoff", fixed)):
+            runs = drawn(make, 10_000, **table)
+            held = {"size": 100, "periods": "exponential", **table}
+            end = runs[-1].at
+            found, wanted = sum(run.count for run in runs), trains.expected(kind, held, trains.Sizes(held, 0), 0, end)
+            self.assertLess(abs(found - wanted), found / 30, table)
+
     def test_packets_of_no_distance_are_a_nanosecond_apart(self):
         runs = drawn(trains.poisson, 1000, interval=Fraction(1, 100))
         self.assertEqual([run.at for run in runs], list(range(1, 1001)))
