@@ -18,8 +18,10 @@ TENTHS = 9
 
 @dataclass
 class Flow:
-    """What a flow is called in tables: the name or number of its table in the SPEC, its kind, and its ends by name."""
+    """What a flow is called in tables: the number of its table in the SPEC, the name of that (or the number), its kind,
+    and its ends by name."""
 
+    table: int
     name: str
     kind: str
     one: str
@@ -181,8 +183,8 @@ def sources_of(spec, table, table_number, chance, place, first):
         source.sport = table.get("sport", FIRST_PORT + (first + number) % PORTS)
         source.dport = table["dport"]
         source.ident = table.get("ident", (first + number) % 65_536)
-        source.flow = Flow(table.get("name", str(table_number)), source.plan.kind if source.plan else source.kind, one,
-                           other)
+        kind = source.plan.kind if source.plan else source.kind
+        source.flow = Flow(table_number, table.get("name", str(table_number)), kind, one, other)
         yield source, one, other
 
 

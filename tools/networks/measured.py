@@ -71,9 +71,8 @@ def table(network, scale, topology, asked=None):
             (int(row["from_nanoseconds"]), int(row["to_nanoseconds"]), int(row["packets"])))
     of_flow = {}
     for row, source in zip(rows, network.sources):
-        # Flows of one table may join the same two nodes, as where a name is said twice: they are one to the reader.
         flow = source.flow
-        of_flow.setdefault((flow.name, flow.one, flow.other), (flow, []))[1].append(row)
+        of_flow.setdefault((flow.table, flow.one, flow.other), (flow, []))[1].append(row)
     return [flow_row(flow, some, [it for row in some for it in spreads.get(row["source"], ())], scale)
             for flow, some in of_flow.values()]
 

@@ -69,6 +69,9 @@ class Flows(tool.Folder):
         # A flow of one source has the numbers of that source.
         for key in (*measured.DELAYS, "mean_round_trip"):
             self.assertEqual(echo[key], own[-1][key])
+        # Flows that are called alike have a row each.
+        both = self.rows(TWO + POISSON + 'name = "1"\n' + POISSON.replace("seed = 3", "seed = 4"))
+        self.assertEqual([row["flow"] for row in both], ["1", "1"])
         status, said, _ = tool.call("flows", path, self.file("y.spec.toml", text), "--nullsim", tool.NULLSIM)
         self.assertEqual((status, said.splitlines()[0].split()[:4]), (0, ["flow", "kind", "from", "to"]))
 
