@@ -18,10 +18,17 @@ def say(line):
 def do_make(words):
     """A topology from a SPEC."""
     found = spec.read(toml.load(words.file))
-    made = making.make(found, words.file)
+    early = []
+
+    def say_early(line):
+        early.append(line)
+        say(line)
+
+    made = making.make(found, words.file, say_early)
     sys.stdout.write(writing.text(made, found.title))
     for line in made.chosen:
-        say(line)
+        if line not in early:
+            say(line)
 
 
 def do_routes(words):
@@ -54,6 +61,16 @@ def do_partition(words):
     sys.stdout.write(text)
     for line in lines:
         say(line)
+
+
+def do_flows(words):
+    """What became of each flow."""
+    from networks import measured
+
+    found = spec.read(toml.load(words.spec))
+    network = making.make(found, words.spec).network
+    rows = measured.table(network, found.scale, words.file, words.nullsim)
+    sys.stdout.write(measured.csv_text(rows) if words.csv else measured.people_text(rows))
 
 
 def do_show(words):
@@ -90,10 +107,16 @@ def parser():
     one.set_defaults(do=do_partition)
     one = some.add_parser("show", help="x.toml > x.html: a page with the drawn network, its links and flows")
     one.set_defaults(do=do_show)
+    one = some.add_parser("flows", help="x.toml SPEC.toml: what became of each flow of a SPEC, over all its sources")
+    one.add_argument("--csv", action="store_true", help="comma-separated values")
+    one.add_argument("--nullsim", metavar="PROGRAM", help="instead of bin/nullsim or nullsim")
+    one.set_defaults(do=do_flows)
     for name, found in some.choices.items():
         found.add_argument("file", metavar="FILE", help="a file, or - for standard input")
         if name == "partition":
             found.add_argument("count", metavar="N", type=int, help="how many partitions: 1 to 64")
+        if name == "flows":
+            found.add_argument("spec", metavar="SPEC", help="the SPEC that the topology was made of")
     return top
 
 

@@ -75,12 +75,13 @@ def line(value):
     return value
 
 
-def several(one, most):
-    """An array of at most so many values."""
+def several(one, most, least=0):
+    """An array of so many values."""
 
     def read(value):
-        if not isinstance(value, list) or len(value) > most:
-            raise Wrong(f"has to be an array of at most {most:,} values")
+        if not isinstance(value, list) or not least <= len(value) <= most:
+            count = f"{least:,} to {most:,}" if least else f"at most {most:,}"
+            raise Wrong(f"has to be an array of {count} values")
         return [one(member) for member in value]
 
     return read

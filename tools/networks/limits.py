@@ -37,6 +37,16 @@ SEED = (0, 2**63 - 1)
 # Of an IPv4 header and a header of UDP or ICMP together.
 HEADERS = 28
 
+# Packets of a raw source.
+RAW_PACKETS = 1_024
+
+# Of a flow by chance: its sizes, the weight of each, and times that are listed.
+SIZES = 64
+WEIGHT = (1, 1_000)
+LISTED = 65_536
+# What sizes and rates are divided by.
+SCALE = (1, 1_000)
+
 # What is read at most, in octets: as the program.
 TEXT_OCTETS = 16_777_216
 

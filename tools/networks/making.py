@@ -1,11 +1,14 @@
 """A network from a SPEC: interfaces named after both ends, addresses, routes, sources."""
 
-from networks import addresses, errors, fields, flows, limits, names, routes, units
+from networks import (addresses, errors, fields, flows, forms, limits, names, rooms, routes, scaling, units,
+                      writing)
 from networks.chance import Chance
 from networks.topology import Iface, Link, Network, Node, kinds_said
 
 # Chance for flows does not depend on how much of it the groups took.
 FLOWS_SEED = 0x466C6F7773
+# Of how many flows is said what their packets became.
+PLANS_SAID = 20
 
 
 class Made:
@@ -26,12 +29,13 @@ def joined(spec):
         ends = []
         for own, far in ((link.a, link.b), (link.b, link.a)):
             ends.append(len(network.ifaces))
-            network.ifaces.append(Iface(given.between(own, far), numbers[own], 0, link.queue, link.queue_octets))
+            rate, queue_octets = scaling.link(link, spec.scale, link.place)
+            network.ifaces.append(Iface(given.between(own, far), numbers[own], 0, link.queue, queue_octets))
         delay = link.delay
         if delay < limits.CUT_DELAY and spec.nodes[link.a].partition != spec.nodes[link.b].partition:
             delay = limits.CUT_DELAY
             raised.append(f"{link.a} to {link.b}")
-        network.links.append(Link(*ends, link.rate, delay, link.cost))
+        network.links.append(Link(*ends, rate, delay, link.cost))
     return network, numbers, raised
 
 
@@ -60,20 +64,51 @@ def channel_advice():
     return "put nodes that many links join into one partition, or choose fewer partitions"
 
 
-def make(spec, name):
-    """The network of a SPEC; `name` is said where a fault has no line."""
+def make(spec, name, say=None):
+    """The network of a SPEC; `name` is said where a fault has no line, `say` is told what fits before packets are
+    drawn."""
     network, numbers, raised = joined(spec)
     check_limits(network, name)
     routes.check_joined(network, name, lambda number: spec.nodes[network.nodes[number].name].place())
     chance = None if spec.seed is None else Chance(spec.seed ^ FLOWS_SEED)
     place_of = flows.add(spec, network, numbers, chance)
+    count = len(network.sources)
     blocks, taken = routed(spec, network)
     routes.check_counts(network, network.routes, name)
     routes.check_flows(network, lambda number: place_of[number])
-    first = f"Seed {spec.seed}: what was chosen by chance follows from it."
-    if spec.seed is None:
-        first = "No seed: nothing here was chosen by chance."
-    return Made(network, chosen_lines(spec, network, blocks, taken, raised), first)
+    first, formed = first_line(spec), planned(spec, network, say)
+    chosen = chosen_lines(spec, network, count, blocks, taken, raised)
+    return Made(network, [*chosen, *formed], first)
+
+
+def first_line(spec):
+    """What seed there is."""
+    if spec.seed is not None:
+        return f"Seed {spec.seed}: what was chosen by chance follows from it."
+    if any("seed" in table for table, _ in spec.flows):
+        return "Seeds of flows: their packets follow from these."
+    return "No seed: nothing here was chosen by chance."
+
+
+def planned(spec, network, say):
+    """Makes the sources of flows whose packets are drawn, listed or recorded; gives lines of what they are."""
+    plans = [source for source in network.sources if source.plan]
+    lines = [f"scale       {spec.scale}: sizes and rates are those of the SPEC, divided by it; times are the same"]
+    lines = lines if spec.scale > 1 else []
+    if not plans:
+        return lines
+    plain = Network(network.stop, network.mtu, network.nodes, network.ifaces, network.links, network.routes,
+                    [source for source in network.sources if not source.plan])
+    letters = limits.TEXT_OCTETS - rooms.SPARE_LETTERS - len(writing.text(Made(plain, [], ""), spec.title).encode())
+    room = rooms.Room(letters, limits.SOURCES - len(plain.sources), network.stop)
+    lines.append(rooms.line(room, network, spec.scale))
+    if say:
+        say(lines[-1])
+    found = forms.Forming(spec, network, room).all()
+    lines += [f"packets     {line}" for line in found[:PLANS_SAID]]
+    if len(found) > PLANS_SAID:
+        lines.append(f"packets     of {len(found) - PLANS_SAID:,} more flows in the same ways")
+    return lines
 
 
 def routed(spec, network):
@@ -103,7 +138,7 @@ def addressed(spec, network, order, goals):
     return counts
 
 
-def chosen_lines(spec, network, blocks, taken, raised):
+def chosen_lines(spec, network, flow_count, blocks, taken, raised):
     """What was chosen, a line each."""
     packets = sum(source.count for source in network.sources)
     before, partitions = routes.unaggregated(network), max(node.partition for node in network.nodes) + 1
@@ -116,7 +151,7 @@ def chosen_lines(spec, network, blocks, taken, raised):
         "behind it have one",
         f"routes      {len(network.routes):,}{to}, by least {spec.weight}{spread}; one for each address would be "
         f"{before:,}",
-        f"flows       {len(network.sources)} with {packets:,} packets; where a cbr flow ends its port is open",
+        f"flows       {flow_count} with {packets:,} packets; where a cbr flow ends its port is open",
         f"stop        {units.time_said(spec.stop)}; a flow that says no other end ends at "
         f"{units.time_said(spec.stop * flows.TENTHS // 10)}",
         f"partitions  {partitions}, with {channels(network)} channels",

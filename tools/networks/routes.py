@@ -60,10 +60,11 @@ def advice(is_of_node=True):
 
 
 def flow_ends(network):
-    """The nodes that send or take a flow's packets: others get none, but for raw packets."""
+    """The nodes that send or take a flow's packets, raw ones too: others get none."""
     owners = network.node_of_address()
-    return {source.node for source in network.sources} | {owners[source.to]
-                                                          for source in network.sources if source.to in owners}
+    goals = {source.to for source in network.sources}
+    goals.update(address for source in network.sources for address, _ in source.goals)
+    return {source.node for source in network.sources} | {owners[goal] for goal in goals if goal in owners}
 
 
 def unaggregated(network):

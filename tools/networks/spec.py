@@ -2,7 +2,7 @@
 
 from dataclasses import dataclass, field
 
-from networks import errors, fields, groups, limits, names, paths
+from networks import errors, fields, flowkeys, groups, limits, names, paths
 from networks.chance import Chance
 
 
@@ -41,8 +41,10 @@ class Spec:
     weight: str = "delay"
     spread: bool = False
     only_flows: bool = False
-    # Where the prefix stands.
+    scale: int = 1
+    # Where the prefix stands, and the name of the text, beside which files of flows are.
     prefix_place: str = ""
+    name: str = ""
     nodes: dict = field(default_factory=dict)
     links: list = field(default_factory=list)
     flows: list = field(default_factory=list)
@@ -59,27 +61,6 @@ LINK = {
     "queue_octets": fields.whole(*limits.QUEUE_OCTETS, "octets"),
 }
 COST = {"cost": fields.whole(1, 10**9, "what a path pays for the link")}
-FLOW = {
-    "kind": fields.choice("cbr", "echo"),
-    "rate": fields.rate((1, limits.RATE[1])),
-    "interval": fields.time(limits.INTERVAL),
-    "size": fields.whole(0, limits.MTU[1] - limits.HEADERS, "octets of data"),
-    "start": fields.time(limits.START),
-    "until": fields.time(limits.STOP),
-    "stagger": fields.time(limits.START),
-    "count": fields.whole(1, limits.COUNT[1], "packets"),
-    "sport": fields.whole(*limits.PORT, "a port"),
-    "dport": fields.whole(*limits.PORT, "a port"),
-    "ident": fields.whole(0, 65_535, "an identifier"),
-    "ttl": fields.whole(*limits.TTL, "links"),
-    "fill": fields.whole(*limits.FILL, "an octet"),
-}
-ENDS = {
-    "from": fields.one_or_several(fields.pattern, limits.NODES),
-    "to": fields.one_or_several(fields.pattern, limits.NODES),
-    "among": fields.one_or_several(fields.pattern, limits.NODES),
-    "pairs": fields.choice("all", "next", "across", "first", "random"),
-}
 TOP = {
     "title": fields.line,
     "seed": fields.whole(*limits.SEED, "a seed"),
@@ -89,8 +70,9 @@ TOP = {
     "weight": fields.choice(*paths.WEIGHTS),
     "spread": fields.flag,
     "only_flows": fields.flag,
+    "scale": fields.whole(*limits.SCALE, "by which sizes and rates are divided"),
 }
-DEFAULTS = {"node": NODE, "link": LINK, "host_link": LINK, "flow": FLOW}
+DEFAULTS = {"node": NODE, "link": LINK, "host_link": LINK, "flow": flowkeys.FLOW}
 ARRAYS = ("node", "link", "group", "flow")
 # What holds where neither a table nor `defaults` says it: delays in nanoseconds, rates in bits per second, queues in
 # packets.
@@ -98,7 +80,8 @@ BUILT_IN = {
     "node": {"kind": "router", "partition": 0, "hosts": 0},
     "link": {"rate": 10**9, "delay": 10**6, "queue": 100},
     "host_link": {"delay": 10**4},
-    "flow": {"kind": "cbr", "start": 0, "stagger": 0, "dport": 9, "ttl": 64, "fill": 0},
+    "flow": {"kind": "cbr", "start": 0, "stagger": 0, "dport": 9, "ttl": 64, "fill": 0,
+             "periods": "exponential"},
 }
 
 
@@ -107,7 +90,7 @@ class Reading:
 
     def __init__(self, text):
         self.text = text
-        self.spec = Spec()
+        self.spec = Spec(name=text.name)
         self.defaults = {key: dict(value) for key, value in BUILT_IN.items()}
         self.chance = None
         # They stand behind the other links.
@@ -250,19 +233,7 @@ class Reading:
 
     def flow(self, number, value):
         place = self.place("flow", number)
-        table = fields.table(value, {**ENDS, **FLOW}, place)
-        if ("among" in table) == ("from" in table or "to" in table) or ("from" in table) != ("to" in table):
-            raise errors.Refused(place(), 'it has either "from" and "to", or "among" with "pairs"')
-        if ("among" in table) != ("pairs" in table):
-            raise errors.Refused(place(), 'the keys "among" and "pairs" stand together')
-        if "rate" in table and "interval" in table:
-            raise errors.Refused(place("interval"), 'of "rate" and "interval" one is said: the other follows from it')
-        held = dict(self.defaults["flow"])
-        # What a flow says itself stands in for the other of the two in the defaults.
-        for one, other in (("rate", "interval"), ("interval", "rate"), ("count", "until"), ("until", "count")):
-            if one in table:
-                held.pop(other, None)
-        self.spec.flows.append(({**held, **table}, place))
+        self.spec.flows.append((flowkeys.read(value, self.defaults["flow"], place), place))
 
 
 def read(text):

@@ -1,5 +1,6 @@
 """A network as its topology text has it: nodes, interfaces, links, routes and sources, each known by its number."""
 
+import re
 from collections import Counter
 from dataclasses import dataclass, field
 
@@ -45,7 +46,8 @@ class Route:
 
 @dataclass
 class Source:
-    """`to` is an address, `size` octets of data, `start` and `interval` nanoseconds. A raw source has neither."""
+    """`to` is an address, `size` octets of data, `start` and `interval` nanoseconds. A raw source has none of them,
+    but an interface and packets: (time, octets in hexadecimal)."""
 
     kind: str
     node: int
@@ -59,6 +61,13 @@ class Source:
     count: int = 0
     ttl: int = 64
     fill: int = 0
+    via: int | None = None
+    packets: list = field(default_factory=list)
+    # Of a raw source that was read: how many packets, and octets of them, go to each address with each time to live.
+    goals: dict = field(default_factory=dict)
+    # The flow of a SPEC that it is of, and what is planned of a flow before it has its sources.
+    flow: object = None
+    plan: object = None
 
 
 @dataclass
@@ -142,6 +151,8 @@ ARE_OF_SPECS = {"title", "group", "flow", "defaults", "weight", "prefix", "seed"
 ARRAYS = ("node", "iface", "link", "route", "source")
 MOST = {"node": limits.NODES, "iface": limits.IFACES, "link": limits.LINKS, "route": limits.ROUTES,
         "source": limits.SOURCES}
+# The header of an IPv4 packet, in hexadecimal.
+IPV4_HEADER = re.compile("4[0-9A-Fa-f]{39}")
 TIMED = ("to", "size", "start", "interval", "count")
 
 
@@ -245,10 +256,28 @@ class Reading:
 
     def source(self, number, value):
         place = self.place("source", number)
-        required = ("kind", "node", *(TIMED if isinstance(value, dict) and value.get("kind") != "raw" else ()))
+        is_raw = isinstance(value, dict) and value.get("kind") == "raw"
+        required = ("kind", "node", *(("via", "packet") if is_raw else TIMED))
         table = fields.table(value, SOURCE, place, required)
         table["node"] = self.named(self.nodes, table["node"], place, "node", "node")
-        return Source(**{key: found for key, found in table.items() if key not in ("via", "packet")})
+        source = Source(**{key: found for key, found in table.items() if key not in ("via", "packet")})
+        if source.kind == "raw":
+            source.via = self.named(self.ifaces, table["via"], place, "via", "interface")
+            source.goals = goals_of(table["packet"])
+        return source
+
+
+def goals_of(packets):
+    """How many packets of a raw source, and octets of them, go to each address with each time to live. What is no
+    packet of IPv4 goes nowhere."""
+    found = {}
+    for packet in packets if isinstance(packets, list) else ():
+        data = packet.get("data") if isinstance(packet, dict) else None
+        if isinstance(data, str) and IPV4_HEADER.match(data):
+            held = found.setdefault((int(data[32:40], 16), int(data[16:18], 16)), [0, 0])
+            held[0] += 1
+            held[1] += len(data) // 2
+    return found
 
 
 def read(text):

@@ -32,11 +32,11 @@ def expected(network):
     ways = Ways(network)
     found = Traffic([0] * len(network.ifaces), [0] * len(network.ifaces), [0] * len(network.nodes), [], [])
 
-    def follow(start, address, ttl, count, octets):
-        passed, end = ways.way(start, address, ttl)
+    def follow(start, address, ttl, count, octets, first=None):
+        passed, end = ways.way(start, address, ttl, first)
         for node, via, _ in passed:
             found.packets[via] += count
-            found.octets[via] += count * octets
+            found.octets[via] += octets
             found.hops[node] += count
         if passed:
             found.hops[network.ifaces[ways.far[passed[-1][1]][1]].node] += count
@@ -44,10 +44,13 @@ def expected(network):
 
     for source in network.sources:
         if source.kind == "raw":
+            for (address, ttl), (count, octets) in source.goals.items():
+                follow(source.node, address, ttl, count, octets, source.via)
             found.ends.append(None)
             found.lengths.append(0)
             continue
-        count, octets = packets_of(network, source), source.size + limits.HEADERS
+        count = packets_of(network, source)
+        octets = count * (source.size + limits.HEADERS)
         passed, end = follow(source.node, source.to, source.ttl, count, octets)
         if source.kind == "echo" and passed and end is not None:
             follow(end, network.ifaces[passed[0][1]].address, 64, count, octets)

@@ -24,13 +24,15 @@ class Ways:
                 best = route
         return None if best is None else best.via
 
-    def way(self, start, address, ttl=MOST_LINKS):
+    def way(self, start, address, ttl=MOST_LINKS, first=None):
         """What a packet passes from a node to an address: [(node, its interface, link)], and the node where it arrives
-        or None."""
+        or None. A raw packet leaves by the first interface, whatever the routes say."""
         goal, node, passed = self.owners.get(address), start, []
         while node != goal:
             may_send = node == start or self.network.nodes[node].kind == "router"
             via = self.via(node, address) if may_send and len(passed) < ttl else None
+            if first is not None and not passed:
+                via = first
             if via is None:
                 return passed, None
             link, far = self.far[via]

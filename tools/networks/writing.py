@@ -29,8 +29,22 @@ def route_line(network, route):
     return f'{{node = "{network.nodes[route.node].name}", to = "{to}", via = "{network.ifaces[route.via].name}"}}'
 
 
+def packet_line(at, packet):
+    """A packet of a raw source, in hexadecimal, as a line."""
+    return f'  {{at = {at}, data = "{packet}"}},\n'
+
+
+def raw_line(network, source):
+    """A raw source as a table, which has a line for each packet."""
+    node, via = network.nodes[source.node].name, network.ifaces[source.via].name
+    packets = "".join(packet_line(at, packet) for at, packet in source.packets)
+    return f'{{kind = "raw", node = "{node}", via = "{via}", packet = [\n{packets}  ]}}'
+
+
 def source_line(network, source):
     """A source as a table."""
+    if source.kind == "raw":
+        return raw_line(network, source)
     node, to = network.nodes[source.node].name, fields.address_said(source.to)
     ends = f'kind = "{source.kind}", node = "{node}", to = "{to}"'
     ports = f"sport = {source.sport}, dport = {source.dport}" if source.kind == "cbr" else f"ident = {source.ident}"
