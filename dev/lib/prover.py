@@ -5,18 +5,27 @@ import os
 
 from dev.lib import here, process
 
-# What limits the memory of a group of processes (control groups, versions 2 and 1).
+# What limits the memory of a group of processes (control groups, versions 2 and 1), and its processor time: so many
+# microseconds of each period.
 MEMORY_LIMITS = ("/sys/fs/cgroup/memory.max", "/sys/fs/cgroup/memory/memory.limit_in_bytes")
+QUOTA = "/sys/fs/cgroup/cpu.max"
+
+
+def limits_of(name):
+    """The numbers that a file says, where it is there: none for `max`."""
+    words = here.octets(name).decode().split() if os.path.exists(name) else []
+    return [int(word) for word in words if word.isdigit()]
 
 
 def job_count(memory_a_job):
     """One job a processor, where there is memory for it (octets)."""
+    processors, quota = len(os.sched_getaffinity(0)), limits_of(QUOTA)
+    if len(quota) == 2:
+        processors = min(processors, quota[0] // quota[1])
     memory = [os.sysconf("SC_PAGE_SIZE") * os.sysconf("SC_PHYS_PAGES")]
     for name in MEMORY_LIMITS:
-        if os.path.exists(name):
-            limit = here.octets(name).decode().strip()
-            memory += [int(limit)] if limit.isdigit() else []
-    return max(1, min(len(os.sched_getaffinity(0)), min(memory) // memory_a_job))
+        memory += limits_of(name)
+    return max(1, min(processors, min(memory) // memory_a_job))
 
 
 class Toolchain:
