@@ -6,8 +6,8 @@ use std::sync::atomic::{AtomicBool, Ordering};
 
 /// Says who runs a book: a pool, to which it is lent, or its replica's own thread, after each of
 /// its polls. It is lent at first, and again where its own thread left events to do; what is short
-/// stays on its thread and wakes nobody. What a book does is the same, whoever runs it: each has its
-/// lock. A book that nobody runs waits for ever.
+/// stays on its thread and wakes nobody. What a book does is the same, whoever runs it, since each
+/// has its lock. A book that nobody runs waits for ever.
 #[derive(Drop)]
 pub struct Lending {
     /// It is lent at times. Else the replica's own thread always runs the book.
