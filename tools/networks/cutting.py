@@ -24,14 +24,15 @@ def module(name):
         return None
 
 
-def cut(weights, costs, count, by=None):
-    """The part of each node, and what cut: `by` is metis, kernighan-lin or None."""
+def cut(weights, costs, count, by=None, uneven=UNEVEN):
+    """The part of each node, and what cut: `by` is metis, kernighan-lin or None. By METIS a part weighs at most so many
+    thousandths more than its share."""
     if by in (None, "metis"):
         program = shutil.which("gpmetis")
         if program:
-            return by_program(program, weights, costs, count), "METIS (gpmetis)"
+            return by_program(program, weights, costs, count, uneven), "METIS (gpmetis)"
         if module("pymetis"):
-            return by_pymetis(weights, costs, count), "METIS (pymetis)"
+            return by_pymetis(weights, costs, count, uneven), "METIS (pymetis)"
     if by in (None, "kernighan-lin") and module("networkx"):
         return by_kernighan_lin(weights, costs, count), "Kernighan-Lin (networkx)"
     raise errors.Lacking(lacking(by))
@@ -55,7 +56,7 @@ def neighbours(weights, costs):
     return [sorted(pairs) for pairs in found]
 
 
-def by_program(program, weights, costs, count):
+def by_program(program, weights, costs, count, uneven):
     """By gpmetis, which reads a file and writes one."""
     lines = [f"{len(weights)} {len(costs)} 011"]
     for weight, pairs in zip(weights, neighbours(weights, costs)):
@@ -64,7 +65,7 @@ def by_program(program, weights, costs, count):
         path = os.path.join(folder, "graph")
         with open(path, "w", encoding="ascii") as file:
             file.write("\n".join(lines) + "\n")
-        words = [program, f"-seed={SEED}", f"-ufactor={UNEVEN}", "-ptype=rb" if count < 9 else "-ptype=kway", path,
+        words = [program, f"-seed={SEED}", f"-ufactor={uneven}", "-ptype=rb" if count < 9 else "-ptype=kway", path,
                  str(count)]
         ended = subprocess.run(words, stdout=subprocess.PIPE, stderr=subprocess.STDOUT, timeout=SECONDS, check=False)
         made = f"{path}.part.{count}"
@@ -74,7 +75,7 @@ def by_program(program, weights, costs, count):
             return [int(line) for line in file]
 
 
-def by_pymetis(weights, costs, count):
+def by_pymetis(weights, costs, count, uneven):
     """By the package pymetis."""
     starts, others, prices = [0], [], []
     for pairs in neighbours(weights, costs):
@@ -82,7 +83,7 @@ def by_pymetis(weights, costs, count):
         prices += [cost for _, cost in pairs]
         starts.append(len(others))
     metis = module("pymetis")
-    options = metis.Options(seed=SEED, ufactor=UNEVEN)
+    options = metis.Options(seed=SEED, ufactor=uneven)
     return list(metis.part_graph(count, xadj=starts, adjncy=others, eweights=prices, vweights=weights,
                                  options=options)[1])
 

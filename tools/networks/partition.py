@@ -1,6 +1,6 @@
 """Partitions for a topology text, and what each cut link costs."""
 
-from networks import coarse, editing, errors, limits, making, paths, tables, topology, traffic, units
+from networks import coarse, editing, errors, fewest, limits, making, paths, tables, topology, traffic, units
 
 
 def chosen(text, count, by=None):
@@ -26,9 +26,16 @@ def chosen(text, count, by=None):
 
 
 def split(network, found, count, by):
-    """The partition of each node, numbered in the order of the nodes."""
+    """The partition of each node, numbered in the order of the nodes. Where the cut for even work has more channels than
+    there may be, one with fewer is taken."""
     parts, how = coarse.cut(network, found, count, by)
     parts = filled(network, found, parts, count)
+    even = fewest.channels(network, parts)
+    if even > limits.CHANNELS:
+        few, by_links = fewest.cut(network, found, count, by)
+        few = filled(network, found, few, count)
+        if fewest.channels(network, few) < even:
+            parts, how = few, f"{by_links}, for few channels: parts of even work would have {even:,}"
     number_of = {}
     for part in parts:
         number_of.setdefault(part, len(number_of))

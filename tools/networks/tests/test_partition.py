@@ -4,7 +4,9 @@ import os
 import re
 import tomllib
 
-from networks import coarse, cutting, errors, topology, traffic
+from unittest import mock
+
+from networks import coarse, cutting, errors, fewest, limits, partition, topology, traffic
 from networks.tests import tool
 from networks.tests.test_routes import spec_of
 
@@ -45,6 +47,18 @@ class Partitions(tool.Folder):
     @tool.needs_module("networkx")
     def test_kernighan_lin(self):
         self.both("kernighan-lin")
+
+    @tool.needs_program("gpmetis")
+    def test_few_channels(self):
+        """Where a cut for even work has more channels than there may be, one with fewer is taken."""
+        network = tool.network_of(self.example("campus"))
+        found = traffic.expected(network)
+        even = fewest.channels(network, partition.split(network, found, 8, "metis")[0])
+        with mock.patch.object(limits, "CHANNELS", even - 1):
+            parts, how = partition.split(network, found, 8, "metis")
+        self.assertLess(fewest.channels(network, parts), even)
+        self.assertEqual(set(parts), set(range(8)))
+        self.assertIn(f"parts of even work would have {even}", how)
 
     def certify(self, by):
         for name, count in EXAMPLES.items():
