@@ -184,6 +184,19 @@ fn push_value_fault(out: &mut Vec<u8>, head: Head, fault: FieldFault, value: &Va
     }
 }
 
+/// Why a text is no hexadecimal.
+fn hex_fault(text: &str) -> &'static str {
+    if text
+        .as_bytes()
+        .iter()
+        .all(|octet| octet.is_ascii_hexdigit())
+    {
+        ", which has an odd number of digits, and an octet has two"
+    } else {
+        ", which is not hexadecimal"
+    }
+}
+
 /// Appends that a text is no hexadecimal.
 fn push_hex_fault(out: &mut Vec<u8>, value: &Value) -> Appended {
     let text = value.as_str().unwrap_or("");
@@ -192,7 +205,7 @@ fn push_hex_fault(out: &mut Vec<u8>, value: &Value) -> Appended {
         &[
             Piece::Text(" is "),
             Piece::Quoted(text),
-            Piece::Text(", which is not hexadecimal"),
+            Piece::Text(hex_fault(text)),
         ],
     )
 }

@@ -21,7 +21,7 @@ pub mod laws;
 mod line;
 mod locate;
 mod names;
-mod nearest;
+pub mod nearest;
 mod overview;
 mod packet;
 mod pieces;

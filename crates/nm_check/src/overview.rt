@@ -183,6 +183,19 @@ fn push_channels(out: &mut Vec<u8>, topology: &Topology) -> Appended {
     )
 }
 
+/// The digits of hexadecimal.
+const DIGITS: [u8; 16] = *b"0123456789abcdef";
+
+/// Appends the SHA-256 digest of the text, by which two texts can be told apart.
+fn push_digest(out: &mut Vec<u8>, topology: &Topology) -> Appended {
+    push(out, &[Piece::Text("digest ")])?;
+    for octet in topology.digest() {
+        out.push(DIGITS[usize::from(octet / 16)])?;
+        out.push(DIGITS[usize::from(octet % 16)])?;
+    }
+    push(out, &[Piece::Text("\n")])
+}
+
 /// Appends what there is.
 fn push_counts(out: &mut Vec<u8>, topology: &Topology) -> Appended {
     push_nodes(out, topology)?;
@@ -191,13 +204,14 @@ fn push_counts(out: &mut Vec<u8>, topology: &Topology) -> Appended {
     push_count(out, "routes ", routes(topology))?;
     push_sources(out, topology)?;
     push_count(out, "partitions ", topology.partitions() as usize)?;
-    push_channels(out, topology)
+    push_channels(out, topology)?;
+    push_digest(out, topology)
 }
 
 /// What an accepted topology says, as lines that are each ended by a line feed: how much of each
 /// thing there is, what the sources send before the end of the simulation, the least lookahead of a
-/// channel and how many rounds there are at most; and then at most 20 remarks, a line each, and how
-/// many more there are.
+/// channel, how many rounds there are at most, and the digest of its text; and then at most 20
+/// remarks, a line each, and how many more there are.
 pub fn summary(alloc: Global, topology: &Topology) -> Result<Vec<u8>, AllocError> {
     let mut out = Vec::new(alloc);
     push_counts(&mut out, topology)?;

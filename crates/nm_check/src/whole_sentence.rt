@@ -203,23 +203,58 @@ fn push_lack(alloc: Global, out: &mut Vec<u8>, document: &Document, lacking: Lac
     }
 }
 
-/// Appends how many ends of links name an interface.
-fn push_ends(out: &mut Vec<u8>, document: &Document, iface: usize, ends: usize) -> Appended {
+/// Appends the links that name an interface, each with its line, if that is found.
+fn push_links_of(out: &mut Vec<u8>, text: &str, document: &Document, iface: &str) -> Appended {
+    let mut before = ": link ";
+    for (number, link) in document.links.iter().enumerate() {
+        if link.a.as_str() != iface && link.b.as_str() != iface {
+            continue;
+        }
+        push(out, &[Piece::Text(before), Piece::Number(number as u64)])?;
+        let key = if link.a.as_str() == iface {
+            TableKey::A
+        } else {
+            TableKey::B
+        };
+        if let Some(line) = table_line(text, Array::Link.key().text(), number, key.text()) {
+            push(
+                out,
+                &[
+                    Piece::Text(" (line "),
+                    Piece::Number(line),
+                    Piece::Text(")"),
+                ],
+            )?;
+        }
+        before = ", link ";
+    }
+    Ok(())
+}
+
+/// Appends how many ends of links name an interface, and of which.
+fn push_ends(
+    out: &mut Vec<u8>,
+    text: &str,
+    document: &Document,
+    iface: usize,
+    ends: usize,
+) -> Appended {
     push_table_name(out, document, Array::Iface, iface)?;
-    match ends {
-        0 => push(
+    if ends == 0 {
+        return push(
             out,
             &[Piece::Text(": no end of a link names it, and one has to")],
-        ),
-        _ => push(
-            out,
-            &[
-                Piece::Text(": "),
-                Piece::Number(ends as u64),
-                Piece::Text(" ends of links name it, and one has to"),
-            ],
-        ),
+        );
     }
+    push(
+        out,
+        &[
+            Piece::Text(": "),
+            Piece::Number(ends as u64),
+            Piece::Text(" ends of links name it, and one has to"),
+        ],
+    )?;
+    push_links_of(out, text, document, name_of(&document.ifaces, iface))
 }
 
 /// Appends what two routes of a node have in common.
@@ -282,6 +317,7 @@ fn push_cut(out: &mut Vec<u8>, link: usize, a: PartNo, b: PartNo) -> Appended {
             Piece::Number(a.number() as u64),
             Piece::Text(" and "),
             Piece::Number(b.number() as u64),
+            Piece::Text(", between which it has to be 1 at least"),
         ],
     )
 }
@@ -352,7 +388,7 @@ fn push_fault(
             &[Piece::Text(" has the same name")],
         ),
         WholeFault::NoSuch(lacking) => push_lacks(alloc, out, text, document, lacking),
-        WholeFault::IfaceUse { iface, ends } => push_ends(out, document, *iface, *ends),
+        WholeFault::IfaceUse { iface, ends } => push_ends(out, text, document, *iface, *ends),
         WholeFault::DoubleAddress(double) => push_double_address(out, document, *double),
         WholeFault::DoubleRoute(double) => push_double_route(out, document, *double),
         WholeFault::ManyRoutes { node, count } => {

@@ -1,5 +1,5 @@
 -- What contracts see of a wire whose octets are counted.
-use Rattle.std.specs.Prelude.{ℕ, ◌+◌, Bool, true}
+use Rattle.std.specs.Prelude.{ℕ, ◌+◌, Bool, true, false}
 use Rattle.nm_base.specs.Count.{saturated}
 use Rattle.nm_base.specs.declared.wire.Read.{Read}
 use Rattle.nm_base.specs.declared.wire.Read.TheVariants.{Got, End, Later, Fault}
@@ -9,12 +9,18 @@ pub record CountingWireValue (W : Type 0) : Type 0 where
   -- how many octets came, and how many were written, each up to 2 ^ 64 - 1
   pub came : ℕ
   pub written : ℕ
+  -- something may have come: a read asks the wire
+  pub is_ready : Bool
   -- a read found the end
   pub has_ended : Bool
 
--- once a read of the wire came to this: octets came, or the end was found
+-- once it was reported
+abbrev pub reported : {W : Type 0} → CountingWireValue W → CountingWireValue W
+reported c = record c { is_ready = true }
+
+-- once a read of the wire came to this: octets came, the end was found, or nothing more
 abbrev pub noted : {W : Type 0} → CountingWireValue W → Read → CountingWireValue W
 noted c (Got octets) = record c { came = saturated (c.came + octets) }
-noted c End = record c { has_ended = true }
-noted c Later = c
+noted c End = record c { is_ready = false; has_ended = true }
+noted c Later = record c { is_ready = false }
 noted c Fault = c

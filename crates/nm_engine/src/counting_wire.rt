@@ -1,14 +1,14 @@
 //! A wire that counts what moves on it, and is read only where something may have come.
 
-ghost use Rattle.std.specs.Prelude.{◌≡◌, ◌+◌, ◌<◌, false, length, nat_lt};
+ghost use Rattle.std.specs.Prelude.{◌≡◌, ◌+◌, ◌<◌, false, length, nat_lt, true};
 ghost use Rattle.nm_base.specs.Count.{saturated};
 ghost use Rattle.nm_base.specs.Wire.{ReadDoes};
-ghost use Rattle.nm_engine.specs.CountingWire.{noted};
+ghost use Rattle.nm_base.specs.declared.wire.Read.TheVariants.{Later};
+ghost use Rattle.nm_engine.specs.CountingWire.{noted, reported};
 
 use nm_base::Wire;
 use nm_base::wire::{Read, Written};
 use std::marker::Model;
-use std::sync::atomic::{AtomicBool, Ordering};
 
 /// A wire, and how many octets moved on it both ways, which stops at the greatest `u64`. A read
 /// asks the wire only where something may have come: at first, and once it was reported, up to the
@@ -21,7 +21,7 @@ pub struct CountingWire<W> {
     /// How many octets were written.
     written: u64,
     /// Something may have come.
-    is_ready: AtomicBool,
+    is_ready: bool,
     /// A read found the end.
     has_ended: bool,
 }
@@ -35,6 +35,7 @@ impl<W> Model for CountingWire<W> {
       wire = c.wire;
       came = c.came;
       written = c.written;
+      is_ready = c.is_ready;
       has_ended = c.has_ended;
     } };
 }
@@ -42,13 +43,19 @@ impl<W> Model for CountingWire<W> {
 impl<W> CountingWire<W> {
     /// None has moved.
     pub fn new(wire: W) -> Self
-        ensures { result ≡ record { wire = wire; came = 0; written = 0; has_ended = false } }
+        ensures { result ≡ record {
+          wire = wire;
+          came = 0;
+          written = 0;
+          is_ready = true;
+          has_ended = false;
+        } }
     {
         CountingWire {
             wire,
             came: 0,
             written: 0,
-            is_ready: AtomicBool::new(true),
+            is_ready: true,
             has_ended: false,
         }
     }
@@ -82,13 +89,17 @@ impl<W> CountingWire<W> {
     }
 
     /// Whether something may have come.
-    pub fn is_ready(&self) -> bool {
-        self.is_ready.load(Ordering::Relaxed)
+    pub fn is_ready(&self) -> bool
+        ensures { result ≡ self.now.is_ready }
+    {
+        self.is_ready
     }
 
     /// Something may have come.
-    pub fn report(&self) {
-        self.is_ready.store(true, Ordering::Relaxed);
+    pub fn report(&mut self)
+        ensures { self.new ≡ reported self.old }
+    {
+        self.is_ready = true;
     }
 
     /// The wire.
@@ -96,11 +107,6 @@ impl<W> CountingWire<W> {
         ensures { result ≡ self.wire }
     {
         self.wire
-    }
-
-    /// Nothing more has come: the wire is asked again once it is reported.
-    fn rest(&self) {
-        self.is_ready.store(false, Ordering::Relaxed);
     }
 
     /// Notes what a read of the wire came to: how many octets, or that the other side sends no
@@ -112,9 +118,9 @@ impl<W> CountingWire<W> {
             Read::Got(octets) => self.came = self.came.saturating_add(octets as u64),
             Read::End => {
                 self.has_ended = true;
-                self.rest();
+                self.is_ready = false;
             }
-            Read::Later => self.rest(),
+            Read::Later => self.is_ready = false,
             Read::Fault => {}
         }
     }
@@ -133,10 +139,12 @@ impl<W: Wire> CountingWire<W> {
     fn read_noted(&mut self, buffer: &mut [u8]) -> Read
         requires { 0 < length buffer.old }
         ensures noted { self.new ≡ record (noted self.old result) { wire = self.new.wire } }
+        ensures rests { self.old.is_ready ≡ false
+            → (result ≡ Later) × (self.new ≡ self.old) }
         ensures reads { ReadDoes (W.seen self.old.wire) (W.seen self.new.wire) result buffer.new }
         ensures keeps { (W.seen self.new.wire).taken ≡ (W.seen self.old.wire).taken }
     {
-        if !self.is_ready() {
+        if !self.is_ready {
             return Read::Later;
         }
         let read = self.wire.read_some(buffer);

@@ -1,12 +1,14 @@
 //! A link: one connection of a replica with a replica of another partition.
 
 ghost use Rattle.std.specs.Prelude.{◌≡◌, Some, None, [], false};
+ghost use Rattle.nm_engine.specs.CountingWire.{reported};
 ghost use Rattle.nm_engine.specs.Link.{IsBounded, greeted_by, has_greeted};
 ghost use Rattle.nm_engine.specs.Passes.{by_pass};
 ghost use Rattle.nm_engine.specs.Turn.{Hears, Turns};
 
 use crate::acceptor::Acceptor;
 use crate::answer::Turn;
+use crate::counting_wire::CountingWire;
 use crate::given::Given;
 use crate::out::OutBuffer;
 use crate::parts::{Parts, Party};
@@ -165,6 +167,15 @@ impl<W> Link<W> {
             out: _,
         } = parts;
         (wire, party.session)
+    }
+}
+
+impl<W> Link<CountingWire<W>> {
+    /// Something may have come on its wire.
+    pub fn report(&mut self)
+        ensures { self.new ≡ record self.old { wire = reported self.old.wire } }
+    {
+        self.parts.wire.report();
     }
 }
 

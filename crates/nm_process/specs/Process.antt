@@ -1,6 +1,7 @@
 -- What a process comes to.
 use Rattle.std.specs.Prelude.{◌≡◌, ◌⊎◌, ℕ, ◌<◌, Bool, true, false, List, map}
 use Rattle.std.specs.List.{filter}
+use Rattle.std.specs.Net.Socket.{socket_ip, socket_port}
 use Rattle.std.specs.declared.net.socket_addr.SocketAddr.{SocketAddr}
 use Rattle.nm_base.specs.declared.fault.Fault.{Fault}
 use Rattle.nm_base.specs.declared.fault.Fault.TheVariants.{Memory, Refused}
@@ -23,6 +24,13 @@ pub record IsDoneReplica (t : TopologyValue) (p r : ℕ) (b : BookValue) : Type 
   pub replica : b.replica ≡ r
   pub finished : IsDone b
   pub whole : b.handed ≡ 0
+
+-- the system says that it listens at this address, which was asked for: at the same port, too, unless
+-- the system was to choose one
+abbrev pub IsAt : (at asked : SocketAddr) → Type 0
+IsAt at asked =
+    (socket_ip at ≡ socket_ip asked)
+    × ((socket_port asked ≡ 0) ⊎ (socket_port at ≡ socket_port asked))
 
 -- these are the addresses of all replicas that a replica of partition p calls, in their order
 abbrev pub AreCalled : TopologyValue → ℕ → List Listener → List SocketAddr → Type 0

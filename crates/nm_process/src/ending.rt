@@ -5,6 +5,7 @@ ghost use Rattle.std.specs.Arc.{arc_value};
 ghost use Rattle.nm_peers.specs.Peers.{ArePeers};
 ghost use Rattle.nm_peers.specs.declared.peers.Peers.{Peers};
 ghost use Rattle.nm_process.specs.Ending.{process_end, unfinished_fault};
+ghost use Rattle.nm_process.specs.Process.{AreCalled};
 
 use crate::fault::{ProcessCause, ProcessFault};
 use crate::process::{Process, RUN_EVENTS};
@@ -51,11 +52,15 @@ pub(crate) fn serve_over<C: Counts, R: Net + Wait + Clock + Drop + Copy>(
         × (service.now.peers.now ≡ peers.partitions.items)
         × (service.now.callers.now ≡ peers.callers.items) }
 
+    // It calls each of these peers at its address.
+    requires called { AreCalled (arc_value process.now.topology.now)
+        service.now.book.now.partition process.now.listeners.now transport.old.peers }
+
     // It is stalled after as many periods as the process says, merges with nobody, and its book
     // keeps its records.
     requires limits { (service.now.idle_limit ≡ process.now.idle_limit)
         × (service.now.run_limit ≡ RUN_EVENTS) × (service.now.keeps_records ≡ true) }
-    requires alone { (service.now.books.now ≡ []) × (service.now.lending.now.has_pool ≡ false) }
+    requires alone { (service.now.books.now ≡ []) × (service.now.lending.now ≡ false) }
     requires notes { (service.now.progress ≡ Some process.now.progress)
         × (service.now.notes_progress ≡ true) }
 {

@@ -1,10 +1,11 @@
 //! One replica over TCP, until it is done.
 
-ghost use Rattle.std.specs.Prelude.{◌≡◌, ◌^◌, IfErr, IfOk, IfSome, None, Some, false, true};
+ghost use Rattle.std.specs.Prelude.{◌≡◌, ◌↔◌, ◌^◌, IfErr, IfOk, IfSome, IsSomeAnd, IsTrue, None};
+ghost use Rattle.std.specs.Prelude.{false, true};
 ghost use Rattle.std.specs.Arc.{arc_value};
 ghost use Rattle.nm_peers.specs.Peers.{own_address};
 ghost use Rattle.nm_replica.specs.Finished.{IsDone};
-ghost use Rattle.nm_process.specs.Process.{AreCalled, IsDoneReplica, IsUnfinished, is_stall};
+ghost use Rattle.nm_process.specs.Process.{IsAt, IsDoneReplica, IsUnfinished, is_stall};
 ghost use Rattle.nm_shared.specs.Counted.{IsBlankOf};
 ghost use Rattle.nm_shared.specs.Home.{home_at, home_of};
 
@@ -20,7 +21,9 @@ use nm_peers::{Listener, Peers, peers_of};
 use nm_progress::Progress;
 use nm_replica::{Holdings, OwnSeats, Service};
 use nm_shared::counts::PARTS;
-use nm_shared::{ClockBoard, Counts, Ledgers, Lending, Naming, Pass, SharedBook};
+use nm_shared::{
+    ClockBoard, Closed, Counts, Ledgers, Lending, Naming, Pass, PassesOut, SharedBook,
+};
 use nm_topology::Topology;
 use nm_transport::TcpTransport;
 use std::alloc::Global;
@@ -50,40 +53,48 @@ pub struct Process<'a> {
     pub progress: &'a Progress,
 }
 
-/// Listens at this address, which the replica of a book has.
+/// A listener, and where the system says that it listens.
+#[derive(Drop)]
+struct Bound {
+    listener: TcpListener,
+    at: SocketAddr,
+}
+
+/// Whether one listens at an address where the system says that it listens: at the same address,
+/// and at the same port unless the system was to choose one.
+fn is_at(at: SocketAddr, asked: SocketAddr) -> bool
+    ensures { IsTrue result ↔ IsAt at asked }
+{
+    at.ip() == asked.ip() && (asked.port() == 0 || at.port() == asked.port())
+}
+
+/// A listener, and where it listens.
+fn bind_at<R: Net>(rt: &R, address: SocketAddr) -> io::Result<Bound> {
+    let listener = TcpListener::bind(rt, address)?;
+    let at = listener.local_addr()?;
+    Ok(Bound { listener, at })
+}
+
+/// Listens at the address that the replica of a book has among these.
 ///
 /// # Errors
 ///
-/// `AddrNotAvailable` where the system listens at another address than it was asked to.
-fn listen_at<C: Counts, R: Net>(
+/// `AddrNotAvailable` where it has none, or the system listens at another one.
+fn listen<C: Counts, R: Net>(
     rt: &R,
     process: &Process<'_>,
     book: &SharedBook<C>,
-    own: SocketAddr,
-) -> io::Result<TcpListener>
-    requires { Some own ≡ own_address process.now.listeners.now book.now.partition
-        book.now.replica }
+) -> io::Result<Bound>
+    ensures { IfOk result (λ bound. IsSomeAnd (own_address process.now.listeners.now
+        book.now.partition book.now.replica) (IsAt bound.at)) }
 {
-    let listener = TcpListener::bind(rt, own)?;
-    if listener.local_addr()?.ip() != own.ip() {
+    let own = own_address(process.listeners, book.partition, book.replica);
+    let own = own.ok_or(ErrorKind::AddrNotAvailable)?;
+    let bound = bind_at(rt, own)?;
+    if !is_at(bound.at, own) {
         return Err(ErrorKind::AddrNotAvailable.into());
     }
-    Ok(listener)
-}
-
-/// Calls the peers at these addresses: all that a replica of the book's partition calls.
-fn transport_to<C: Counts, R: Net + Clock + Drop + Copy>(
-    rt: &R,
-    alloc: Global,
-    process: &Process<'_>,
-    book: &SharedBook<C>,
-    listener: TcpListener,
-    addresses: Vec<SocketAddr>,
-) -> io::Result<TcpTransport<R>>
-    requires { AreCalled (arc_value process.now.topology.now) book.now.partition
-        process.now.listeners.now addresses.items }
-{
-    TcpTransport::new(*rt, alloc, Poll::new(rt)?, listener, addresses)
+    Ok(bound)
 }
 
 /// Listens at the address that the replica of a book has among these, and calls its peers at those.
@@ -94,13 +105,10 @@ fn open_transport<C: Counts, R: Net + Clock + Drop + Copy>(
     book: &SharedBook<C>,
     addresses: Vec<SocketAddr>,
 ) -> io::Result<TcpTransport<R>>
-    requires { AreCalled (arc_value process.now.topology.now) book.now.partition
-        process.now.listeners.now addresses.items }
+    ensures { IfOk result (λ transport. transport.peers ≡ addresses.items) }
 {
-    let own = own_address(process.listeners, book.partition, book.replica);
-    let own = own.ok_or(ErrorKind::AddrNotAvailable)?;
-    let listener = listen_at(rt, process, book, own)?;
-    transport_to(rt, alloc, process, book, listener, addresses)
+    let Bound { listener, .. } = listen(rt, process, book)?;
+    TcpTransport::new(*rt, alloc, Poll::new(rt)?, listener, addresses)
 }
 
 /// Serves a replica that is shared with nobody else: what that came to, whether it is done or not.
@@ -122,7 +130,10 @@ fn serve<C: Counts, R: Net + Wait + Clock + Drop + Copy>(
         addresses,
         callers,
     } = peers_of(alloc, process.topology, book.partition, process.listeners)?;
-    let mut transport = open_transport(rt, alloc, process, book, addresses).map_err(fault_of)?;
+    let mut transport = match open_transport(rt, alloc, process, book, addresses) {
+        Ok(transport) => transport,
+        Err(error) => return Err(fault_of(error)),
+    };
     let lending = Lending::alone();
     let service = Service {
         topology: process.topology,
@@ -188,6 +199,25 @@ fn serve_with<C: Counts, R: Net + Wait + Clock + Drop + Copy>(
     Ok((holdings.pass, ending))
 }
 
+/// The book of a replica of which a pass is missing: what that counted nobody asks for.
+fn left_book<C: Counts>(out: PassesOut<C>) -> Book
+    ensures { C.exact ≡ true → home_of result ≡ C.home }
+{
+    let PassesOut { held, passes: _ } = out;
+    held.into_book()
+}
+
+/// The book of a replica, closed or not.
+fn book_of<C: Counts>(closed: Result<Closed, PassesOut<C>>) -> Book
+    requires { C.exact ≡ true → IfOk closed (λ r. home_of r.book ≡ C.home) }
+    ensures { C.exact ≡ true → home_of result ≡ C.home }
+{
+    match closed {
+        Ok(closed) => closed.book,
+        Err(out) => left_book(out),
+    }
+}
+
 /// The book of a replica that was served with this one pass, if it is done, whatever serving came
 /// to.
 fn close<M: Naming + Send + Sync, E: Ledger + Send + Sync>(
@@ -203,13 +233,11 @@ fn close<M: Naming + Send + Sync, E: Ledger + Send + Sync>(
 {
     let mut passes = Vec::new(alloc);
     passes.push(pass)?;
-    let Ok(closed) = shared.close(passes) else {
-        return Err(ProcessFault::Refused(ProcessCause::Broken));
-    };
-    if !closed.book.done() || closed.book.handed() > 0 {
+    let book = book_of(shared.close(passes));
+    if !book.done() || book.handed() > 0 {
         return Ok(None);
     }
-    Ok(Some(closed.book))
+    Ok(Some(book))
 }
 
 /// Serves a replica whose book and passes types name: what it came to.

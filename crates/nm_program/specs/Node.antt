@@ -1,7 +1,10 @@
 -- The word `node`: one replica of a partition.
-use Rattle.std.specs.Prelude.{◌≡◌, ◌⊎◌, ℕ, ◌==◌, Bool, if◌then◌else◌, List, [], ◌∷◌, ◌++◌, Option, Some, None, Ok}
+use Rattle.std.specs.Prelude.{◌≡◌, ◌⊎◌, ℕ, ◌==◌, Bool, if◌then◌else◌, List, [], ◌∷◌, ◌++◌, Option, Some, None, Ok, length}
 use Rattle.std.specs.List.{enumerate_from, flat_map}
+use Rattle.nm_base.specs.Sink.{SinkSeen}
 use Rattle.nm_base.specs.declared.record.Record.{Record}
+use Rattle.nm_pcap.specs.Format.{file_header}
+use Rattle.nm_pcap.specs.Writer.{Writer}
 use Rattle.nm_pcap.specs.declared.form.Form.TheVariants.{Octets}
 use Rattle.nm_model.specs.Partition.{receiver_of}
 use Rattle.nm_topology.specs.PartValues.{IfaceValue}
@@ -28,6 +31,7 @@ use Rattle.nm_offline.specs.Input.{InputsSeen, IsInput, IsRefused}
 use Rattle.nm_offline.specs.Lines.{iface_line}
 use Rattle.nm_offline.specs.Output.{EndsWord, FailsOfInputs, FilesSeen, SaysOfInputs}
 use Rattle.nm_program.specs.Surroundings.{Surroundings, files_of}
+use Rattle.nm_files.specs.Files.{HoldsFiles}
 use Rattle.nm_files.specs.Folder.{chosen_files}
 use Rattle.nm_files.specs.Outputs.{Files, HasMade}
 use Rattle.nm_files.specs.TraceFile.{trace_file}
@@ -37,6 +41,14 @@ abbrev pub own_files : TopologyValue → ℕ → List ℕ → List (Record (List
 own_files t partition folder records =
     chosen_files (λ n iface. receiver_of (net_of t) n == partition) folder
     (λ n. trace_file Octets n records) t.ifaces
+
+-- the trace files of a partition's interfaces are open, each with its header alone
+abbrev pub AreOwnOpened : {S : Type 0} → (S → SinkSeen) → (made : Option Files) → TopologyValue
+    → (partition : ℕ) → List (Option (Writer S)) → Type 0
+AreOwnOpened seen made t partition files =
+    HoldsFiles seen made (λ n iface. receiver_of (net_of t) n == partition) t.ifaces
+    (λ n. file_header) files
+    × (length files ≡ length t.ifaces)
 
 -- the file of what a replica knows, if it is asked for
 abbrev pub asked_known : (keeps : Bool) → (folder : List ℕ) → BookValue → Files

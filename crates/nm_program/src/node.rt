@@ -11,7 +11,7 @@ ghost use Rattle.nm_offline.specs.Input.{inputs_seen};
 ghost use Rattle.nm_offline.specs.Output.{SaysOfInputs, files_seen};
 ghost use Rattle.nm_program.specs.Node.{EndsNode, FailsNode, SaysServed, StopsNode, node_asked};
 ghost use Rattle.nm_program.specs.Surroundings.{surroundings};
-ghost use Rattle.nm_program.specs.Node.{late_status, node_files, own_line, own_lines};
+ghost use Rattle.nm_program.specs.Node.{AreOwnOpened, late_status, node_files, own_line, own_lines};
 ghost use Rattle.nm_program.specs.Node.{process_status};
 ghost use Rattle.nm_command.specs.declared.status.Status.TheVariants.{Done, File, Memory, Stalled};
 ghost use Rattle.nm_files.specs.Outputs.{HasMade};
@@ -25,7 +25,7 @@ use nm_base::{PartNo, Sink};
 use nm_book::Book;
 use nm_book::channels::partition_of;
 use nm_command::Status;
-use nm_files::{Folder, Outputs};
+use nm_files::{Folder, Outputs, TraceFiles};
 use nm_known::OfPartition;
 use nm_offline::input::NamedInputs;
 use nm_offline::inputs::Inputs;
@@ -81,14 +81,46 @@ fn own_text(
     Ok(text)
 }
 
-/// Makes the files of a replica that is done: the lines of its interfaces.
+/// Where the trace files of the partition stand that the words ask for.
+fn own_folder<'a>(topology: &'a Topology, words: &NodeArguments<'a>) -> Folder<'a, OfPartition>
+    ensures { (result.topology.now ≡ topology.now) × (result.name.now ≡ words.now.folder.now)
+        × (result.choice.partition ≡ words.now.partition) }
+{
+    Folder {
+        topology,
+        name: words.folder,
+        choice: OfPartition {
+            partition: words.partition,
+        },
+    }
+}
+
+/// Makes the trace files of the partition that the words ask for, before anything is simulated.
+fn open_files<F: Outputs>(
+    alloc: Global,
+    topology: &Topology,
+    words: &NodeArguments<'_>,
+    outputs: &mut F,
+) -> Result<TraceFiles<F::File>, Status>
+    ensures opened { IfOk result (λ files. AreOwnOpened F.File.seen (F.made outputs.old)
+        topology.now words.now.partition files.files.items) }
+    ensures same { F.made outputs.new ≡ F.made outputs.old }
+    ensures fault { IfErr result (λ s. (s ≡ File) ⊎ (s ≡ Memory)) }
+{
+    Ok(own_folder(topology, words).open(alloc, outputs)?)
+}
+
+/// Writes the files of a replica that is done: the lines of its interfaces.
 fn write_book<F: Outputs>(
     alloc: Global,
     topology: &Topology,
     words: &NodeArguments<'_>,
+    files: TraceFiles<F::File>,
     book: &Book,
     outputs: &mut F,
 ) -> Result<Output, Status>
+    requires opened { AreOwnOpened F.File.seen (F.made outputs.old) topology.now
+        words.now.partition files.files.items }
     requires of { book.now.topology ≡ topology.now }
     requires whole { book.now.handed ≡ 0 }
     ensures made { IfOk result (λ _. HasMade (F.made outputs.old) (F.made outputs.new)
@@ -98,14 +130,8 @@ fn write_book<F: Outputs>(
         ≡ own_lines topology.now words.now.partition (state_of book.now).records)) }
     ensures fault { IfErr result (λ s. (s ≡ File) ⊎ (s ≡ Memory)) }
 {
-    let folder = Folder {
-        topology,
-        name: words.folder,
-        choice: OfPartition {
-            partition: words.partition,
-        },
-    };
-    make_files(alloc, &folder, book, words.keeps, outputs)?;
+    let folder = own_folder(topology, words);
+    make_files(alloc, &folder, files, book, words.keeps, outputs)?;
     Output::of(
         own_text(alloc, topology, words.partition, book),
         Status::Done,
@@ -183,8 +209,9 @@ fn late_status(served: Served) -> Option<Status>
     }
 }
 
-/// Serves a replica until it is done, and makes its files: the lines of its interfaces. Where
-/// serving it ended otherwise and it is done, the files are made too, and nothing is said.
+/// Makes the files of a replica, serves it until it is done, and writes them: the lines of its
+/// interfaces. Where serving it ended otherwise and it is done, the files are written too, and
+/// nothing is said.
 fn serve<F: Outputs, R: Net + Wait + Clock + Drop + Copy>(
     means: &Means<'_, R>,
     topology: &Arc<Topology>,
@@ -203,8 +230,9 @@ fn serve<F: Outputs, R: Net + Wait + Clock + Drop + Copy>(
     if words.folder.is_empty() {
         return Err(Status::File); // its files would stand at the root
     }
+    let files = open_files(means.alloc, topology, words, outputs)?;
     let end = end_of(means, topology, listeners, words)?;
-    let output = write_book(means.alloc, topology, words, &end.book, outputs)?;
+    let output = write_book(means.alloc, topology, words, files, &end.book, outputs)?;
     match late_status(end.served) {
         None => Ok(output),
         Some(status) => Ok(Output {

@@ -3,6 +3,7 @@ pub mod Endings
 pub mod Polls
 pub mod Greeting
 pub mod Hands
+pub mod Readiness
 pub mod Merging
 pub mod Recordings
 pub mod Finishing

@@ -12,7 +12,7 @@ use Rattle.nm_engine.specs.declared.answer.Turn.{Turn}
 use Rattle.nm_engine.specs.declared.answer.Turn.TheVariants as turn
 use Rattle.nm_policy.specs.Contact.{does_count}
 use Rattle.nm_policy.specs.Contacts.{contact_at, is_slot}
-use Rattle.nm_replica.specs.Connections.{WaitsOnce}
+use Rattle.nm_replica.specs.Connections.{AreAllReady, WaitsOnce}
 use Rattle.nm_replica.specs.Moved.{CountsMoves, CountsMovesAt}
 use Rattle.nm_replica.specs.Turns.{GivesTurns, HasTurns, HasTurnsAt, Links, Progresses, ServesAll, ServesKeys, ServesTwice, SettlesKey, TurnsAs, WaitsAndServes, has_moved}
 use Rattle.nm_replica.specs.declared.connection.Connection.{Connection}
@@ -91,6 +91,6 @@ module _ {W : Type 0} (l : Links W) where
 
   -- all keys were served twice after a wait, and nothing was done with connections since
   pub waits_and_serves : (ran_out : Bool) (old waited served new : Connections W) (moved octets : ℕ) → WaitsOnce ran_out old.contacts waited.contacts
-      → ServesTwice l waited served moved octets → new ≡ served → WaitsAndServes l ran_out old new moved octets
-  waits_and_serves ran_out old waited served new moved octets waits serves same =
-      (waited, waits, subst (λ (c : Connections W). ServesTwice l waited c moved octets) (sym same) serves)
+      → (ran_out ≡ true → AreAllReady waited.open) → ServesTwice l waited served moved octets → new ≡ served → WaitsAndServes l ran_out old new moved octets
+  waits_and_serves ran_out old waited served new moved octets waits ready serves same =
+      (waited, waits, ready, subst (λ (c : Connections W). ServesTwice l waited c moved octets) (sym same) serves)

@@ -1,7 +1,8 @@
 -- What connections are told of by events, and which of them are begun and let go.
-use Rattle.std.specs.Prelude.{◌≡◌, ◌⊎◌, ℕ, suc, zero, Bool, true, false, ◌||◌, List, slice_index_or, slice_set, Option, Some, None, IsSomeAnd}
+use Rattle.std.specs.Prelude.{◌≡◌, ◌⊎◌, ℕ, suc, zero, Bool, true, false, ◌||◌, List, slice_index_or, slice_set, Option, Some, None, IfSome, IsSomeAnd}
 use Rattle.slab.specs.Slab.{Slab, get}
 use Rattle.nm_engine.specs.Acceptor.{AcceptorValue}
+use Rattle.nm_engine.specs.CountingWire.{reported}
 use Rattle.nm_engine.specs.Link.{greeted_by}
 use Rattle.nm_engine.specs.declared.answer.Cause.TheVariants as cause
 use Rattle.nm_engine.specs.declared.answer.Turn.{Turn}
@@ -16,6 +17,23 @@ use Rattle.nm_policy.specs.declared.contact.Contact.{Contact}
 use Rattle.nm_policy.specs.declared.contact_event.ContactEvent.TheVariants.{Called, NotCalled, Accepted, Heard, Greeted, Ended, Broke, Polled}
 use Rattle.nm_replica.specs.Moved.{sends_no_more, was_there}
 use Rattle.nm_replica.specs.declared.connection.Connection.{Connection}
+
+-- a connection once it was reported: a read asks its wire
+abbrev pub reported_connection : {W : Type 0} → Connection W → Connection W
+reported_connection c = record c { link = record c.link { wire = reported c.link.wire } }
+
+-- something may have come on a connection, if there is one
+abbrev pub is_ready : {W : Type 0} → Option (Connection W) → Bool
+is_ready None = false
+is_ready (Some c) = c.link.wire.is_ready
+
+-- nothing may have come on any
+abbrev pub IsNoneReady : {W : Type 0} → Slab (Connection W) → Type 0
+IsNoneReady slab = (key : ℕ) → is_ready (get slab key) ≡ false
+
+-- each connection is to be looked at
+abbrev pub AreAllReady : {W : Type 0} → Slab (Connection W) → Type 0
+AreAllReady slab = (key : ℕ) → IfSome (get slab key) (λ c. c.link.wire.is_ready ≡ true)
 
 -- a connection is let go, at whose other side somebody was or nobody
 abbrev pub LetsGo : ℕ → (old new : ContactsValue) → Type 0

@@ -12,11 +12,12 @@ use Rattle.nm_transport.specs.Transport.{has_run_out}
 use Rattle.nm_transport.specs.declared.transport.Waited.{Waited}
 use Rattle.nm_transport.specs.declared.transport.Waited.TheVariants.{Ready, RanOut, Fault}
 
--- what is counted of a replica stays as it is: octets, events, and how long it stayed
+-- what is counted of a replica stays as it is: octets, events, how long it stayed, and whether its
+-- book was done
 abbrev pub KeepsCounts : {W : Type 0} → (old new : Serving W) → Type 0
 KeepsCounts old new =
     (new.moved ≡ old.moved) × (new.counted ≡ old.counted) × (new.events ≡ old.events)
-    × (new.stay ≡ old.stay)
+    × (new.stay ≡ old.stay) × (new.was_done ≡ old.was_done)
 
 -- a poll was active: octets moved, records were written, or the book did events
 abbrev pub is_active : (octets written : ℕ) → (was_run : Bool) → Bool

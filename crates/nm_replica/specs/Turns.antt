@@ -11,7 +11,7 @@ use Rattle.nm_policy.specs.Contact.{does_count}
 use Rattle.nm_policy.specs.Contacts.{contact_at, is_slot}
 use Rattle.nm_shared.specs.Home.{Home}
 use Rattle.slab.specs.Slab.{Slab, get}
-use Rattle.nm_replica.specs.Connections.{SettlesAs, WaitsOnce, is_abandoned, known_after}
+use Rattle.nm_replica.specs.Connections.{AreAllReady, SettlesAs, WaitsOnce, is_abandoned, known_after}
 use Rattle.nm_replica.specs.Moved.{CountsMovesAt}
 use Rattle.nm_replica.specs.declared.connection.Connection.{Connection}
 use Rattle.nm_replica.specs.declared.connections.Connections.{Connections}
@@ -132,9 +132,9 @@ module _ {W : Type 0} (l : Links W) where
       × ServesAll Hear old heard told counted × ServesAll Speak heard new told' counted'
       × (moved ≡ saturated (told + told')) × (octets ≡ saturated (counted + counted'))
 
-  -- a wait, after which all keys are served twice
+  -- a wait, after which all keys are served twice, and all are looked at where a period was over
   abbrev pub WaitsAndServes : (ran_out : Bool) → (old new : Connections W) → (moved octets : ℕ)
       → Type 0
   WaitsAndServes ran_out old new moved octets =
       (waited : Connections W) × WaitsOnce ran_out old.contacts waited.contacts
-      × ServesTwice waited new moved octets
+      × (ran_out ≡ true → AreAllReady waited.open) × ServesTwice waited new moved octets

@@ -1,6 +1,7 @@
 //! The connections of a replica: begun, accepted and let go as its contacts say.
 
 ghost use Rattle.std.specs.Arc.{arc_value};
+ghost use Rattle.std.specs.Option.{option_map};
 ghost use Rattle.std.specs.Prelude.{◌≡◌, ◌≤◌, IfErr, IfOk, IfSome, OnOk, Some, ℕ, false, length};
 ghost use Rattle.std.specs.Prelude.{None, true};
 ghost use Rattle.slab.specs.Slab.{Updates, get};
@@ -11,7 +12,8 @@ ghost use Rattle.nm_policy.specs.declared.contact_event.ContactEvent.TheVariants
 ghost use Rattle.nm_replica.specs.Breaks.{fault_in, is_peer};
 ghost use Rattle.nm_replica.specs.Connections.{Admits, Awaits, CallsAll, Dials, DropsStranger};
 ghost use Rattle.nm_replica.specs.Connections.{Keeps, LetsGo};
-ghost use Rattle.nm_replica.specs.Connections.{LetsStaleGo, MakesRoom, heard_at};
+ghost use Rattle.nm_replica.specs.Connections.{AreAllReady, LetsStaleGo, MakesRoom, heard_at};
+ghost use Rattle.nm_replica.specs.Connections.{IsNoneReady, is_ready, reported_connection};
 ghost use Rattle.nm_replica.specs.Connections.{is_abandoned, learned, with_session_back};
 ghost use Rattle.nm_replica.specs.Moved.{has_written, is_end, was_there};
 ghost use Rattle.nm_replica.specs.Served.{IsInterrupted, break_served};
@@ -66,11 +68,8 @@ fn connect<T: Transport>(transport: &mut T, peer: usize, key: usize) -> Option<T
     ensures leads { IfSome result (λ w. T.leads_to w ≡ Some peer) }
     ensures idle { T.elapsed_periods transport.new ≡ T.elapsed_periods transport.old }
 {
-    let mut wire = transport.connect(peer)?;
-    if !transport.watch(&mut wire, key) {
-        return None;
-    }
-    Some(wire)
+    let wire = transport.connect(peer)?;
+    transport.watch(wire, key)
 }
 
 /// A link. What it gives is counted, or is not.
@@ -114,22 +113,45 @@ impl<W> Connections<W> {
     }
 
     /// Whether more may be read that no wait reports.
-    pub(crate) fn have_more(&self) -> bool {
-        let mut connections = self.open.iter();
-        connections.any(|(_, connection)| connection.link.wire().is_ready())
+    pub(crate) fn have_more(&self) -> bool
+        ensures { result ≡ false → IsNoneReady self.now.open }
+    {
+        for key in 0..self.key_end() {
+            if self.is_ready(key) {
+                return true;
+            }
+        }
+        false
+    }
+
+    /// Whether something may have come on the connection with this key.
+    fn is_ready(&self, key: usize) -> bool
+        ensures { result ≡ is_ready (get self.now.open key) }
+    {
+        match self.open.get(key) {
+            Some(connection) => connection.link.wire().is_ready(),
+            None => false,
+        }
     }
 
     /// A wait reported a connection, which may be gone.
-    pub(crate) fn note(&self, report: Reported) {
-        if let Some(connection) = self.open.get(report.key) {
-            connection.link.wire().report();
+    pub(crate) fn note(&mut self, report: Reported)
+        ensures contacts { self.new.contacts ≡ self.old.contacts }
+        ensures open { Updates self.old.open self.new.open report.key
+            (option_map reported_connection (get self.old.open report.key)) }
+    {
+        if let Some(connection) = self.open.get_mut(report.key) {
+            connection.link.report();
         }
     }
 
     /// A wait ran out: each connection is looked at, whatever was reported.
-    pub(crate) fn note_all(&self) {
-        for (_, connection) in self.open.iter() {
-            connection.link.wire().report();
+    pub(crate) fn note_all(&mut self)
+        ensures contacts { self.new.contacts ≡ self.old.contacts }
+        ensures ready { AreAllReady self.new.open }
+    {
+        for key in 0..self.key_end() {
+            self.note(Reported { key });
         }
     }
 
@@ -210,13 +232,15 @@ impl<W> Connections<W> {
           replica = neighbours.now.replica;
         }) self.old.contacts self.new.contacts self.new.open) }
     {
-        let mut wire = wire;
         let topology = Arc::try_clone(neighbours.topology)?;
         self.open.reserve(1)?;
         let key = self.open.vacant_key();
-        if !self.contacts.is_free(key) || !transport.watch(&mut wire, key) {
+        if !self.contacts.is_free(key) {
             return Ok(());
         }
+        let Some(wire) = transport.watch(wire, key) else {
+            return Ok(());
+        };
         let acceptor = Acceptor::new(topology, neighbours.partition, neighbours.replica);
         let link = Link::accepted(alloc, CountingWire::new(wire), acceptor);
         let link = counted(alloc, link, self.is_counted);

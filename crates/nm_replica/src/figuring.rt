@@ -3,7 +3,6 @@
 use crate::acts::{HeldBack, Standing};
 use crate::replica::Service;
 use crate::serving::Serving;
-use nm_base::Time;
 use nm_engine::GivenCounts;
 use nm_progress::{Figure, ReplicaFigures};
 use nm_shared::{Counts, Pass};
@@ -31,9 +30,9 @@ pub(crate) fn note_loan<C: Counts>(service: &Service<'_, C>, is_lent: bool) {
 }
 
 /// How far its book is, where nobody else notes that.
-pub(crate) fn note_progress<C: Counts>(service: &Service<'_, C>, safe: Time, records: u64) {
+pub(crate) fn note_progress<C: Counts>(service: &Service<'_, C>, standing: &Standing) {
     if let (true, Some(progress)) = (service.notes_progress, service.progress) {
-        progress.note(safe, records);
+        progress.note(standing.safe, standing.records);
     }
 }
 

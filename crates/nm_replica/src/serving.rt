@@ -2,7 +2,7 @@
 
 ghost use Rattle.std.specs.Prelude.{◌%◌, ◌&&◌, ◌+◌, ◌-◌, ◌==◌, ◌||◌, ◌≡◌, ◌⊎◌, IfErr, IfOk};
 ghost use Rattle.std.specs.Prelude.{IfSome};
-ghost use Rattle.std.specs.Prelude.{OnOk, false, if◌then◌else◌, is_some, length, not, position};
+ghost use Rattle.std.specs.Prelude.{OnOk, false, if◌then◌else◌, is_some, length, nat_lt, not, position};
 ghost use Rattle.std.specs.Prelude.{true};
 ghost use Rattle.std.specs.Arc.{arc_value};
 ghost use Rattle.nm_base.specs.Count.{saturated};
@@ -10,7 +10,7 @@ ghost use Rattle.nm_policy.specs.Decisions.{are_missing};
 ghost use Rattle.nm_policy.specs.Lasting.{has_lasted, lasted_after};
 ghost use Rattle.nm_policy.specs.Laws.{at_first};
 ghost use Rattle.nm_policy.specs.Stays.{leaves, stayed};
-ghost use Rattle.nm_replica.specs.Connections.{DropsSome, WaitsOnce};
+ghost use Rattle.nm_replica.specs.Connections.{AreAllReady, DropsSome, IsNoneReady, WaitsOnce};
 ghost use Rattle.nm_replica.specs.Polls.{KeepsCounts, Waits, failed_waits, is_active, was_cut};
 ghost use Rattle.nm_replica.specs.Recording.{Streamed, Streams, WroteAsCounted};
 ghost use Rattle.nm_replica.specs.Seats.{AreKept, StandOnBoard};
@@ -36,7 +36,7 @@ use nm_base::Sink;
 use nm_book::Ran;
 use nm_engine::ReadBuffer;
 use nm_policy::{Contacts, Lasted, Stay};
-use nm_shared::{Counts, Pass, SharedBook};
+use nm_shared::{Counts, Notified, Pass};
 use nm_transport::limits::MAX_REPORTS;
 use nm_transport::{Transport, Waited};
 use std::alloc::{AllocError, Global};
@@ -80,6 +80,8 @@ pub(crate) struct Polled {
     pub written: u64,
     /// The book did events since the poll before.
     pub was_run: bool,
+    /// A pool was told of it, if it is to know.
+    pub news: Option<Notified>,
     /// The replica is done, so are its links or all replicas, and its trace files are written.
     pub is_done: bool,
 }
@@ -152,6 +154,7 @@ fn serve_all<T: Transport, C: Counts, R: Wait>(
         (λ m. serving.new.counted ≡ saturated (serving.old.counted + m.octets)) }
     ensures events { serving.new.events ≡ serving.old.events }
     ensures stay { serving.new.stay ≡ serving.old.stay }
+    ensures done { serving.new.was_done ≡ serving.old.was_done }
     ensures served { IfOk result (λ m. ServesAll (links T.Connection.seen C.exact C.home) does
         serving.old.connections serving.new.connections m.moved m.octets) }
 {
@@ -184,9 +187,12 @@ fn serve_all<T: Transport, C: Counts, R: Wait>(
 /// period was over.
 fn note_reports<T: Transport>(
     transport: &T,
-    connections: &Connections<T::Connection>,
+    connections: &mut Connections<T::Connection>,
     ran_out: bool,
-) {
+)
+    ensures contacts { connections.new.contacts ≡ connections.old.contacts }
+    ensures ready { ran_out ≡ true → AreAllReady connections.new.open }
+{
     if ran_out {
         return connections.note_all();
     }
@@ -271,6 +277,8 @@ fn await_transport<T: Transport, C: Counts>(
     ensures waits { IfOk result
         (λ ran_out. WaitsOnce ran_out serving.old.connections.contacts
         serving.new.connections.contacts) }
+    ensures ready { IfOk result
+        (λ ran_out. ran_out ≡ true → AreAllReady serving.new.connections.open) }
     ensures failed { IfOk result (λ ran_out. Waits ran_out
         serving.old.failed_waits serving.new.failed_waits) }
     ensures kept { KeepsCounts serving.old serving.new }
@@ -282,13 +290,14 @@ fn await_transport<T: Transport, C: Counts>(
     note_wait(service, false);
     serving.failed_waits = failed_waits(serving.failed_waits, waited)?;
     let ran_out = waited.has_run_out();
-    note_reports(transport, &serving.connections, ran_out);
     serving.connections.pass_poll(transport, ran_out);
     let neighbours = service.neighbours();
     serving
         .connections
         .accept_all(alloc, &neighbours, transport)?;
     bear_shortage(transport, serving, ran_out)?;
+    // A report may be of a connection that is gone: one that has its key since is looked at anyway.
+    note_reports(transport, &mut serving.connections, ran_out);
     Ok(ran_out)
 }
 
@@ -301,10 +310,12 @@ fn own_limit(is_lent: bool, run_limit: u64) -> u64
 
 /// Its run left events to do: whether the replica is to go on with them at once. Where there is a
 /// pool, that does them.
-fn goes_on<C: Counts>(service: &Service<'_, C>) -> bool {
-    let is_lent = service.lending.lend();
-    note_loan(service, is_lent);
-    !is_lent
+fn goes_on<C: Counts>(service: &Service<'_, C>) -> bool
+    ensures { result ≡ not service.now.lending.now }
+{
+    let lent = service.lending.lend();
+    note_loan(service, lent.is_some());
+    lent.is_none()
 }
 
 /// Whether a run of the book left events to do.
@@ -336,7 +347,7 @@ fn run_book<C: Counts, R: Wait>(
     let is_left = limit > 0 && was_cut(service.book.run(rt, pass, alloc, limit))?;
     let runs_on = is_left && goes_on(service);
     let standing = service.book.act(rt, pass, Stand);
-    note_progress(service, standing.safe, standing.records);
+    note_progress(service, &standing);
     Ok((standing, runs_on))
 }
 
@@ -418,6 +429,7 @@ fn serve_and_act<C: Counts, S, T: Transport, R: Wait>(
     ensures seats { holdings.new.seats ≡ holdings.old.seats }
     ensures passes { length holdings.new.passes.items ≡ length holdings.old.passes.items }
     ensures stay { serving.new.stay ≡ serving.old.stay }
+    ensures done { serving.new.was_done ≡ serving.old.was_done }
 
     // What it answers was seen of the book, and an early ending is no success.
     ensures seen { IfOk result (λ a. WasSeen C.exact C.home a.standing) }
@@ -433,6 +445,10 @@ fn serve_and_act<C: Counts, S, T: Transport, R: Wait>(
         serving.old.connections serving.new.connections a.moves.moved a.moves.octets) }
     ensures run { IfOk result (λ a. (serving.new.events ≡ a.standing.events)
         × (a.was_run ≡ not (a.standing.events == serving.old.events))) }
+
+    // Where no more is to be done at once, nothing may have come on any connection.
+    ensures more { IfOk result (λ a. a.moves.has_more ≡ false
+        → IsNoneReady serving.new.connections.open) }
 {
     let heard = serve_all(
         rt,
@@ -463,12 +479,29 @@ fn serve_and_act<C: Counts, S, T: Transport, R: Wait>(
     })
 }
 
+/// Whether a book is done now that was not when it was looked at last.
+fn is_newly_done(is_done: bool, was_done: bool) -> bool
+    ensures { result ≡ (is_done && not was_done) }
+{
+    is_done && !was_done
+}
+
 /// Tells a pool, if there is one, that the book that is lent to it keeps fewer records, or that it
 /// is done now and was not when it was looked at last.
-fn note_news<C: Counts>(service: &Service<'_, C>, has_written: bool, is_newly_done: bool) {
-    if is_newly_done || (has_written && service.lending.is_lent()) {
-        service.lending.note();
+fn note_news<C: Counts>(
+    service: &Service<'_, C>,
+    has_written: bool,
+    is_newly_done: bool,
+) -> Option<Notified>
+    ensures { is_some result ≡ (is_newly_done || has_written) }
+{
+    if is_newly_done {
+        return Some(service.lending.note());
     }
+    if has_written {
+        return Some(service.lending.note_if_lent());
+    }
+    None
 }
 
 /// Whether the book was done, and none of its records is left to hand out unless it keeps them.
@@ -520,6 +553,14 @@ pub(crate) fn poll<C: Counts, S: Sink, T: Transport, R: Wait>(
     ensures written { IfOk result (λ p. WroteAsCounted S.seen C.exact C.home p.written
         holdings.old.files.files.items holdings.new.files.files.items) }
 
+    // A pool is told where records were written, and where the book is done since this poll.
+    ensures news { IfOk result (λ p. is_some p.news
+        ≡ ((serving.new.was_done && not serving.old.was_done) || nat_lt 0 p.written)) }
+
+    // The next poll waits only where nothing may have come on any connection.
+    ensures busy { OnOk result (serving.new.is_busy ≡ false
+        → IsNoneReady serving.new.connections.open) }
+
     // It answers whether the wait ran out, and whether all is done. An early ending is no success.
     ensures idle { IfOk result (λ p. T.elapsed_periods transport.new
         ≡ elapsed_after (T.elapsed_periods transport.old) p.ran_out) }
@@ -553,11 +594,8 @@ pub(crate) fn poll<C: Counts, S: Sink, T: Transport, R: Wait>(
         Ok(recorded) => recorded,
         Err(fault) => return Err(file_served(fault)),
     };
-    note_news(
-        service,
-        recorded.written > 0,
-        standing.is_done && !serving.was_done,
-    );
+    let is_new = is_newly_done(standing.is_done, serving.was_done);
+    let news = note_news(service, recorded.written > 0, is_new);
     serving.was_done = standing.is_done;
     serving.is_busy = recorded.has_more || moves.has_more;
     note_figures(service, serving, &standing, was_run, moves.given);
@@ -569,6 +607,7 @@ pub(crate) fn poll<C: Counts, S: Sink, T: Transport, R: Wait>(
         octets: moves.octets,
         written: recorded.written,
         was_run,
+        news,
         is_done: may_end && is_served(&standing, service.keeps_records, recorded.is_last),
     })
 }

@@ -8,13 +8,13 @@ use crate::acts::Stand;
 use crate::replica::{Holdings, Service};
 use nm_book::Knowledge;
 use nm_frames::ReplicaName;
-use nm_shared::acts::{CopyKnowledge, Merge};
-use nm_shared::{Counts, Pass, SharedBook};
+use nm_shared::acts::CopyKnowledge;
+use nm_shared::{Counts, MergeAnswer, Pass, SharedBook};
 use std::alloc::{AllocError, Global};
 use std::sync::Wait;
 
-/// What one replica knew was merged into another's book, or was refused there: `merge_into` alone
-/// makes it.
+/// What one replica knew was merged into another's book, or was refused there: `Merged::of` alone
+/// makes it, from the answer of that book.
 #[derive(Clone, Copy)]
 pub(crate) struct Merged {
     into: ReplicaName,
@@ -26,6 +26,22 @@ pub(crate) struct Merged {
 struct Copied {
     knowledge: Knowledge,
     from: ReplicaName,
+}
+
+impl Merged {
+    /// The book of a replica answered this to a merge of what was copied.
+    fn of(answer: &MergeAnswer, copied: &Copied) -> Self
+        ensures { (result.into ≡ replica_name answer.now.partition answer.now.replica)
+            × (result.from ≡ copied.now.from) }
+    {
+        Merged {
+            into: ReplicaName {
+                partition: answer.partition,
+                replica: answer.replica,
+            },
+            from: copied.from,
+        }
+    }
 }
 
 /// Which replica a book is.
@@ -82,12 +98,7 @@ fn merge_into<C: Counts, R: Wait>(
     ensures { (result.into ≡ replica_name book.now.partition book.now.replica)
         × (result.from ≡ copied.now.from) }
 {
-    let knowledge = &copied.knowledge;
-    let _merged = book.act(rt, pass, Merge { alloc, knowledge });
-    Merged {
-        into: name_of(book),
-        from: copied.from,
-    }
+    Merged::of(&book.merge(rt, pass, alloc, &copied.knowledge), copied)
 }
 
 /// Merges what the sister knows into the replica's own book, if there is a sister: what was merged

@@ -1,5 +1,6 @@
 -- The replicas of a run, kept and remembered in their order.
-use Rattle.std.proofs.Common.{◌≡◌, ℕ, ◌<◌, List, [], ◌∷◌, ◌++◌, length, map, get_or, Some, option_map, sym, ◌∙◌, ap, subst}
+use Rattle.std.proofs.Common.{◌≡◌, ℕ, zero, suc, ◌+◌, ◌<◌, All, List, [], ◌∷◌, ◌++◌, length, map, get_or, None, Some, option_map, refl, sym, ◌∙◌, ap, subst, arith, tt}
+use Rattle.std.specs.Prelude.{slice_get, slice_set}
 use Rattle.std.proofs.lemmas.List.{length-map, map-append}
 use Rattle.std.proofs.lemmas.Option.{slice_get-get_or, slice_get-map}
 use Rattle.nm_shared.proofs.Pools.{all_more}
@@ -17,3 +18,22 @@ owns_more f names old new x last here before =
 pub own_there : (names : List (ℕ × ℕ)) (watched : List Watched) (n : ℕ) (w : Watched) → AreOwns names (owns_of watched) → n < length watched → w ≡ get_or watched n w → w.own.index ≡ n
 own_there names watched n w are low is =
     (are n w.own (slice_get-map (λ x. x.own) watched n ∙ ap (option_map (λ x. x.own)) (slice_get-get_or watched n w low ∙ ap (λ x. Some x) (sym is)))).0
+
+-- what holds of each member at its place holds of all
+pub all_by_place : {A : Type 0} (P : A → Type 0) (xs : List A) → ((k : ℕ) (a : A) → slice_get xs k ≡ Some a → P a) → All P xs
+all_by_place P [] at = tt
+all_by_place P (x ∷ xs) at = (at zero x refl, all_by_place P xs (λ k a e. at (suc k) a e))
+
+pub get_is_within : {A : Type 0} (xs : List A) (k : ℕ) (a : A) → slice_get xs k ≡ Some a → k < length xs
+get_is_within [] k a e = absurd (let none : None ≡ Some a = e in cc)
+get_is_within (x ∷ xs) zero a e = omega arith
+get_is_within (x ∷ xs) (suc k) a e = let rest : k < length xs = get_is_within xs k a e in omega (arith, rest)
+
+-- what holds of those below a place holds with that there, which is another one now
+pub one_more_by_place : {A : Type 0} (P : A → Type 0) (xs : List A) (n : ℕ) (y : A) → ((k : ℕ) (a : A) → k < n → slice_get xs k ≡ Some a → P a) → P y
+    → (k : ℕ) (a : A) → k < n + 1 → slice_get (slice_set xs n y) k ≡ Some a → P a
+one_more_by_place P [] n y below here k a low e = absurd (let none : None ≡ Some a = e in cc)
+one_more_by_place P (x ∷ xs) zero y below here zero a low e = let same : y ≡ a = cc in subst P same here
+one_more_by_place P (x ∷ xs) zero y below here (suc k) a low e = absurd (omega (arith, low))
+one_more_by_place P (x ∷ xs) (suc n) y below here zero a low e = below zero a (omega arith) e
+one_more_by_place P (x ∷ xs) (suc n) y below here (suc k) a low e = one_more_by_place P xs n y (λ j b l h. below (suc j) b (omega (arith, l)) h) here k a (omega (arith, low)) e

@@ -5,6 +5,8 @@ use Rattle.std.specs.declared.io.ErrorKind.TheVariants.{OutOfMemory}
 use Rattle.nm_base.specs.declared.fault.Fault.{Fault}
 use Rattle.nm_base.specs.declared.fault.Fault.TheVariants.{Memory, Refused}
 use Rattle.nm_topology.specs.TopologyValue.{TopologyValue}
+use Rattle.nm_files.specs.declared.outputs.OutputFault.{OutputFault}
+use Rattle.nm_files.specs.declared.outputs.OutputFault.TheVariants as output
 use Rattle.nm_files.specs.declared.trace_files.FileFault.{FileFault}
 use Rattle.nm_run.specs.Report.{IsNotCertified}
 use Rattle.nm_run.specs.declared.fault.RunCause.{RunCause}
@@ -45,6 +47,11 @@ IsStopOf kind s = IsToldAs kind stop.Memory stop.Net s
 abbrev pub files_stop : Fault FileFault → Stop
 files_stop Memory = stop.Memory
 files_stop (Refused fault) = stop.File fault.iface fault.written
+
+-- and why one stops whose file of what a replica knows has this fault
+abbrev pub output_stop : OutputFault → Stop
+output_stop output.Failed = stop.Known
+output_stop output.Memory = stop.Memory
 
 -- so it stops for a fault of which this is true
 abbrev pub StopsFor : (Fault FileFault → Type 0) → Stop → Type 0

@@ -1,5 +1,8 @@
 -- Of which replicas a run keeps what, and what the dispatcher remembers of them.
-use Rattle.std.specs.Prelude.{◌≡◌, ℕ, List, map, slice_get, Some}
+use Rattle.std.specs.Prelude.{◌≡◌, ◌⊎◌, ℕ, Bool, true, false, List, map, slice_get, Some, is_some}
+use Rattle.nm_book.specs.declared.running.Ran.{Ran}
+use Rattle.nm_book.specs.declared.running.Ran.TheVariants.{All, Limit, Memory}
+use Rattle.nm_run.specs.declared.jobs.Answered.{Answered}
 use Rattle.nm_run.specs.declared.jobs.Watched.{Watched}
 use Rattle.nm_run.specs.declared.stations.Own.{Own}
 use Rattle.nm_run.specs.declared.threads.Threaded.{Threaded}
@@ -17,6 +20,18 @@ IsOwnAt names number own = (own.index ≡ number)
 abbrev pub AreOwns : List (ℕ × ℕ) → List Own → Type 0
 AreOwns names owns =
     (i : ℕ) (own : Own) → slice_get owns i ≡ Some own → IsOwnAt names i own
+
+-- what is remembered of a book is as it was last seen: nothing is left to do for it, or it did no
+-- event since
+abbrev pub WasLookedAt : Watched → Type 0
+WasLookedAt w = (w.is_done ≡ true) ⊎ (w.is_stale ≡ false)
+
+-- a job that answered so is noted: how many events it was, and that its book was given back where
+-- none is left
+abbrev pub Answers : Ran → Answered → Type 0
+Answers (All n) a = (a.events ≡ n) × (is_some a.given_back ≡ true)
+Answers (Limit n) a = (a.events ≡ n) × (is_some a.given_back ≡ false)
+Answers (Memory n) a = ⊥
 
 -- of which something is remembered
 abbrev pub owns_of : List Watched → List Own

@@ -29,7 +29,10 @@ struct Passes {
 
 impl Passes {
     /// None so far, of so many books.
-    fn new(alloc: Global, books: usize) -> Result<Self, AllocError> {
+    #[tactic(auto, using(std::proofs::lemmas::List::Sums::sum_by_push))]
+    fn new(alloc: Global, books: usize) -> Result<Self, AllocError>
+        ensures { IfOk result (λ p. pass_count p ≡ 0) }
+    {
         let mut lists = Vec::new(alloc);
         for _ in 0..books {
             lists.push(Vec::new(alloc))?;

@@ -1,11 +1,12 @@
 //! The dispatcher: it gives jobs to a pool as long as there are any.
 
-ghost use Rattle.std.specs.Prelude.{◌≡◌, ◌<◌, ◌≤◌, All, IfErr, IfOk, OnOk, is_some, length, true};
+ghost use Rattle.std.specs.Prelude.{◌≡◌, ◌+◌, ◌<◌, ◌≤◌, All, IfErr, IfOk, OnOk, is_some, length};
+ghost use Rattle.std.specs.Prelude.{true, vec_len};
 ghost use Rattle.std.specs.List.{list_all};
-ghost use Rattle.nm_run.specs.Watching.{AreOwns, names_of, owns_of};
+ghost use Rattle.nm_run.specs.Watching.{Answers, AreOwns, names_of, owns_of};
 ghost use Rattle.nm_shared.specs.Board.{IsSeatOf};
 
-use crate::jobs::{Watched, jobs_for};
+use crate::jobs::{Answered, Watched, jobs_for};
 use crate::stations::{FirstEnded, Own, Woken};
 use crate::threads::{AllWoken, Threaded};
 use crate::told::Told;
@@ -43,7 +44,10 @@ pub(crate) struct Dispatched {
 
 impl<'a> Dispatcher<'a> {
     /// The passes of jobs, and those with which it looked at books, once it has ended.
-    pub(crate) fn into_passes(self, _: Dispatched) -> Result<Vec<BookPass<Plain>>, AllocError> {
+    pub(crate) fn into_passes(self, _: Dispatched) -> Result<Vec<BookPass<Plain>>, AllocError>
+        ensures { IfOk result
+            (λ passes. vec_len passes ≡ vec_len self.passes + vec_len self.watched) }
+    {
         let Dispatcher {
             watched,
             mut passes,
@@ -59,7 +63,7 @@ impl<'a> Dispatcher<'a> {
 /// The answer of a job was noted: how many events it was, and that its book's replica was woken.
 #[derive(Clone, Copy)]
 struct Noted<'a> {
-    events: u64,
+    answered: Answered,
     woken: Woken<'a>,
 }
 
@@ -73,9 +77,10 @@ fn note<'a, G>(
 ) -> Result<Noted<'a>, AllocError>
     requires { watched.old.own.index ≡ job.now.book }
     ensures woken { IfOk result (λ n. n.woken.station ≡ watched.old.own.station) }
+    ensures answered { IfOk result (λ n. Answers answer n.answered) }
     ensures own { watched.new.own ≡ watched.old.own }
 {
-    let events = watched.note(job, answer)?;
+    let answered = watched.note(job, answer)?;
     let Own { station, book, .. } = watched.own;
     if let Some(figures) = threaded.plan.progress.figures() {
         let own = figures.of(book.partition, book.replica);
@@ -83,7 +88,7 @@ fn note<'a, G>(
         own.set(Figure::IsLent, u64::from(station.lending.is_lent()));
     }
     Ok(Noted {
-        events,
+        answered,
         woken: station.wake(),
     })
 }
@@ -99,11 +104,12 @@ fn note_all<G>(
     ensures seat { dispatcher.new.seat ≡ dispatcher.old.seat }
     ensures owns { OnOk result
         (owns_of dispatcher.new.watched.items ≡ owns_of dispatcher.old.watched.items) }
+    ensures passes { dispatcher.new.passes ≡ dispatcher.old.passes }
 {
     let mut events = 0u64;
     for (job, answer) in jobs.iter().zip(answers) {
         if let Some(watched) = dispatcher.watched.get_mut(job.book) {
-            events = events.saturating_add(note(threaded, watched, job, *answer)?.events);
+            events = events.saturating_add(note(threaded, watched, job, *answer)?.answered.events);
         }
     }
     Ok(events)
@@ -127,17 +133,16 @@ fn do_in_turn<G: Gate, R: Wait>(
             threaded.gate.enter(number);
             let answer = watched.run(rt, threaded.alloc, job);
             threaded.gate.leave(number);
-            events = events.saturating_add(note(threaded, watched, job, answer)?.events);
+            events = events.saturating_add(note(threaded, watched, job, answer)?.answered.events);
         }
     }
     Ok(events)
 }
 
 /// Keeps the passes of jobs.
-fn keep_all(
-    all: &mut Vec<BookPass<Plain>>,
-    passes: Vec<BookPass<Plain>>,
-) -> Result<(), AllocError> {
+fn keep_all(all: &mut Vec<BookPass<Plain>>, passes: Vec<BookPass<Plain>>) -> Result<(), AllocError>
+    ensures { OnOk result (vec_len all.new ≡ vec_len all.old + vec_len passes) }
+{
     for pass in passes {
         all.push(pass)?;
     }
@@ -157,6 +162,8 @@ fn give_to_pool<G: Gate + Sync, R: Threads + Wait + Sync>(
     ensures seat { dispatcher.new.seat ≡ dispatcher.old.seat }
     ensures owns { OnOk result
         (owns_of dispatcher.new.watched.items ≡ owns_of dispatcher.old.watched.items) }
+    ensures passes { OnOk result (vec_len dispatcher.new.passes
+        ≡ vec_len dispatcher.old.passes + length jobs.now) }
 {
     let (alloc, workers) = (threaded.alloc, threaded.plan.workers);
     let report = pool(rt, alloc, threaded.books, jobs, workers, threaded.gate)?;

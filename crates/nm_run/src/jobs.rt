@@ -1,10 +1,10 @@
 //! Which books have something to do.
 
-ghost use Rattle.std.specs.Prelude.{◌≡◌, ◌⊎◌, ◌↔◌, ℕ, ◌-◌, ◌<◌, All, IfOk, IsTrue, MatchResult};
-ghost use Rattle.std.specs.Prelude.{OnOk, length};
-ghost use Rattle.nm_book.specs.declared.running.Ran.TheVariants.{All as AllDone, Limit, Memory};
+ghost use Rattle.std.specs.Prelude.{◌≡◌, ◌↔◌, ℕ, ◌-◌, ◌<◌, ◌≤◌, All, IfOk, IsTrue, MatchResult};
+ghost use Rattle.std.specs.Prelude.{OnOk, false, length, true};
+ghost use Rattle.nm_book.specs.declared.running.Ran.TheVariants.{Memory};
 ghost use Rattle.nm_run.specs.Replicas.{AreWordsOf};
-ghost use Rattle.nm_run.specs.Watching.{AreOwns, names_of, owns_of};
+ghost use Rattle.nm_run.specs.Watching.{Answers, AreOwns, WasLookedAt, names_of, owns_of};
 ghost use Rattle.nm_shared.specs.Board.{IsSeatOf};
 
 use crate::stations::Own;
@@ -15,7 +15,7 @@ use nm_book::channels::comes_in;
 use nm_replica::acts::{Stand, Standing};
 use nm_shared::board::word_of;
 use nm_shared::workers::BookPass;
-use nm_shared::{ClockBoard, Job, Pass, Plain, Seat};
+use nm_shared::{ClockBoard, GivenBack, Job, Pass, Plain, Seat};
 use nm_topology::Topology;
 use std::alloc::{AllocError, Global};
 use std::sync::Wait;
@@ -41,6 +41,13 @@ pub(crate) struct Watched<'a> {
     /// It did events since it was looked at.
     is_stale: bool,
     pub is_done: bool,
+}
+
+/// A job was done: how many events it was, and that its book was given back, if it left none.
+#[derive(Clone, Copy)]
+pub(crate) struct Answered {
+    pub events: u64,
+    given_back: Option<GivenBack>,
 }
 
 /// The words of the channels that come into a partition.
@@ -107,7 +114,9 @@ impl<'a> Watched<'a> {
     }
 
     /// Its pass of the book.
-    pub(crate) fn into_pass(self) -> BookPass<Plain> {
+    pub(crate) fn into_pass(self) -> BookPass<Plain>
+        ensures { result.book ≡ self.own.index }
+    {
         BookPass {
             book: self.own.index,
             pass: self.pass,
@@ -127,6 +136,8 @@ impl<'a> Watched<'a> {
         requires { IsSeatOf board.now seat.old }
         ensures seat { IsSeatOf board.now seat.new }
         ensures own { self.new.own ≡ self.old.own }
+        ensures looked { WasLookedAt self.new }
+        ensures wanted { result ≡ true → self.new.is_done ≡ false }
     {
         if self.is_done {
             return false;
@@ -162,24 +173,28 @@ impl<'a> Watched<'a> {
         self.own.book.run(rt, &mut self.pass, alloc, job.limit)
     }
 
-    /// A job of its book was done: how many events it was. One that left none gives the book back.
+    /// A job of its book was done and is noted. One that left none gives the book back.
     ///
     /// # Errors
     ///
     /// Where memory was refused to the job.
-    pub(crate) fn note(&mut self, job: &Job, answer: Ran) -> Result<u64, AllocError>
+    pub(crate) fn note(&mut self, job: &Job, answer: Ran) -> Result<Answered, AllocError>
         requires { self.old.own.index ≡ job.now.book }
-        ensures events { MatchResult result (λ n. (answer ≡ AllDone n) ⊎ (answer ≡ Limit n))
+        ensures answered { MatchResult result (Answers answer)
             (λ _. (n : ℕ) × (answer ≡ Memory n)) }
         ensures own { self.new.own ≡ self.old.own }
+        ensures stale { self.new.is_stale ≡ true }
     {
         self.is_stale = true;
         match answer {
-            Ran::All(count) => {
-                self.own.station.lending.give_back();
-                Ok(count)
-            }
-            Ran::Limit(count) => Ok(count),
+            Ran::All(events) => Ok(Answered {
+                events,
+                given_back: Some(self.own.station.lending.give_back()),
+            }),
+            Ran::Limit(events) => Ok(Answered {
+                events,
+                given_back: None,
+            }),
             Ran::Memory(_) => Err(AllocError),
         }
     }
@@ -199,6 +214,10 @@ pub(crate) fn jobs_for<G, R: Wait>(
     ensures named { IfOk result
         (λ jobs. All (λ j. j.book < length threaded.now.books.now) jobs.items) }
     ensures owns { OnOk result (owns_of watched.new.items ≡ owns_of watched.old.items) }
+
+    // Each was looked at that had been said to have changed.
+    ensures looked { length watched.old.items ≤ length threaded.now.books.now
+        → OnOk result (All WasLookedAt watched.new.items) }
 {
     let mut jobs = Vec::new(threaded.alloc);
     for number in 0..threaded.books.len() {

@@ -93,7 +93,7 @@ fn open_one<R: Net>(
 /// Each book is lent to the pool at first. A partition that is alone has no messages to wait for:
 /// its own threads run its books, and write records while they are near the processor.
 fn first_lending(partitions: u32) -> Lending
-    ensures { result.has_pool ≡ not (partitions == 1) }
+    ensures { result ≡ not (partitions == 1) }
 {
     if partitions == 1 {
         Lending::alone()

@@ -1,7 +1,9 @@
 //! A run of all partitions.
 
-ghost use Rattle.std.specs.Prelude.{◌≡◌, ◌⊎◌, ◌≤◌, All, IfErr, IfOk, OnOk, map};
+ghost use Rattle.std.specs.Prelude.{◌≡◌, ◌⊎◌, ◌≤◌, All, IfErr, IfOk, OnOk, length, map, true};
+ghost use Rattle.std.specs.Prelude.{vec_len};
 ghost use Rattle.std.specs.Arc.{arc_value};
+ghost use Rattle.nm_book.specs.Book.{is_replica};
 ghost use Rattle.nm_files.specs.Files.{AreCounted};
 ghost use Rattle.nm_run.specs.Faults.{HasReason, IsOfFiles};
 ghost use Rattle.std.specs.List.{filter};
@@ -15,6 +17,7 @@ ghost use Rattle.nm_run.specs.Replicas.{AreAllReplicas, HaveDistinctNames};
 ghost use Rattle.nm_run.specs.Watching.{AreOwns, names_of, owns_of};
 ghost use Rattle.nm_shared.specs.Board.{AreFirstOwners, owned_word};
 ghost use Rattle.nm_run.specs.Report.{AreOfRun, IsCertifiedRun};
+ghost use Rattle.nm_run.specs.declared.stop.Stop.TheVariants.{Memory};
 
 use crate::closing::{certify_all, close_run};
 use crate::dispatching::Dispatcher;
@@ -68,7 +71,9 @@ fn share_one(
     partition: PartNo,
     replica: u8,
 ) -> Result<SharedBook<Plain>, Stop>
-    ensures { IfOk result (λ b. (b.partition ≡ partition) × (b.replica ≡ replica)) }
+    ensures named { IfOk result (λ b. (b.partition ≡ partition) × (b.replica ≡ replica)) }
+    ensures memory { is_replica (arc_value topology.now) partition replica ≡ true
+        → IfErr result (λ s. s ≡ Memory) }
 {
     let (counts, whole) = Plain::open();
     let topology = Arc::try_clone(topology)?;
@@ -98,7 +103,9 @@ fn passes_of<R: Wait>(
     rt: &R,
     alloc: Global,
     books: &[SharedBook<Plain>],
-) -> Result<Vec<Pass<Plain>>, AllocError> {
+) -> Result<Vec<Pass<Plain>>, AllocError>
+    ensures { IfOk result (λ passes. vec_len passes ≡ length books.now) }
+{
     let mut passes = Vec::with_capacity(alloc, books.len())?;
     for book in books {
         passes.push(book.pass(rt)?)?;

@@ -1,7 +1,7 @@
 //! Why a run does not come to its end.
 
-ghost use Rattle.std.specs.Prelude.{◌≡◌, ◌⊎◌};
-ghost use Rattle.nm_run.specs.declared.stop.Stop.TheVariants.{Known, Memory};
+ghost use Rattle.std.specs.Prelude.{◌≡◌};
+ghost use Rattle.nm_run.specs.declared.stop.Stop.TheVariants.{Memory};
 
 use nm_base::IfaceNo;
 use nm_files::{FileFault, FilesFault, OutputFault};
@@ -58,7 +58,9 @@ impl From<io::Error> for Stop {
 }
 
 impl From<OutputFault> for Stop {
-    ghost from_gives = { λ _ s. (s ≡ Known) ⊎ (s ≡ Memory) };
+    ghost use Rattle.nm_run.specs.Faults.{output_stop};
+
+    ghost from_gives = { λ fault s. s ≡ output_stop fault };
 
     fn from(fault: OutputFault) -> Self {
         match fault {

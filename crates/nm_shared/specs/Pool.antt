@@ -1,5 +1,5 @@
 -- What a pool answers of its jobs.
-use Rattle.std.specs.Prelude.{◌≡◌, ℕ, List, slice_get, slice_index, Some}
+use Rattle.std.specs.Prelude.{◌≡◌, ℕ, List, [], ◌∷◌, Option, Some, slice_get, slice_index, slice_set}
 use Rattle.nm_book.specs.Book.{BookValue}
 use Rattle.nm_book.specs.Running.{Runs}
 use Rattle.nm_book.specs.declared.running.Ran.{Ran}
@@ -7,6 +7,12 @@ use Rattle.nm_book.specs.declared.running.Ran.{Ran}
 -- a book that was asked for at most so many events ran, and answered so
 abbrev pub IsRunAnswer : ℕ → Ran → Type 0
 IsRunAnswer limit answer = ∥ ((b : BookValue) × (c : BookValue) × Runs b c limit answer) ∥₁
+
+-- reports are put one after another, each in the place of its job
+unfoldable pub put_in_places : {A : Type 0} → (place_of : A → ℕ) → List (Option A) → List A → List (Option A)
+put_in_places place_of slots [] = slots
+put_in_places place_of slots (report ∷ more) =
+    put_in_places place_of (slice_set slots (place_of report) (Some report)) more
 
 -- each answer is one to the limit of the job at its place
 abbrev pub AreAnswers : List ℕ → List Ran → Type 0

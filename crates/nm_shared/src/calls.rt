@@ -3,18 +3,30 @@
 ghost use Rattle.std.specs.Prelude.{◌≡◌, ◌+◌, ◌≤◌, true};
 ghost use Rattle.nm_book.specs.Book.{BookValue, message_channel};
 ghost use Rattle.nm_book.specs.Accepting.{Takes, message_taken};
+ghost use Rattle.nm_book.specs.Merging.{BookMerges};
 ghost use Rattle.nm_book.specs.Running.{Runs};
 ghost use Rattle.nm_shared.specs.Counted.{Meets, counts_of};
 ghost use Rattle.nm_shared.specs.Known.{messages_known, news, ran};
 ghost use Rattle.nm_shared.specs.Home.{home_of};
 
-use crate::acts::{Accept, Amounts, Look, Run};
+use crate::acts::{Accept, Amounts, Look, Merge, Run};
 use crate::counts::Counts;
 use crate::shared_book::{Pass, SharedBook};
-use nm_book::{AcceptFault, ChannelMessage, Ran};
+use nm_base::PartNo;
+use nm_book::{AcceptFault, ChannelMessage, Knowledge, MergeFault, Ran};
 use nm_knowledge::Accepted;
 use std::alloc::Global;
 use std::sync::Wait;
+
+/// What the book of this replica answered to a merge: only `SharedBook::merge` makes it.
+#[derive(Drop)]
+pub struct MergeAnswer {
+    /// The replica's partition, and 0 or 1.
+    pub partition: PartNo,
+    pub replica: u8,
+    pub answer: Result<(), MergeFault>,
+    _private: (),
+}
 
 impl<C: Counts> SharedBook<C> {
     /// Takes in a message or a null message, as `Book::accept` does. The pass counts one message
@@ -53,6 +65,30 @@ impl<C: Counts> SharedBook<C> {
             ≡ C.events_of pass.old.share + ran result }
     {
         self.act(rt, pass, Run { alloc, limit })
+    }
+
+    /// Takes in what another replica of the partition knows, as `Book::merge` does. What it learned
+    /// of that the pass counts.
+    pub fn merge<R: Wait>(
+        &self,
+        rt: &R,
+        pass: &mut Pass<C>,
+        alloc: Global,
+        knowledge: &Knowledge,
+    ) -> MergeAnswer
+        ensures merges { (b : BookValue) × (c : BookValue)
+            × BookMerges b c knowledge.now result.answer
+            × Meets C.exact C.home (counts_of C.messages_of C.events_of pass.old.share)
+            (counts_of C.messages_of C.events_of pass.new.share) b c }
+        ensures into { (result.partition ≡ self.now.partition)
+            × (result.replica ≡ self.now.replica) }
+    {
+        MergeAnswer {
+            partition: self.partition,
+            replica: self.replica,
+            answer: self.act(rt, pass, Merge { alloc, knowledge }),
+            _private: (),
+        }
     }
 
     /// How many messages the book knows and how many events it did: no less than the pass counted.

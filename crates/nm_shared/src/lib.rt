@@ -17,9 +17,10 @@ pub mod workers;
 
 pub use act::Act;
 pub use board::{ClockBoard, OwnerSeat, Seat};
+pub use calls::MergeAnswer;
 pub use counts::Counts;
 pub use ledgers::{Ledgers, Naming};
-pub use lending::Lending;
+pub use lending::{GivenBack, Lending, Lent, Notified};
 pub use plain::Plain;
 pub use shared_book::{Closed, Pass, PassesOut, SharedBook};
 pub use workers::{Gate, Job, OpenGate, PoolReport, pool};

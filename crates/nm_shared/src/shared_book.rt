@@ -77,6 +77,13 @@ pub struct PassesOut<C: Counts> {
 }
 
 impl<C: Counts> Locked<C> {
+    /// The book of what came back, whatever passes are missing.
+    pub fn into_book(self) -> Book
+        ensures { C.exact ≡ true → home_of result ≡ C.home }
+    {
+        self.book
+    }
+
     /// One more pass.
     fn pass(&mut self) -> Result<Pass<C>, AllocError>
         ensures { IfOk result (λ p. (C.messages_of p.share ≡ 0) × (C.events_of p.share ≡ 0)) }

@@ -1,14 +1,35 @@
 -- What contracts see of a transport and of its connections.
-use Rattle.std.specs.Prelude.{◌≡◌, ℕ, ◌+◌, Bool, true, false, [], Option, if◌then◌else◌}
+use Rattle.std.specs.Prelude.{◌≡◌, ◌⊎◌, ℕ, ◌+◌, Bool, true, false, List, [], Option, if◌then◌else◌, slice_get, Some}
+use Rattle.std.specs.declared.io.ErrorKind.{ErrorKind}
+use Rattle.std.specs.declared.io.ErrorKind.TheVariants.{WouldBlock, Interrupted, NotConnected}
+use Rattle.std.specs.declared.net.socket_addr.SocketAddr.{SocketAddr}
 use Rattle.nm_base.specs.Wire.{WireSeen}
+use Rattle.nm_transport.specs.declared.tcp_wire.Called.{Called}
 use Rattle.nm_transport.specs.declared.transport.Waited.{Waited}
 use Rattle.nm_transport.specs.declared.transport.Waited.TheVariants.{Ready, RanOut, Fault}
 
 -- what contracts see of a connection over TCP: what moved on it, and the peer to which it was begun,
--- if it was begun here
+-- with its address, if it was begun here
 pub record TcpSeen : Type 0 where
   pub wire : WireSeen
-  pub peer : Option ℕ
+  pub called : Option Called
+
+-- what contracts see of a transport over TCP: where its peers listen, by their numbers, whether the
+-- system had too little for one more connection when it was asked last, and how many waits ran out
+pub record TcpTransportSeen : Type 0 where
+  pub peers : List SocketAddr
+  pub is_short : Bool
+  pub elapsed : ℕ
+
+-- the peer with this number was called, at its address
+abbrev pub IsCallTo : (peers : List SocketAddr) → (peer : ℕ) → Called → Type 0
+IsCallTo peers peer called =
+    (called.peer ≡ peer) × (slice_get peers peer ≡ Some called.address)
+
+-- an error of this kind says that the call is to be made again once the connection is ready: it
+-- would block, was interrupted, or the connection is not made yet
+abbrev pub IsToWait : ErrorKind → Type 0
+IsToWait kind = (kind ≡ WouldBlock) ⊎ (kind ≡ Interrupted) ⊎ (kind ≡ NotConnected)
 
 -- nothing has moved on the wire, and it has neither ended nor failed
 abbrev pub IsFresh : WireSeen → Type 0
@@ -20,6 +41,12 @@ abbrev pub has_run_out : Waited → Bool
 has_run_out Ready = false
 has_run_out RanOut = true
 has_run_out Fault = true
+
+-- what a wait came to, by whether a period was over and whether it could wait
+abbrev pub waited_as : (is_over has_waited : Bool) → Waited
+waited_as true has_waited = RanOut
+waited_as false true = Ready
+waited_as false false = Fault
 
 -- how many waits have ended so, after one more, which did or did not
 abbrev pub elapsed_after : (before : ℕ) → (ran_out : Bool) → ℕ

@@ -1,7 +1,7 @@
 //! Connections that the system refuses.
 
 ghost use Rattle.std.specs.Prelude.{◌≡◌, ◌↔◌, IsTrue, true};
-ghost use Rattle.nm_transport.specs.Shortage.{IsShortage};
+ghost use Rattle.nm_transport.specs.Shortage.{IsShortage, IsOfShortage};
 
 use std::io;
 
@@ -23,7 +23,9 @@ fn is_of_shortage(code: i32) -> bool
 
 /// Whether the system refused a connection because it has too little for one more, so that no peer
 /// is to blame.
-pub(crate) fn is_shortage(error: &io::Error) -> bool {
+pub(crate) fn is_shortage(error: &io::Error) -> bool
+    ensures { IsTrue result ↔ IsOfShortage error.now }
+{
     match error.raw_os_error() {
         Some(code) => is_of_shortage(code),
         None => false,

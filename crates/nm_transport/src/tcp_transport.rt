@@ -1,13 +1,17 @@
 //! Connections over TCP.
 
-ghost use Rattle.std.specs.Prelude.{◌≡◌, ◌↔◌, [], true, IfSome, Some};
+ghost use Rattle.std.specs.Prelude.{◌≡◌, ◌↔◌, ◌||◌, [], IfOk, IfSome, IsSomeAnd, IsTrue, Some};
+ghost use Rattle.std.specs.Prelude.{false, if◌then◌else◌};
+ghost use Rattle.std.specs.Duration.{as_nanos};
+ghost use Rattle.nm_transport.specs.Shortage.{IsOfShortage};
+ghost use Rattle.nm_transport.specs.Transport.{IsCallTo, IsFresh, has_run_out, waited_as};
 
 use crate::limits::MAX_REPORTS;
 use crate::period::Period;
 use crate::shortage::is_shortage;
-use crate::tcp_wire::TcpWire;
+use crate::tcp_wire::{Called, TcpWire};
 use crate::transport::{Reported, Transport, Waited};
-use mio::net::{TcpListener, TcpStream};
+use mio::net::TcpListener;
 use mio::{Events, Interest, Poll, Token};
 use nm_base::failures::FailureCount;
 use std::alloc::Global;
@@ -19,7 +23,8 @@ use std::time::{Clock, Duration};
 /// The token of the listener. Connections have their keys, and wakers the tokens next below.
 const LISTENER: Token = Token(usize::MAX);
 
-/// A listener, the addresses of the peers to connect to, and a poll.
+/// A listener, the addresses of the peers to connect to, and a poll. A clause sees the addresses,
+/// whether the system has too little for one more connection, and how many waits ran out.
 #[derive(Drop)]
 pub struct TcpTransport<R> {
     net: R,
@@ -37,22 +42,41 @@ pub struct TcpTransport<R> {
 }
 
 impl<R> Model for TcpTransport<R> {
-    ghost use Rattle.std.specs.Prelude.{ℕ};
+    ghost use Rattle.nm_transport.specs.Transport.{TcpTransportSeen};
 
-    // How many waits ran out.
-    ghost Value = { ℕ };
+    ghost Value = { TcpTransportSeen };
 
-    ghost view = { λ n. n.idle };
+    ghost view = { λ t. record {
+      peers = t.peers.items;
+      is_short = t.is_short;
+      elapsed = t.idle;
+    } };
 }
 
-/// Whether a connection meets itself: its own end has the address to which it was begun. Where
-/// nobody listens yet at a port from which the system takes the ports of callers, the two may be
-/// one (RFC 9293, section 3.5: both ends open at once). That is no connection with a peer, and it
-/// holds the port at which the peer is to listen.
-pub fn meets_itself(own: SocketAddr, peer: SocketAddr) -> bool
-    ensures { (result ≡ true) ↔ (own ≡ peer) }
+/// How long a wait may last: so long as is left of the period, or it only looks.
+fn wait_limit(may_wait: bool, left: Duration) -> Duration
+    ensures { as_nanos result ≡ (if may_wait then as_nanos left else 0) }
 {
-    own == peer
+    if may_wait { left } else { Duration::ZERO }
+}
+
+/// What a wait came to, at which a period was over or not, if it could wait.
+fn waited_as(is_over: bool, has_waited: bool) -> Waited
+    ensures { result ≡ waited_as is_over has_waited }
+{
+    match (is_over, has_waited) {
+        (true, _) => Waited::RanOut,
+        (false, true) => Waited::Ready,
+        (false, false) => Waited::Fault,
+    }
+}
+
+/// Whether somebody may have called after a wait: that was so before, the listener was reported, or
+/// nobody knows. Whatever was reported, it is asked once a period is over.
+fn may_be_called(was_called: bool, waited: Waited, has_call: bool) -> bool
+    ensures { result ≡ (was_called || has_run_out waited || has_call) }
+{
+    was_called || waited.has_run_out() || has_call
 }
 
 /// Whether the listener was reported.
@@ -76,6 +100,8 @@ impl<R: Net + Clock> TcpTransport<R> {
     ) -> io::Result<Self>
     where
         R: Drop,
+        ensures { IfOk result
+            (λ t. t ≡ record { peers = peers.items; is_short = false; elapsed = 0 }) }
     {
         let events = Events::with_capacity(alloc, MAX_REPORTS)?;
         poll.registry()
@@ -93,22 +119,43 @@ impl<R: Net + Clock> TcpTransport<R> {
             idle: FailureCount::new(),
         })
     }
+
+    /// Begins a connection to the peer with this number, at its address.
+    fn call(&mut self, peer: usize) -> Option<TcpWire>
+        ensures fresh { IfSome result (λ w. IsFresh w.wire) }
+        ensures called { IfSome result (λ w. IsSomeAnd w.called (IsCallTo self.old.peers peer)) }
+        ensures same { self.new ≡ self.old }
+    {
+        let address = *self.peers.get(peer)?;
+        let wire = TcpWire::call(&self.net, Called { peer, address })?;
+        if wire.meets_itself() {
+            return None;
+        }
+        Some(wire)
+    }
+
+    /// The system refused a connection that somebody began, or has none.
+    fn note_refusal(&mut self, error: &io::Error)
+        ensures short { IsTrue self.new.is_short ↔ IsOfShortage error.now }
+        ensures same { (self.new.peers ≡ self.old.peers)
+            × (self.new.elapsed ≡ self.old.elapsed) }
+    {
+        self.is_called = false;
+        self.is_short = is_shortage(error);
+    }
 }
 
 impl<R: Net + Clock> Transport for TcpTransport<R> {
     type Connection = TcpWire;
 
-    ghost elapsed_periods = { λ n. n };
+    ghost use Rattle.std.specs.Option.{option_map};
 
-    ghost leads_to = { λ w. w.peer };
+    ghost elapsed_periods = { λ t. t.elapsed };
+
+    ghost leads_to = { λ w. option_map (λ called. called.peer) w.called };
 
     fn connect(&mut self, peer: usize) -> Option<TcpWire> {
-        let address = *self.peers.get(peer)?;
-        let stream = TcpStream::connect(&self.net, address).ok()?;
-        match stream.local_addr() {
-            Ok(own) if meets_itself(own, address) => None,
-            _ => Some(TcpWire::new(stream, Some(peer))),
-        }
+        self.call(peer)
     }
 
     fn accept(&mut self) -> Option<TcpWire> {
@@ -118,24 +165,29 @@ impl<R: Net + Clock> Transport for TcpTransport<R> {
         match self.listener.accept() {
             Ok((stream, _)) => {
                 self.is_short = false;
-                Some(TcpWire::new(stream, None))
+                Some(TcpWire::accepted(stream))
             }
             Err(error) => {
-                self.is_called = false;
-                self.is_short = is_shortage(&error);
+                self.note_refusal(&error);
                 None
             }
         }
     }
 
-    fn is_short(&self) -> bool {
+    fn is_short(&self) -> bool
+        ensures { result ≡ self.now.is_short }
+    {
         self.is_short
     }
 
-    fn watch(&mut self, connection: &mut TcpWire, key: usize) -> bool {
-        connection
-            .register(self.poll.registry(), Token(key))
-            .is_ok()
+    fn watch(&mut self, connection: TcpWire, key: usize) -> Option<TcpWire> {
+        let mut connection = connection;
+        let watched = connection.register(self.poll.registry(), Token(key));
+        if watched.is_ok() {
+            Some(connection)
+        } else {
+            None
+        }
     }
 
     fn unwatch(&mut self, connection: &mut TcpWire) {
@@ -143,25 +195,15 @@ impl<R: Net + Clock> Transport for TcpTransport<R> {
     }
 
     fn wait(&mut self, may_wait: bool) -> Waited {
-        let limit = if may_wait {
-            self.period.left(&self.net)
-        } else {
-            Duration::ZERO
-        };
+        let limit = wait_limit(may_wait, self.period.left(&self.net));
         let has_waited = self.poll.poll(&mut self.events, Some(limit)).is_ok();
         let was_quiet = may_wait && has_waited && self.events.is_empty();
-        let is_over = self.period.ends(&self.net, was_quiet);
-        // Whatever was reported of the listener, it is asked now and then.
-        self.is_called = self.is_called || is_over || !has_waited || has_call(&self.events);
-        if !is_over && has_waited {
-            return Waited::Ready;
+        let waited = waited_as(self.period.ends(&self.net, was_quiet), has_waited);
+        self.is_called = may_be_called(self.is_called, waited, has_call(&self.events));
+        if waited.has_run_out() {
+            self.idle.rise();
         }
-        self.idle.rise();
-        if is_over {
-            Waited::RanOut
-        } else {
-            Waited::Fault
-        }
+        waited
     }
 
     fn report(&self, number: usize) -> Option<Reported> {

@@ -1,6 +1,8 @@
 //! A wire over a TCP connection that does not wait.
 
-ghost use Rattle.std.specs.Prelude.{◌≡◌, []};
+ghost use Rattle.std.specs.Prelude.{◌≡◌, ◌↔◌, IfSome, IsTrue, None, Some, [], true};
+ghost use Rattle.std.specs.IoError.{error_kind};
+ghost use Rattle.nm_transport.specs.Transport.{IsToWait};
 
 use mio::net::TcpStream;
 use mio::{Interest, Registry, Token};
@@ -10,14 +12,22 @@ use nm_base::{Octets, Wire};
 use std::io;
 use std::io::{ErrorKind, Read, Write};
 use std::marker::Model;
+use std::net::{Net, SocketAddr};
+
+/// The peer to which a connection was begun, and the address at which it was called.
+#[derive(Clone, Copy)]
+pub struct Called {
+    pub peer: usize,
+    pub address: SocketAddr,
+}
 
 /// A TCP connection. A clause sees the octets that came and went, as the system answered, how often
-/// a read found the end, how often a call failed, and the peer to which it was begun.
+/// a read found the end, how often a call failed, and whom it calls, and where.
 #[derive(Drop)]
 pub struct TcpWire {
     stream: TcpStream,
-    /// The number of the peer to which it was begun. `None` where somebody else began it.
-    peer: Option<usize>,
+    /// `None` where somebody else began it.
+    called: Option<Called>,
     got: Octets,
     sent: Octets,
     ended: FailureCount,
@@ -36,25 +46,53 @@ impl Model for TcpWire {
         ends = s.ended;
         failures = s.failed;
       };
-      peer = s.peer;
+      called = s.called;
     } };
 }
 
 impl TcpWire {
-    /// A connection on which nothing has moved, to a peer or by somebody else. What is written is
-    /// sent at once: a conservative simulation is a chain of null messages, and all wait for one
-    /// that the system holds back until the last was acknowledged (RFC 896). A connection that
-    /// cannot be told so is slower.
-    pub fn new(stream: TcpStream, peer: Option<usize>) -> Self
+    /// Begins a connection to a peer at its address, if the system lets it.
+    pub fn call<R: Net>(net: &R, called: Called) -> Option<Self>
+        ensures { IfSome result (λ w. w ≡ record {
+          wire = record { given = []; taken = []; ends = 0; failures = 0 };
+          called = Some called;
+        }) }
+    {
+        let stream = TcpStream::connect(net, called.address).ok()?;
+        Some(TcpWire::over(stream, Some(called)))
+    }
+
+    /// A connection that somebody else began.
+    pub fn accepted(stream: TcpStream) -> Self
         ensures { result ≡ record {
           wire = record { given = []; taken = []; ends = 0; failures = 0 };
-          peer = peer;
+          called = None;
+        } }
+    {
+        TcpWire::over(stream, None)
+    }
+
+    /// Whether the connection meets itself: its own end has the address to which it was begun.
+    pub fn meets_itself(&self) -> bool {
+        match (self.called, self.stream.local_addr()) {
+            (Some(called), Ok(own)) => meets_itself(own, called.address),
+            _ => false,
+        }
+    }
+
+    /// A connection on which nothing has moved. What is written is sent at once: a conservative
+    /// simulation is a chain of null messages, and all wait for one that the system holds back
+    /// until the last was acknowledged (RFC 896). A connection that cannot be told so is slower.
+    fn over(stream: TcpStream, called: Option<Called>) -> Self
+        ensures { result ≡ record {
+          wire = record { given = []; taken = []; ends = 0; failures = 0 };
+          called = called;
         } }
     {
         let _ = stream.set_nodelay(true);
         TcpWire {
             stream,
-            peer,
+            called,
             got: Octets::new(),
             sent: Octets::new(),
             ended: FailureCount::new(),
@@ -117,8 +155,20 @@ impl Wire for TcpWire {
     }
 }
 
+/// Whether a connection to an address has it at its own end, too. Where nobody listens yet at a
+/// port from which the system takes the ports of callers, the two may be one (RFC 9293, section
+/// 3.5: both ends open at once). That is no connection with a peer, and it holds the port at which
+/// the peer is to listen.
+pub fn meets_itself(own: SocketAddr, peer: SocketAddr) -> bool
+    ensures { (result ≡ true) ↔ (own ≡ peer) }
+{
+    own == peer
+}
+
 /// Whether the call is to be made again once the connection is ready.
-fn waits(error: &io::Error) -> bool {
+fn waits(error: &io::Error) -> bool
+    ensures { IsTrue result ↔ IsToWait (error_kind error.now) }
+{
     matches!(
         error.kind(),
         ErrorKind::WouldBlock | ErrorKind::Interrupted | ErrorKind::NotConnected

@@ -67,9 +67,10 @@ pub trait Transport {
         false
     }
 
-    /// Has `wait` end when the connection with this key is ready. It answers whether it will.
-    fn watch(&mut self, connection: &mut Self::Connection, key: usize) -> bool
-        ensures same { connection.new ≡ connection.old }
+    /// Has `wait` end when the connection is ready, which then has this key. A connection that it
+    /// can't watch is let go.
+    fn watch(&mut self, connection: Self::Connection, key: usize) -> Option<Self::Connection>
+        ensures same { IfSome result (λ w. w ≡ connection) }
         ensures idle { elapsed_periods self.new ≡ elapsed_periods self.old };
 
     /// Ends that.

@@ -87,8 +87,8 @@ impl Transport for WorldTransport {
         }
     }
 
-    fn watch(&mut self, _connection: &mut WorldWire, _key: usize) -> bool {
-        true
+    fn watch(&mut self, connection: WorldWire, _key: usize) -> Option<WorldWire> {
+        Some(connection)
     }
 
     fn unwatch(&mut self, connection: &mut WorldWire) {

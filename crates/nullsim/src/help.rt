@@ -182,8 +182,8 @@ restarts.
     ),
 ];
 
-/// The version: what the program reads.
-const VERSION: &str = "nullsim: topologies of formats 1 and 2, sessions of versions 1 and 2\n";
+/// The version, and what the program reads.
+const VERSION: &str = "nullsim 1.0.0: topologies of formats 1 and 2, sessions of versions 1 and 2\n";
 
 /// More of a word, if there is such a word.
 fn more_of(word: &str) -> Option<&'static str> {
@@ -193,6 +193,11 @@ fn more_of(word: &str) -> Option<&'static str> {
         }
     }
     None
+}
+
+/// The form of a command: the first line of what is said of it.
+pub fn form_of(word: &str) -> Option<&'static str> {
+    more_of(word)?.lines().next()
 }
 
 /// Whether a word asks for help.

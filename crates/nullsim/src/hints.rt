@@ -1,9 +1,14 @@
-//! A further line of a fault, for who sits at a terminal.
+//! Further lines of a fault, for who sits at a terminal or asked for them.
 
 use crate::noted::Noted;
+use crate::reasons::{file_reason, stalled_reason};
+use crate::usage::usage_fault;
 use nm_base::Sink;
 use nm_base::sink::write_all;
-use nm_command::Status;
+use nm_command::{Command, Status};
+use nm_pcap::Form;
+use std::io::{self, IsTerminal};
+use std::net::Net;
 
 /// What is said where the program itself is at fault.
 const BROKEN: &str = "what cannot happen did: please report it, with the topology and the words\n";
@@ -21,17 +26,57 @@ fn hint(status: Status) -> &'static str {
     }
 }
 
-/// Says more of a fault: that it is the program's own, the file that failed and why, or what helps.
-pub fn say_more<E: Sink>(status: Status, noted: &Noted, errors: &mut E) {
-    let _ = write_all(errors, hint(status).as_bytes());
-    if status != Status::File {
-        return;
+/// The reason of a fault in a sentence, if it is known. What cannot be read again is not said.
+fn reason<N: Net>(
+    rt: &HostRuntime,
+    system: &N,
+    words: &[String],
+    status: Status,
+    noted: &Noted,
+) -> io::Result<Option<String>> {
+    match status {
+        Status::Usage => usage_fault(rt, words),
+        Status::File => file_reason(rt, system, words, noted),
+        Status::Stalled => stalled_reason(rt, words),
+        _ => Ok(None),
     }
-    if noted.notes.is_broken.get() {
+}
+
+/// What is said where a trace file went to a terminal.
+const OCTETS: &str =
+    "that was a trace file: nullsim one TOPO IFACE > FILE saves one, and nullsim text \
+    TOPO IFACE shows it in words\n";
+
+/// Whether the words ask for a trace file as it is.
+fn asks_for_octets(words: &[String]) -> bool {
+    match Command::of(words) {
+        Some(Command::Trace(arguments)) => matches!(arguments.form, Form::Octets),
+        _ => false,
+    }
+}
+
+/// Says how a trace file is saved, where one went to a terminal.
+pub fn say_octets<E: Sink>(rt: &HostRuntime, words: &[String], status: Status, errors: &mut E) {
+    if status == Status::Done && rt.stdout().is_terminal() && asks_for_octets(words) {
+        let _ = write_all(errors, OCTETS.as_bytes());
+    }
+}
+
+/// Says more of a fault: that it is the program's own, its reason, or what helps.
+pub fn say_more<N: Net, E: Sink>(
+    rt: &HostRuntime,
+    system: &N,
+    words: &[String],
+    status: Status,
+    noted: &Noted,
+    errors: &mut E,
+) {
+    if status == Status::File && noted.notes.is_broken.get() {
         let _ = write_all(errors, BROKEN.as_bytes());
     }
-    if let Some(text) = noted.take_file() {
+    if let Ok(Some(text)) = reason(rt, system, words, status, noted) {
         let _ = write_all(errors, text.as_str().as_bytes());
         let _ = write_all(errors, b"\n");
     }
+    let _ = write_all(errors, hint(status).as_bytes());
 }

@@ -6,19 +6,23 @@
 ghost use Rattle.std.specs.Prelude.{◌≡◌, ◌⊎◌, IfSome, None, length, map, string_bytes};
 ghost use Rattle.nm_command.specs.Command.{command_of};
 
+mod addresses;
 mod differing;
 mod help;
 mod hints;
 mod noted;
 mod parts;
+mod reasons;
 mod stats;
 mod system;
 mod uncertified;
+mod usage;
 mod watching;
 
+use addresses::absent_of;
 use differing::say_difference;
 use help::{HELP, asked};
-use hints::say_more;
+use hints::{say_more, say_octets};
 use nm_base::sink::write_all;
 use nm_base::{MemSink, Sink, StdSink};
 use nm_command::{Command, Status};
@@ -79,7 +83,31 @@ fn say_where<E: Sink>(
     }
 }
 
-/// The program up to its exit status. On a terminal more is said of a fault.
+/// The variable of the environment that has more said of a fault wherever standard error goes.
+const EXPLAIN: &str = "NULLSIM_EXPLAIN";
+
+/// Whether more is to be said of a fault: who reads it sits at a terminal, or asked for it.
+fn explains(rt: &HostRuntime) -> bool {
+    rt.stderr().is_terminal()
+        || match env::var(rt, EXPLAIN) {
+            Ok(value) => value.as_str() == "1",
+            Err(_) => false,
+        }
+}
+
+/// Says which partitions are missing in the list of a node, before it begins.
+fn say_absent<E: Sink>(rt: &HostRuntime, words: &[String], errors: &mut E) {
+    let Some(Command::Node(node)) = Command::of(words) else {
+        return;
+    };
+    if let Ok(Some(text)) = absent_of(rt, &node) {
+        let _ = write_all(errors, text.as_str().as_bytes());
+        let _ = write_all(errors, b"\n");
+    }
+}
+
+/// The program up to its exit status. On a terminal, or where that is asked for, more is said of a
+/// fault.
 fn with_hint<N: Runtime, E: Sink>(
     rt: &HostRuntime,
     system: &N,
@@ -88,10 +116,15 @@ fn with_hint<N: Runtime, E: Sink>(
     progress: &Progress,
 ) -> Ended {
     let noted = Noted::new();
+    let explains = explains(rt);
+    if explains {
+        say_absent(rt, words, &mut StdSink::new(rt.stderr()));
+    }
     let status = over_system(rt, system, words, errors, progress, &noted);
-    if rt.stderr().is_terminal() {
-        say_more(status, &noted, errors);
+    if explains {
+        say_more(rt, system, words, status, &noted, errors);
         say_where(rt, words, status, &noted, errors);
+        say_octets(rt, words, status, errors);
     }
     Ended {
         status,
@@ -109,7 +142,13 @@ fn over_system<N: Runtime, E: Sink>(
     noted: &Noted,
 ) -> Status {
     let writer = rt.stdout();
-    let Ok(writer) = BufWriter::new(rt.alloc(), NotedWriter { writer, noted }) else {
+    let alloc = rt.alloc();
+    let writer = NotedWriter {
+        writer,
+        alloc,
+        noted,
+    };
+    let Ok(writer) = BufWriter::new(alloc, writer) else {
         return report(Status::Memory, errors);
     };
     let mut inputs = NamedInputs::new(SystemInputs { runtime: rt, noted });

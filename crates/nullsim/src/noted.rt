@@ -1,15 +1,41 @@
-//! What went wrong at the system, for a further line on a terminal.
+//! What went wrong at the system, for who reads further lines.
 
 use nm_program::Notes;
 use std::alloc::{AllocError, Global};
 use std::cell::Cell;
 use std::io::{self, ErrorKind, Write};
+use std::sync::atomic::{AtomicI32, Ordering};
+
+/// The last error of the system at a file that was written, whichever thread wrote it.
+#[derive(Drop)]
+pub struct LastError {
+    /// Its number, or 0.
+    code: AtomicI32,
+}
+
+impl LastError {
+    /// Notes an error.
+    pub fn note(&self, error: &io::Error) {
+        if let Some(code) = error.raw_os_error() {
+            self.code.store(code, Ordering::Relaxed);
+        }
+    }
+
+    /// The last one, if there was any.
+    pub fn last(&self) -> Option<io::Error> {
+        match self.code.load(Ordering::Relaxed) {
+            0 => None,
+            code => Some(io::Error::from_raw_os_error(code)),
+        }
+    }
+}
 
 /// The file that failed last and why, whether standard output was closed at its other end, and
 /// what the program notes.
 #[derive(Drop)]
 pub struct Noted {
     pub notes: Notes,
+    pub writing: LastError,
     file: Cell<Option<String>>,
     is_closed: Cell<bool>,
 }
@@ -24,6 +50,9 @@ impl Noted {
     pub fn new() -> Self {
         Noted {
             notes: Notes::new(),
+            writing: LastError {
+                code: AtomicI32::new(0),
+            },
             file: Cell::new(None),
             is_closed: Cell::new(false),
         }
@@ -51,10 +80,12 @@ impl Noted {
     }
 }
 
-/// A writer that notes that its other end was closed, as by `head`.
+/// A writer of standard output that notes why it failed, and that its other end was closed, as by
+/// `head`.
 #[derive(Drop)]
 pub struct NotedWriter<'a, W> {
     pub writer: W,
+    pub alloc: Global,
     pub noted: &'a Noted,
 }
 
@@ -65,6 +96,7 @@ impl<'a, W: Write> Write for NotedWriter<'a, W> {
             if error.kind() == ErrorKind::BrokenPipe {
                 self.noted.is_closed.set(true);
             }
+            self.noted.file(self.alloc, "standard output", error);
         }
         answer
     }

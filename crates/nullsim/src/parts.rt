@@ -2,6 +2,7 @@
 //! locked for as long as its process has it open, so that what a killed process left can be told
 //! from what another one writes.
 
+use crate::noted::LastError;
 use std::alloc::{AllocError, Global};
 use std::fs::{self, DirEntry, File, Metadata, TryLockError};
 use std::io::{self, ErrorKind, Write};
@@ -66,18 +67,27 @@ fn is_part(name: &str) -> bool {
     false
 }
 
-/// A part that is open, and how many octets the system took of it.
+/// A part that is open, how many octets the system took of it, and where it is noted why it took
+/// no more.
 #[derive(Drop)]
-pub struct PartFile {
+pub struct PartFile<'a> {
     file: File,
     count: u64,
+    writing: &'a LastError,
 }
 
-impl Write for PartFile {
+impl<'a> Write for PartFile<'a> {
     fn write(&mut self, octets: &[u8]) -> io::Result<usize> {
-        let taken = self.file.write(octets)?;
-        self.count = self.count.saturating_add(taken as u64);
-        Ok(taken)
+        match self.file.write(octets) {
+            Ok(taken) => {
+                self.count = self.count.saturating_add(taken as u64);
+                Ok(taken)
+            }
+            Err(error) => {
+                self.writing.note(&error);
+                Err(error)
+            }
+        }
     }
 
     fn flush(&mut self) -> io::Result<()> {
@@ -103,17 +113,25 @@ fn is_same(one: &Metadata, other: &Metadata) -> bool {
     one.dev() == other.dev() && one.ino() == other.ino()
 }
 
-impl PartFile {
+impl<'a> PartFile<'a> {
     /// Makes a part of this name: no file, and no link, that stands there is written.
     ///
     /// # Errors
     ///
     /// What the system refused.
-    pub fn make(runtime: &HostRuntime, part: &str) -> io::Result<PartFile> {
+    pub fn make(
+        runtime: &HostRuntime,
+        part: &str,
+        writing: &'a LastError,
+    ) -> io::Result<PartFile<'a>> {
         for _ in 0..MAX_TRIES {
             let file = File::create_new(runtime, part)?;
             if is_kept(&file) {
-                return Ok(PartFile { file, count: 0 });
+                return Ok(PartFile {
+                    file,
+                    count: 0,
+                    writing,
+                });
             }
             let _ = fs::remove_file(runtime, part);
         }

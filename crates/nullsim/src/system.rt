@@ -53,12 +53,12 @@ pub struct SystemOutputs<'a> {
 }
 
 /// A sink over a part.
-type PartSink = StdSink<BufWriter<PartFile>>;
+type PartSink<'a> = StdSink<BufWriter<PartFile<'a>>>;
 
 /// A part that is whole and does not have its name yet. It is open until then, and so locked.
 #[derive(Drop)]
-pub struct ClosedFile {
-    sink: PartSink,
+pub struct ClosedFile<'a> {
+    sink: PartSink<'a>,
     part: String,
     name: String,
 }
@@ -109,14 +109,14 @@ impl<'a> SystemOutputs<'a> {
     }
 
     /// The name of the part of a file, and that it is made.
-    fn make(&mut self, name: &str) -> io::Result<PartFile> {
+    fn make(&mut self, name: &str) -> io::Result<PartFile<'a>> {
         let letters = self.letters(name)?;
         let part = part_of(self.runtime.alloc(), name, &letters)?;
-        PartFile::make(self.runtime, part.as_str())
+        PartFile::make(self.runtime, part.as_str(), &self.noted.writing)
     }
 
     /// A closed file of this name, whose part is written.
-    fn closed(&mut self, name: &str, sink: PartSink) -> io::Result<ClosedFile> {
+    fn closed(&mut self, name: &str, sink: PartSink<'a>) -> io::Result<ClosedFile<'a>> {
         let letters = self.letters(name)?;
         let alloc = self.runtime.alloc();
         Ok(ClosedFile {
@@ -127,7 +127,7 @@ impl<'a> SystemOutputs<'a> {
     }
 
     /// Renames a part, if the file of its name is still what was written: whether it is.
-    fn rename(&self, file: &ClosedFile) -> io::Result<bool> {
+    fn rename(&self, file: &ClosedFile<'a>) -> io::Result<bool> {
         let written = file.sink.writer().get_ref();
         let is_whole = written.is_whole_at(self.runtime, file.part.as_str())?;
         if is_whole {
@@ -138,15 +138,15 @@ impl<'a> SystemOutputs<'a> {
 }
 
 impl<'a> Outputs for SystemOutputs<'a> {
-    type File = PartSink;
+    type File = PartSink<'a>;
 
-    type Closed = ClosedFile;
+    type Closed = ClosedFile<'a>;
 
     ghost made = { λ _. None };
 
     ghost closed = { λ _. None };
 
-    fn create(&mut self, name: &str) -> Result<PartSink, OutputFault> {
+    fn create(&mut self, name: &str) -> Result<PartSink<'a>, OutputFault> {
         let made = self.make(name);
         let file = made.map_err(|error| self.noted(name, &error))?;
         let alloc = self.runtime.alloc();
@@ -156,7 +156,7 @@ impl<'a> Outputs for SystemOutputs<'a> {
         }
     }
 
-    fn close(&mut self, name: &str, file: PartSink) -> Result<ClosedFile, OutputFault> {
+    fn close(&mut self, name: &str, file: PartSink<'a>) -> Result<ClosedFile<'a>, OutputFault> {
         let mut file = file;
         if file.flush().is_err() {
             return Err(OutputFault::Failed);
@@ -165,7 +165,7 @@ impl<'a> Outputs for SystemOutputs<'a> {
         closed.map_err(|error| self.noted(name, &error))
     }
 
-    fn place(&mut self, file: ClosedFile) -> Result<(), OutputFault> {
+    fn place(&mut self, file: ClosedFile<'a>) -> Result<(), OutputFault> {
         match self.rename(&file) {
             Ok(true) => Ok(()),
             Ok(false) => {

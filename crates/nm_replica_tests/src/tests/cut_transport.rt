@@ -82,8 +82,24 @@ impl<N: Transport> Transport for CutTransport<N> {
         })
     }
 
-    fn watch(&mut self, connection: &mut CutWire<N::Connection>, key: usize) -> bool {
-        self.transport.watch(&mut connection.wire, key)
+    fn watch(
+        &mut self,
+        connection: CutWire<N::Connection>,
+        key: usize,
+    ) -> Option<CutWire<N::Connection>> {
+        let CutWire {
+            wire,
+            peer,
+            left,
+            failed,
+        } = connection;
+        let wire = self.transport.watch(wire, key)?;
+        Some(CutWire {
+            wire,
+            peer,
+            left,
+            failed,
+        })
     }
 
     fn unwatch(&mut self, connection: &mut CutWire<N::Connection>) {

@@ -1,6 +1,6 @@
 //! Connections that meet themselves.
 
-use nm_transport::tcp_transport::meets_itself;
+use nm_transport::tcp_wire::meets_itself;
 use std::net::{Ipv4Addr, SocketAddr};
 use std::test::Fail;
 

@@ -162,13 +162,13 @@ impl Transport for Scripted {
         self.is_short
     }
 
-    fn watch(&mut self, _connection: &mut CutWire<MemWire>, _key: usize) -> bool {
+    fn watch(&mut self, connection: CutWire<MemWire>, _key: usize) -> Option<CutWire<MemWire>> {
         if self.fails() {
-            return false;
+            return None;
         }
         self.watched = self.watched.saturating_add(1);
         self.most_watched = self.most_watched.max(self.watched);
-        true
+        Some(connection)
     }
 
     fn unwatch(&mut self, _connection: &mut CutWire<MemWire>) {

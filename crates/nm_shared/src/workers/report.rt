@@ -1,8 +1,9 @@
 //! What a pool answers.
 
 ghost use Rattle.std.specs.Prelude.{◌≡◌, ℕ, ◌<◌, ◌≤◌, length, map, slice_index, vec_len, IfOk, All};
+ghost use Rattle.std.specs.Prelude.{Some, slice_set};
 ghost use Rattle.nm_shared.specs.Known.{ran};
-ghost use Rattle.nm_shared.specs.Pool.{AreAnswers};
+ghost use Rattle.nm_shared.specs.Pool.{AreAnswers, put_in_places};
 
 use super::work::{Done, Jobs, run_one};
 use super::{BookPass, Gate, Job, PoolReport};
@@ -25,15 +26,23 @@ pub(super) fn slots_for<C: Counts, J: Jobs>(
     Ok(slots)
 }
 
-/// Puts what was done into its places.
+/// Puts a job that was done into its place.
+fn put<C: Counts, J: Jobs>(slots: &mut Vec<Option<Done<C, J>>>, done: Done<C, J>)
+    requires { vec_len slots.old ≡ length J.books }
+    ensures { slots.new.items ≡ slice_set slots.old.items done.place (Some done) }
+{
+    let place = done.place;
+    slots[place] = Some(done);
+}
+
+/// Puts the jobs that were done into their places.
 pub(super) fn put_all<C: Counts, J: Jobs>(slots: &mut Vec<Option<Done<C, J>>>, all: Vec<Done<C, J>>)
-    ensures { vec_len slots.new ≡ vec_len slots.old }
+    requires { vec_len slots.old ≡ length J.books }
+    ensures length { vec_len slots.new ≡ vec_len slots.old }
+    ensures put { slots.new.items ≡ put_in_places (λ d. d.place) slots.old.items all.items }
 {
     for done in all {
-        let place = done.place;
-        if place < slots.len() {
-            slots[place] = Some(done);
-        }
+        put(slots, done);
     }
 }
 

@@ -44,6 +44,7 @@ pub(super) struct Done<C: Counts, J: Jobs> {
     pub(super) answer: Ran,
     pub(super) pass: Pass<C>,
     pub(super) of: PhantomData<J>,
+    ghost there: { place < length J.books },
     ghost book_is: { book ≡ slice_index J.books place },
     ghost runs: { IsRunAnswer (slice_index J.limits place) answer },
     ghost counted: { C.events_of pass.share ≡ ran answer },

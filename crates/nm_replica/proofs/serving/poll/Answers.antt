@@ -1,5 +1,5 @@
-use Rattle.std.proofs.Common.{◌≡◌, ◌⊎◌, inl, inr, true, length, ap, subst, sym, ◌∙◌, true≢false}
-use Rattle.nm_replica.specs.Recording.{Streamed, Streams}
+use Rattle.std.proofs.Common.{◌≡◌, ◌⊎◌, inl, inr, Bool, true, length, ap, subst, sym, ◌∙◌, true≢false}
+use Rattle.nm_replica.specs.Recording.{Streamed, Streams, WroteAsCounted}
 use Rattle.nm_replica.specs.Served.{AllWereFinished, HasStayed}
 use Rattle.nm_replica.proofs.Endings.{is_no_net}
 use Rattle.nm_replica.proofs.Finishing.{all_finished, has_stayed, is_finished}
@@ -49,7 +49,7 @@ returns-clause-served g c =
       | then-standing+else-may_leave w ↦ ap connections w.serving-is
       | else-standing w ↦ ap connections w.serving-is
     ] in
-    waits_and_serves _ _ c.args.serving.now.connections _ _ _ _ _ c.in_ok-ran_out.ensures.waits c.in_ok-standing.ensures.served kept
+    waits_and_serves _ _ c.args.serving.now.connections _ _ _ _ _ c.in_ok-ran_out.ensures.waits c.in_ok-ran_out.ensures.ready c.in_ok-standing.ensures.served kept
 
 pub returns-in_err-ran_out-clause-net : goal.returns-in_err-ran_out-clause-net
 returns-in_err-ran_out-clause-net g c =
@@ -81,3 +81,36 @@ returns-clause-leaves g c = λ done. elim c.if-may_end.branch [
       ]
   | else-may_end w ↦ absurd cc
 ]
+
+pub returns-clause-news : goal.returns-clause-news
+returns-clause-news g c =
+    let was_done : Serving _ → Bool = λ s. s.was_done in
+    let kept : c.if-standing.serving.was_done ≡ c.args.serving.now.was_done =
+    elim c.if-standing.branch [
+      | then-standing+then-may_leave w ↦ ap was_done w.serving-is ∙ c.in_ok-standing.ensures.done ∙ c.in_ok-ran_out.ensures.kept.4
+      | then-standing+else-may_leave w ↦ ap was_done w.serving-is ∙ c.in_ok-standing.ensures.done ∙ c.in_ok-ran_out.ensures.kept.4
+      | else-standing w ↦ ap was_done w.serving-is ∙ c.in_ok-standing.ensures.done ∙ c.in_ok-ran_out.ensures.kept.4
+    ] in
+    let told = c.note_news-news.ensures in
+    let newly = c.is_newly_done-is_new.ensures in
+    cc
+
+pub returns-clause-streams : goal.returns-clause-streams
+returns-clause-streams g c =
+    let kept : c.if-standing.holdings.files ≡ c.args.holdings.now.files =
+    elim c.if-standing.branch [
+      | then-standing+then-may_leave w ↦ ap (λ h. h.files) w.holdings-is ∙ c.in_ok-standing.ensures.files
+      | then-standing+else-may_leave w ↦ ap (λ h. h.files) w.holdings-is ∙ c.in_ok-standing.ensures.files
+      | else-standing w ↦ ap (λ h. h.files) w.holdings-is ∙ c.in_ok-standing.ensures.files
+    ] in
+    subst (λ f. Streams g.S.Sink.seen g.C.Counts.exact g.C.Counts.home f.files.items c.write_records.new.files.files.items) kept c.in-Ok.ensures.streams
+
+pub returns-clause-written : goal.returns-clause-written
+returns-clause-written g c =
+    let kept : c.if-standing.holdings.files ≡ c.args.holdings.now.files =
+    elim c.if-standing.branch [
+      | then-standing+then-may_leave w ↦ ap (λ h. h.files) w.holdings-is ∙ c.in_ok-standing.ensures.files
+      | then-standing+else-may_leave w ↦ ap (λ h. h.files) w.holdings-is ∙ c.in_ok-standing.ensures.files
+      | else-standing w ↦ ap (λ h. h.files) w.holdings-is ∙ c.in_ok-standing.ensures.files
+    ] in
+    subst (λ f. WroteAsCounted g.S.Sink.seen g.C.Counts.exact g.C.Counts.home c.in-Ok.recorded.written f.files.items c.write_records.new.files.files.items) kept c.in-Ok.ensures.wrote

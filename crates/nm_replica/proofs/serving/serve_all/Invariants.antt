@@ -9,6 +9,7 @@ invariant-loop-key g l = record {
   counted : l.serving.counted ≡ l.fn.serving.counted;
   events : l.serving.events ≡ l.fn.serving.events;
   stay : l.serving.stay ≡ l.fn.serving.stay;
+  done : l.serving.was_done ≡ l.fn.serving.was_done;
   does : l.talk.does ≡ l.fn.does;
   served : ServesKeys (links g.T.Connection.Wire.seen g.C.Counts.exact g.C.Counts.home) l.fn.does l.key l.fn.serving.connections l.serving.connections l.all.moved l.all.octets;
 }

@@ -1,9 +1,11 @@
-use Rattle.std.proofs.Common.{◌≡◌, ◌<◌, ℕ, All, length, get_or, rules, sym, subst, ◌∙◌, ap}
+use Rattle.std.proofs.Common.{◌≡◌, ◌<◌, ℕ, All, length, get_or, rules, sym, subst, ◌∙◌, ap, arith}
+use Rattle.std.specs.Prelude.{slice_get}
 use Rattle.std.proofs.Math.Seq.{map-set_same}
 use Rattle.std.proofs.lemmas.List.Elements.{All-push}
-use Rattle.nm_run.specs.Watching.{AreOwns, names_of, owns_of}
+use Rattle.nm_run.specs.Watching.{AreOwns, WasLookedAt, names_of, owns_of}
 use Rattle.nm_run.specs.declared.stations.Own.{Own}
-use Rattle.nm_run.proofs.Watching.{own_there}
+use Rattle.nm_run.proofs.Watching.{all_by_place, get_is_within, one_more_by_place, own_there}
+use Rattle.std.proofs.lemmas.List.{length-set}
 use Rattle.nm_run.proofs.jobs.jobs_for.Goals as goal
 use Rattle.nm_run.proofs.jobs.jobs_for.Goals.{then-wants+in_ok-push, else-wants}
 
@@ -34,4 +36,19 @@ loop-number-preserved g c =
             | then-wants+in_ok-push w ↦ ap (λ v. owns_of v.items) w.watched-is ∙ kept
             | else-wants w ↦ ap (λ v. owns_of v.items) w.watched-is ∙ kept
           ];
+      long = elim c.if-wants.branch [
+        | then-wants+in_ok-push w ↦ ap (λ v. length v.items) w.watched-is ∙ length-set watched n c.wants.new.self ∙ c.loop-number.invariant.long
+        | else-wants w ↦ ap (λ v. length v.items) w.watched-is ∙ length-set watched n c.wants.new.self ∙ c.loop-number.invariant.long
+      ];
+      looked =
+          let more = one_more_by_place WasLookedAt watched n c.wants.new.self c.loop-number.invariant.looked c.wants.ensures.looked in
+          elim c.if-wants.branch [
+            | then-wants+in_ok-push w ↦ λ k a low is. more k a low (ap (λ v. slice_get v.items k) (sym w.watched-is) ∙ is)
+            | else-wants w ↦ λ k a low is. more k a low (ap (λ v. slice_get v.items k) (sym w.watched-is) ∙ is)
+          ];
     }
+
+pub returns-clause-looked : goal.returns-clause-looked
+returns-clause-looked g c = λ few.
+    all_by_place WasLookedAt c.loop-number.watched.items
+    (λ k a is. c.loop-number.invariant.looked k a (omega (arith, few, c.loop-number.invariant.long, get_is_within c.loop-number.watched.items k a is)) is)

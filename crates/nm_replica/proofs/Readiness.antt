@@ -1,0 +1,41 @@
+-- Connections that are to be looked at, key by key.
+use Rattle.std.proofs.Common.{◌≡◌, ◌≢◌, ℕ, suc, ◌+◌, ◌<◌, ◌≤◌, true, false, length, Option, None, Some, refl, ◌∙◌, ap, sym, subst, arith, below_more, ⊎_elim}
+use Rattle.std.specs.Prelude.{IfSome}
+use Rattle.std.specs.Option.{option_map}
+use Rattle.std.proofs.lemmas.Bool.{cases_lt}
+use Rattle.std.proofs.lemmas.List.{get_or_past}
+use Rattle.slab.specs.Slab.{Slab, Updates, get}
+use Rattle.nm_replica.specs.Connections.{AreAllReady, IsNoneReady, is_ready, reported_connection}
+use Rattle.nm_replica.specs.declared.connection.Connection.{Connection}
+
+module _ {W : Type 0} where
+  -- a connection under a key is to be looked at, if there is one
+  abbrev pub IsReadyAt : Slab (Connection W) → ℕ → Type 0
+  IsReadyAt slab key = IfSome (get slab key) (λ c. c.link.wire.is_ready ≡ true)
+
+  looked : (c : Option (Connection W)) → IfSome (option_map reported_connection c) (λ c. c.link.wire.is_ready ≡ true)
+  looked None = tt
+  looked (Some c) = refl
+
+  -- one more is looked at
+  pub one_more_looked : (old new : Slab (Connection W)) (n : ℕ) → Updates old new n (option_map reported_connection (get old n)) → ((k : ℕ) → k < n → IsReadyAt old k) → (k : ℕ) → k < n + 1 → IsReadyAt new k
+  one_more_looked old new n updates before k low =
+      below_more (IsReadyAt new) n
+      (λ j l. let ne : j ≢ n = λ e. absurd (omega (arith, l, e)) in subst (λ o. IfSome o (λ c. c.link.wire.is_ready ≡ true)) (sym (updates.others j ne)) (before j l))
+      (subst (λ o. IfSome o (λ c. c.link.wire.is_ready ≡ true)) (sym updates.changed) (looked (get old n))) k low
+
+  -- the keys behind it keep what they had
+  pub rest_kept : (first old new : Slab (Connection W)) (n : ℕ) (slot : Option (Connection W)) → Updates old new n slot → ((k : ℕ) → n ≤ k → get old k ≡ get first k) → (k : ℕ) → n + 1 ≤ k → get new k ≡ get first k
+  rest_kept first old new n slot updates before k high =
+      let ne : k ≢ n = λ e. absurd (omega (arith, high, e)) in updates.others k ne ∙ before k (omega (arith, high))
+
+  -- all are looked at, where those below a key behind which there is none were
+  pub all_looked : (first new : Slab (Connection W)) (n : ℕ) → length first.slots ≤ n → ((k : ℕ) → k < n → IsReadyAt new k) → ((k : ℕ) → n ≤ k → get new k ≡ get first k) → AreAllReady new
+  all_looked first new n past below behind k =
+      ⊎_elim (λ low. below k low)
+      (λ high. subst (λ o. IfSome o (λ c. c.link.wire.is_ready ≡ true)) (sym (behind k high ∙ get_or_past first.slots k None (omega (arith, past, high)))) tt) (cases_lt k n)
+
+  -- none is ready, where none below a key is behind which there is none
+  pub none_ready : (slab : Slab (Connection W)) (n : ℕ) → length slab.slots ≤ n → ((k : ℕ) → k < n → is_ready (get slab k) ≡ false) → IsNoneReady slab
+  none_ready slab n past below k =
+      ⊎_elim (λ low. below k low) (λ high. ap is_ready (get_or_past slab.slots k None (omega (arith, past, high)))) (cases_lt k n)
