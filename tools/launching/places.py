@@ -1,0 +1,169 @@
+"""Where nodes run: this machine, hosts that ssh reaches, those of an Open MPI host file, or of a Slurm job; and which
+words start a command there."""
+
+import os
+import re
+import shlex
+import shutil
+import socket
+import subprocess
+from collections import namedtuple
+
+# A host: its name for what starts programs there, the address at which other hosts reach it, and how many nodes it is
+# to have beside the others.
+Host = namedtuple("Host", "name address slots")
+LINE = re.compile(r"([^\s=]+)((?: +[a-z_-]+=[^\s=]+)*)$")
+# A host that does not answer for so many seconds is gone.
+CONNECT_SECONDS, SILENCE_SECONDS = 10, 15
+SSH = ("-o", "BatchMode=yes", "-o", f"ConnectTimeout={CONNECT_SECONDS}", "-o", "ServerAliveInterval=5", "-o",
+       f"ServerAliveCountMax={SILENCE_SECONDS // 5}")
+
+
+class Refused(Exception):
+    """A sentence that says what is wrong, and what to do."""
+
+
+def address_of(name):
+    """The IPv4 address of a host."""
+    try:
+        return socket.getaddrinfo(name, None, socket.AF_INET, socket.SOCK_STREAM)[0][4][0]
+    except (OSError, UnicodeError) as why:
+        raise Refused(f"host {name} has no IPv4 address here ({getattr(why, 'strerror', why)}): write `{name} "
+                      "address=A.B.C.D` in the host file") from None
+
+
+def host_lines(said):
+    """The lines of a host file, or the hosts of a list with commas."""
+    if not os.path.exists(said):
+        if "/" in said:
+            raise Refused(f"there is no host file {said}")
+        return [part.strip() for part in said.split(",") if part.strip()]
+    with open(said, encoding="utf-8") as file:
+        return [line.split("#")[0].strip() for line in file if line.split("#")[0].strip()]
+
+
+def hosts_of(said):
+    """The hosts of a file or list; one that stands there again has one more node. The form is that of Open MPI's host
+    files, `HOST slots=N`, with `address=A.B.C.D` where others reach it by another address than its name has here."""
+    found = {}
+    for line in host_lines(said):
+        read = LINE.match(line)
+        keys = dict(part.split("=") for part in read[2].split()) if read else {}
+        if not read or not keys.get("slots", "1").isdecimal() or int(keys.get("slots", "1")) < 1:
+            raise Refused(f'the host file has the line "{line[:60]}": write `HOST`, `HOST slots=4` or `HOST '
+                          "address=A.B.C.D`")
+        slots = int(keys.get("slots", "1"))
+        old = found.get(read[1])
+        address = keys.get("address") or (old.address if old else address_of(read[1]))
+        found[read[1]] = Host(read[1], address, slots + (old.slots if old else 0))
+    if not found:
+        raise Refused("the host file names no host")
+    return list(found.values())
+
+
+def check_reached(hosts):
+    """Refuses a host whose address leads each machine to itself, where there are others."""
+    for host in hosts if len(hosts) > 1 else ():
+        if host.address.startswith("127."):
+            raise Refused(f"host {host.name} has the address {host.address} here, at which no other host reaches it: "
+                          f"write `{host.name} address=A.B.C.D` in the host file")
+
+
+class Here:
+    """All nodes on this machine."""
+    title, lost = "on this machine", ()
+
+    def __init__(self):
+        self.hosts = [Host("this machine", "127.0.0.1", 1)]
+
+    def words(self, host, command):
+        return command
+
+
+class Ssh:
+    """Hosts that ssh reaches without a password. It says its own end with 255."""
+    title, lost = "over ssh", (255,)
+
+    def __init__(self, hosts, ssh):
+        self.hosts, self.ssh = hosts, shlex.split(ssh)
+        if not shutil.which(self.ssh[0]):
+            raise Refused(f"{self.ssh[0]} is not installed (Debian: openssh-client)")
+
+    def words(self, host, command):
+        # The shell of the other side reads one line.
+        return [*self.ssh, *SSH, host.name, shlex.join(command)]
+
+
+class Mpi:
+    """Hosts of an Open MPI host file; mpirun is called once for each node, so that the end of one ends no other."""
+    title, lost = "by mpirun", ()
+
+    def __init__(self, hosts):
+        self.hosts = hosts
+        if not shutil.which("mpirun"):
+            raise Refused("mpirun is not installed (Debian: openmpi-bin)")
+
+    def words(self, host, command):
+        root = ["--allow-run-as-root"] if os.geteuid() == 0 else []
+        # Without this each node would be held to the same processor.
+        return ["mpirun", *root, "--host", f"{host.name}:{host.slots}", "--bind-to", "none", "-np", "1", *command]
+
+
+class Slurm:
+    """The nodes of a Slurm job, in which this runs; srun is called once for each node."""
+    title, lost = "by srun", ()
+
+    def __init__(self):
+        if not shutil.which("srun") or not os.environ.get("SLURM_JOB_NODELIST"):
+            raise Refused("this is no Slurm job: put the command into a script for sbatch, or call it by salloc")
+        said = subprocess.run(["scontrol", "show", "hostnames", os.environ["SLURM_JOB_NODELIST"]], text=True,
+                              capture_output=True, check=False)
+        names = said.stdout.split()
+        if not names:
+            raise Refused(f"scontrol names no host of the job: {said.stderr.strip()}")
+        counts = tasks_of(os.environ.get("SLURM_TASKS_PER_NODE", ""), len(names))
+        only = len(names) == 1
+        self.hosts = [Host(name, "127.0.0.1" if only else address_of(name), count)
+                      for name, count in zip(names, counts)]
+
+    def words(self, host, command):
+        return ["srun", "--overlap", "--nodes=1", "--ntasks=1", f"--nodelist={host.name}", "--cpu-bind=none",
+                "--unbuffered", *command]
+
+
+def tasks_of(said, count):
+    """How many tasks each host of a Slurm job has, as of `2(x3),1`; one where that is not said."""
+    found = []
+    for part in said.split(","):
+        read = re.fullmatch(r"(\d+)(?:\(x(\d+)\))?", part.strip())
+        found += [int(read[1])] * int(read[2] or 1) if read else []
+    return found if len(found) == count else [1] * count
+
+
+def found(by, said, ssh):
+    """The place that was asked for, or the one where this runs: a Slurm job; hosts that were named; or this machine."""
+    by = by or ("slurm" if os.environ.get("SLURM_JOB_ID") else "ssh" if said else "here")
+    if by in ("ssh", "mpi") and not said:
+        raise Refused(f"--by {by} needs --hosts: a host file, or hosts with commas between")
+    if by in ("here", "slurm") and said:
+        raise Refused(f"--hosts stands with ssh and mpi: {by} knows its hosts")
+    place = {"here": Here, "slurm": Slurm, "ssh": lambda: Ssh(hosts_of(said), ssh), "mpi": lambda: Mpi(hosts_of(said))}
+    made = place[by]()
+    check_reached(made.hosts)
+    return made
+
+
+def shared_out(hosts, partitions, replicas, port):
+    """Where each replica runs: (partition, replica) -> (host, port). Partitions that follow one another share a host by
+    its slots; the second replica of a partition is on the next host, where there is one."""
+    slots = [host for host in hosts for _ in range(host.slots)]
+    given, used = {}, dict.fromkeys((host.name for host in hosts), port)
+    for replica in range(replicas):
+        for number, partition in enumerate(partitions):
+            count = len(partitions)
+            own = number * len(slots) // count if count >= len(slots) else number
+            host = slots[own % len(slots)]
+            host = hosts[(hosts.index(host) + replica) % len(hosts)]
+            given[partition, replica] = host, used[host.name]
+            used[host.name] += 1
+    return given
