@@ -6,7 +6,7 @@ import sys
 
 from networks import errors, program, toml, topology
 
-from launching import places
+from launching import hosts, places
 from launching.run import Run
 from launching.view import View
 
@@ -22,8 +22,8 @@ def parser(doc, form):
     reader.add_argument("folder", metavar="DIR", help="for what the nodes leave; it is made")
     reader.add_argument("--hosts", metavar="HOSTS", help="a host file with lines `HOST`, `HOST slots=4` or `HOST "
                                                          "address=A.B.C.D`; or hosts with commas between")
-    reader.add_argument("--by", choices=("here", "ssh", "mpi", "slurm"), help="how nodes are started, where this is not "
-                                                                              "what it finds")
+    reader.add_argument("--by", choices=("here", "ssh", "mpi", "slurm"),
+                        help="how nodes are started, where it finds another way")
     reader.add_argument("--port", type=int, default=FIRST_PORT, help=f"the first port of each host ({FIRST_PORT})")
     reader.add_argument("--replicas", type=int, choices=(1, 2), default=1, help="of each partition (1)")
     reader.add_argument("--nullsim", metavar="PROGRAM", help="the program, here and on all hosts")
@@ -35,12 +35,12 @@ def parser(doc, form):
 def made(words):
     """The run that the words ask for."""
     if not 1 <= words.port <= LAST_PORT - 2 * 64:
-        raise places.Refused(f"--port is 1 to {LAST_PORT - 2 * 64}: a host may need as many ports as there are nodes")
+        raise hosts.Refused(f"--port is 1 to {LAST_PORT - 2 * 64}: a host may need as many ports as there are nodes")
     nullsim = os.path.abspath(program.found(words.nullsim))
     text = toml.load(words.topology)
     network = topology.read(text)
     if not network.nodes:
-        raise places.Refused(f"{words.topology} has no node")
+        raise hosts.Refused(f"{words.topology} has no node")
     place = places.found(words.by, words.hosts, words.ssh)
     return Run(network, text.text.encode(), words.folder, place, words.port, words.replicas, nullsim)
 
@@ -58,7 +58,7 @@ def main(doc, form):
     """Runs the command: its exit status."""
     try:
         perform(parser(doc, form).parse_args())
-    except (places.Refused, errors.Refused, OSError) as why:
+    except (hosts.Refused, errors.Refused, OSError) as why:
         print(f"launch: {why}", file=sys.stderr)
         return FAILED
     except errors.Lacking as why:

@@ -159,8 +159,8 @@ class Node:
         if self.status == FILE:
             return f"is there room for files in {self.folder}, and do all hosts have one version of the program?"
         if self.status in self.job.place.lost or self.was_lost():
-            return f"the way to the host, or the process, was lost {self.times_begun} times: is the host up? without it " \
-                   "begin again with other --hosts"
+            return (f"the way to the host, or the process, was lost {self.times_begun} times: is the host up? Without "
+                    "it begin again with other --hosts")
         return CURES.get(self.status, how(self.status))
 
 

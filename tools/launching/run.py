@@ -6,7 +6,7 @@ import subprocess
 import time
 from dataclasses import dataclass
 
-from launching import places
+from launching import hosts
 from launching.nodes import DONE, FILE, STALLED, Node
 
 TURN_SECONDS = 0.1
@@ -35,7 +35,7 @@ class Run:
     def __init__(self, network, text, folder, place, port, replicas, program):
         partitions = range(max(node.partition for node in network.nodes) + 1)
         self.stop, self.place, self.program = network.stop, place, program
-        where = places.shared_out(place.hosts, partitions, replicas, port)
+        where = hosts.shared_out(place.hosts, partitions, replicas, port)
         lines = "".join(f"{partition} {replica} {host.address}:{number}\n"
                         for (partition, replica), (host, number) in where.items())
         os.makedirs(folder, exist_ok=True)
@@ -89,7 +89,7 @@ class Run:
             elif node.was_lost() or self.holds_its_port(node):
                 self.lose(key, node)
             elif not node.runs() and node.status not in (DONE, STALLED) and not self.can_do_without(key):
-                raise places.Refused(node.reason())
+                raise hosts.Refused(node.reason())
         return not self.lost_at and not any(node.runs() for node in self.nodes.values())
 
     def holds_its_port(self, node):
@@ -101,7 +101,7 @@ class Run:
         if node.times_begun > AGAIN:
             if self.can_do_without(key):
                 return
-            raise places.Refused(node.reason())
+            raise hosts.Refused(node.reason())
         own = node.errors[-1] if node.errors else "its process was lost"
         self.said.append(f"{self.seconds():4.0f} s: {node.name()}: {own}; it is begun again, with nothing")
         self.lost_at[key] = time.monotonic()
@@ -132,11 +132,11 @@ class Run:
         held = {int(os.path.basename(folder).split("-")[0]) for folder in self.folders()}
         for (partition, _), node in self.nodes.items():
             if partition not in held:
-                raise places.Refused(node.reason())
+                raise hosts.Refused(node.reason())
         words = [self.program, "certify", os.path.join(self.job.folder, "topology.toml"), str(workers),
                  *self.folders()]
         ended = subprocess.run(words, capture_output=True, text=True, check=False)
         if ended.returncode:
-            raise places.Refused(f"the nodes are done, but not certified: {ended.stderr.strip()}: docs/RUNNING.md, "
-                                 "\"When it fails\", says what to do")
+            raise hosts.Refused(f"the nodes are done, but not certified: {ended.stderr.strip()}: docs/RUNNING.md, "
+                                "\"When it fails\", says what to do")
         return ended.stdout

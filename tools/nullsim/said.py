@@ -81,5 +81,5 @@ def member(members: list, step: str, key: str, place: str) -> int:
     if step.isdecimal() and int(step) < len(members):
         return int(step)
     near = errors.meant(step, [name for name in names if name])
-    raise errors.Refused(place, f'"{key}": there is no {errors.shown(step)} among the {len(members)} there, which count '
-                                f"from 0{near}")
+    raise errors.Refused(place, f'"{key}": there is no {errors.shown(step)} among the {len(members)} there, which are '
+                                f"counted from 0{near}")

@@ -119,7 +119,8 @@ class Topology:
         return trace_of(interface, io.BytesIO(self.answer("one", interface)))
 
     def run(self, folder: str | os.PathLike, partitions: int | None = None, workers: int | None = None,
-            replicas: int = 1, keep: bool = False, tell: Callable[[records.Progress], None] | None = None) -> "runs.Run":
+            replicas: int = 1, keep: bool = False,
+            tell: Callable[[records.Progress], None] | None = None) -> "runs.Run":
         """Runs the partitions at once, with the trace files of all interfaces in a folder; it is certified, or `Failed`
         is raised. `partitions` is how many `network partition` cuts; without it those of the topology stay, or of one
         in one partition as many are cut as pay. `keep` leaves files for `nullsim certify`."""
