@@ -52,18 +52,30 @@ class Progress:
     seconds_left: int | None = None
 
 
-@dataclass(frozen=True, slots=True)
-class Interface:
-    """What passed an interface in the whole run: packets and octets that arrived and that began to leave; packets that
-    found its queue full; the most that waited at one time, without the one under way; how long it transmitted (ns)."""
+@dataclass(frozen=True)
+class Passed:
+    """What passed an interface: packets and octets that arrived and that began to leave; packets that found its queue
+    full; the most that waited at one time, without the one under way."""
 
-    name: str
     packets_in: int
     octets_in: int
     packets_out: int
     octets_out: int
     dropped: int
     longest_queue: int
+
+
+@dataclass(frozen=True)
+class Named:
+    """The name of an interface."""
+
+    name: str
+
+
+@dataclass(frozen=True)
+class Interface(Passed, Named):
+    """What passed an interface in the whole run, and how long it transmitted (ns)."""
+
     busy_nanoseconds: int
 
 
@@ -76,14 +88,10 @@ class Counter:
     packets: int
 
 
-@dataclass(frozen=True, slots=True)
-class Source:
-    """What became of a source's packets; delays and round trips in nanoseconds, by nearest rank."""
+@dataclass(frozen=True)
+class Fates:
+    """What became of packets: how many were sent, and ended in each way; octets of those delivered."""
 
-    source: int
-    kind: str
-    node: str
-    to: str
     sent: int
     delivered: int
     refused: int
@@ -91,6 +99,22 @@ class Source:
     discarded: int
     under_way: int
     octets: int
+
+
+@dataclass(frozen=True)
+class SourceName:
+    """A source by its number, its kind, its node, and the address to which it sends."""
+
+    source: int
+    kind: str
+    node: str
+    to: str
+
+
+@dataclass(frozen=True)
+class Source(Fates, SourceName):
+    """What became of a source's packets; delays and round trips in nanoseconds, by nearest rank."""
+
     rate: int
     least_delay: int
     delay_50: int
@@ -114,22 +138,21 @@ class Source:
     round_trips_rounded: int
 
 
-@dataclass(frozen=True, slots=True)
-class Flow:
-    """What became of the packets of a flow of a SPEC between two nodes, over all its sources (docs/FORMATS.md)."""
+@dataclass(frozen=True)
+class FlowName:
+    """A flow of a SPEC between two nodes, and how many sources it has."""
 
     flow: str
     kind: str
     from_: str
     to: str
     sources: int
-    sent: int
-    delivered: int
-    refused: int
-    dropped: int
-    discarded: int
-    under_way: int
-    octets: int
+
+
+@dataclass(frozen=True)
+class Flow(Fates, FlowName):
+    """What became of the packets of a flow, over all its sources (docs/FORMATS.md)."""
+
     answered: int
     least_delay: int
     delay_50: int
@@ -151,18 +174,18 @@ class Delay:
     packets: int
 
 
-@dataclass(frozen=True, slots=True)
-class Step:
-    """What an interface did in a step of time. Mean queue and use are in thousandths of a packet and of the step."""
+@dataclass(frozen=True)
+class Begin:
+    """When a step of time begins, and of which interface."""
 
     from_nanoseconds: int
     interface: str
-    packets_in: int
-    octets_in: int
-    packets_out: int
-    octets_out: int
-    dropped: int
-    longest_queue: int
+
+
+@dataclass(frozen=True)
+class Step(Passed, Begin):
+    """What an interface did in a step of time. Mean queue and use are in thousandths of a packet and of the step."""
+
     mean_queue_thousandths: int
     longest_queue_octets: int
     mean_queue_octets: int

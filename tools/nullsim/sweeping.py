@@ -1,5 +1,6 @@
 """Sweeps: many variants of a network, each with several seeds, on all processors; means with their intervals."""
 
+import dataclasses
 import itertools
 import multiprocessing
 from collections.abc import Callable, Iterable, Sequence
@@ -21,11 +22,14 @@ def of_flows(network: Network) -> Measures:
     """The measures of the flows of a network (`network flows`)."""
     found = {}
     for row in network.flows():
-        for measure in row.__slots__:
-            value = getattr(row, measure)
-            if isinstance(value, int):
-                found["flow", f"{row.flow} {row.from_} to {row.to}", measure] = value
+        found.update({("flow", f"{row.flow} {row.from_} to {row.to}", measure): value
+                      for measure, value in numbers(row)})
     return found
+
+
+def numbers(row) -> list[tuple[str, int]]:
+    """The measures of a record."""
+    return [(measure, value) for measure, value in dataclasses.asdict(row).items() if isinstance(value, int)]
 
 
 def of_report(network: Network) -> Measures:
@@ -33,8 +37,7 @@ def of_report(network: Network) -> Measures:
     report = network.report()
     rows = [("interface", row.name, row) for row in report.interfaces]
     rows += [("source", str(row.source), row) for row in report.sources]
-    return {(kind, name, measure): getattr(row, measure) for kind, name, row in rows for measure in row.__slots__
-            if isinstance(getattr(row, measure), int)}
+    return {(kind, name, measure): value for kind, name, row in rows for measure, value in numbers(row)}
 
 
 TABLES = {"flows": of_flows, "report": of_report}
