@@ -1,7 +1,6 @@
 """Calls of tools/launch, and machines with sshd on which it starts nodes."""
 
 import os
-import signal
 import subprocess
 import time
 
@@ -45,13 +44,6 @@ class Launch:
     def said(self):
         """What it said so far."""
         return here.octets(self.errors).decode(errors="replace")
-
-    def until(self, text, seconds):
-        """Waits until it has said a text: whether it did."""
-        until = time.monotonic() + seconds
-        while text not in self.said() and self.child.poll() is None and time.monotonic() < until:
-            time.sleep(0.05)
-        return text in self.said()
 
     def end(self, seconds):
         """Its status and its last line; killed where it takes longer."""
@@ -114,8 +106,3 @@ def no_nodes(machines, seconds=10):
     while any(nodes_on(machine) for machine in machines) and time.monotonic() < until:
         time.sleep(0.1)
     return not any(nodes_on(machine) for machine in machines)
-
-
-def interrupt(launch):
-    """What Ctrl-C does."""
-    launch.child.send_signal(signal.SIGINT)

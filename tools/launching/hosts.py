@@ -16,9 +16,9 @@ class Refused(Exception):
 
 
 def address_of(name):
-    """The IPv4 address of a host."""
+    """The IPv4 address of a host, which may have the name of a user before it."""
     try:
-        return socket.getaddrinfo(name, None, socket.AF_INET, socket.SOCK_STREAM)[0][4][0]
+        return socket.getaddrinfo(name.rpartition("@")[2], None, socket.AF_INET, socket.SOCK_STREAM)[0][4][0]
     except (OSError, UnicodeError) as why:
         raise Refused(f"host {name} has no IPv4 address here ({getattr(why, 'strerror', why)}): write `{name} "
                       "address=A.B.C.D` in the host file") from None

@@ -1,7 +1,7 @@
 """A node of a run: the process that starts it on its host, what it says, and how it ended."""
 
-import io
 import os
+import shutil
 import socket
 import subprocess
 import tarfile
@@ -63,26 +63,25 @@ class Node:
         try:
             child.stdin.write(self.job.text + self.job.list)
             child.stdin.flush()
-        except OSError:
-            # It ended before: its status and its line say why.
+        except (OSError, ValueError):
+            # It ended before, or was told to: its status and its line say why.
             pass
 
     def read_out(self, child):
         """Its lines, and behind the last one its files, where its folder is not this one."""
-        own, archive = False, b""
+        own = False
         for octets in child.stdout:
             line = octets.decode(errors="replace").rstrip("\n")
             if line.startswith("launch: ended "):
                 self.ended = int(line.split()[2])
-                archive = child.stdout.read()
-                break
+                if own:
+                    self.take(child.stdout)
+                return
             if line.startswith("launch: "):
                 own = line.split()[1] == "own"
                 self.note_clock(int(line.split()[2]))
             else:
                 self.lines.append(line)
-        if own and archive:
-            self.take(archive)
 
     def note_clock(self, seconds):
         """Tells of a clock that is off."""
@@ -92,17 +91,18 @@ class Node:
             self.remarks.append(f"host {self.host.name}: its clock is {abs(off):,.0f} s {way}: the run does not depend "
                                 "on it; set it there, so that times of files and logs are right")
 
-    def take(self, archive):
+    def take(self, stream):
         """Puts the files of an archive into its folder here."""
         os.makedirs(self.folder, exist_ok=True)
         try:
-            with tarfile.open(fileobj=io.BytesIO(archive)) as tar:
+            with tarfile.open(fileobj=stream, mode="r|") as tar:
                 for member in tar:
                     name = os.path.basename(member.name)
                     # A file of a node stands in its folder, and in none below.
                     if member.isfile() and member.name in (name, f"./{name}"):
                         with tar.extractfile(member) as read, open(os.path.join(self.folder, name), "wb") as file:
-                            file.write(read.read())
+                            shutil.copyfileobj(read, file)
+            stream.read()
         except (tarfile.TarError, OSError) as why:
             self.errors.append(f"its files did not come whole: {why}")
 
@@ -130,7 +130,7 @@ class Node:
 
     def was_lost(self):
         """Whether its process, or the way to it, was lost: by a signal, or without a status of its own."""
-        if self.runs() or self.status in CURES or self.status in (DONE, FILE):
+        if self.runs() or self.status in CURES or self.status in (DONE, FILE) or self.hopeless():
             return False
         return self.ended is None or self.status > 128
 
@@ -147,6 +147,11 @@ class Node:
         if self.child and self.child.poll() is None:
             self.child.kill()
 
+    def hopeless(self):
+        """What to do about a host to which there is no way, however often it is tried; or nothing."""
+        known = self.job.place.hopeless.items()
+        return next((cure for line in self.errors for part, cure in known if part in line), "")
+
     def reason(self):
         """Its own reason, and what to do: one line."""
         own = next((line for line in self.errors if line.startswith("nullsim: ")), "")
@@ -158,7 +163,9 @@ class Node:
             return f"port {self.port} is in use there: --port chooses another first port"
         if self.status == FILE:
             return f"is there room for files in {self.folder}, and do all hosts have one version of the program?"
-        if self.status in self.job.place.lost or self.was_lost():
+        if self.hopeless():
+            return self.hopeless()
+        if self.was_lost():
             return (f"the way to the host, or the process, was lost {self.times_begun} times: is the host up? Without "
                     "it begin again with other --hosts")
         return CURES.get(self.status, how(self.status))

@@ -16,7 +16,7 @@ SSH = ("-o", "BatchMode=yes", "-o", f"ConnectTimeout={CONNECT_SECONDS}", "-o", "
 
 class Here:
     """All nodes on this machine."""
-    title, lost = "on this machine", ()
+    title, hopeless = "on this machine", {}
 
     def __init__(self):
         self.hosts = [Host("this machine", "127.0.0.1", 1)]
@@ -26,8 +26,14 @@ class Here:
 
 
 class Ssh:
-    """Hosts that ssh reaches without a password. It says its own end with 255."""
-    title, lost = "over ssh", (255,)
+    """Hosts that ssh reaches without a password."""
+    title = "over ssh"
+    # What ssh says where trying again does not help, and what to do.
+    hopeless = {
+        "Permission denied": "ssh has to come there without a password: ssh-copy-id puts your key there",
+        "Host key verification failed": "ssh does not know this host: connect once by hand, `ssh HOST`",
+        "Could not resolve hostname": "ssh does not know this name: write another one, or put it into ~/.ssh/config",
+    }
 
     def __init__(self, hosts, ssh):
         self.hosts, self.ssh = hosts, shlex.split(ssh)
@@ -41,7 +47,7 @@ class Ssh:
 
 class Mpi:
     """Hosts of an Open MPI host file; mpirun is called once for each node, so that the end of one ends no other."""
-    title, lost = "by mpirun", ()
+    title, hopeless = "by mpirun", {}
 
     def __init__(self, hosts):
         self.hosts = hosts
@@ -56,7 +62,7 @@ class Mpi:
 
 class Slurm:
     """The nodes of a Slurm job, in which this runs; srun is called once for each node."""
-    title, lost = "by srun", ()
+    title, hopeless = "by srun", {}
 
     def __init__(self):
         if not shutil.which("srun") or not os.environ.get("SLURM_JOB_NODELIST"):
