@@ -46,14 +46,16 @@ def rows(program, topology, *words):
 
 class Report:
     """What `report TOPO csv` says: for each kind (node, interface, source), by name, the number of each measure; and a
-    row for each source, a dictionary of texts. Where that word prints another form, this class alone changes."""
+    row for each source, a dictionary of texts, with these columns. Where that word prints another form, this class
+    alone changes."""
 
     def __init__(self, text):
         long, _, wide = text.partition("\n\n")
         self.measures = {}
         for row in csv.DictReader(long.splitlines()):
             self.measures.setdefault(row["kind"], {}).setdefault(row["name"], {})[row["measure"]] = int(row["value"])
-        self.sources = list(csv.DictReader(wide.splitlines()))
+        reader = csv.DictReader(wide.splitlines())
+        self.columns, self.sources = reader.fieldnames or [], list(reader)
 
 
 def report(program, topology):

@@ -142,8 +142,8 @@ class Launches(tool.Folder):
     def test_a_host_to_which_there_is_no_way_is_tried_once(self):
         status, _, beside = self.launch("--hosts", "localhost", GONE="me@localhost: Permission denied (publickey).")
         self.assertEqual((status, len(self.begun())), (3, 3))
-        self.assertIn("launch: host localhost, partition 0, replica 0: me@localhost: Permission denied (publickey).: ssh "
-                      "has to come there without a password", beside)
+        self.assertIn("launch: host localhost, partition 0, replica 0: me@localhost: Permission denied (publickey).: "
+                      "ssh has to come there without a password", beside)
 
     def test_a_run_without_all_files_is_refused(self):
         self.ending(0, "echo 'nullsim: stalled' >&2; exit 7")
