@@ -191,6 +191,30 @@ class Answers(tool.Folder):
         self.assertEqual(len(self.network.packets(1).frame()), 8)
 
 
+@unittest.skipUnless(os.access(os.path.join(tool.ROOT, "bin", "nullsim"), os.X_OK), "bin/nullsim is not built")
+class Installed(tool.Folder):
+    def make(self, target):
+        words = ["make", "-s", "-C", tool.ROOT, "-o", "bin/nullsim", target, f"PREFIX={self.folder}/usr"]
+        return subprocess.run(words, capture_output=True, text=True, check=True).stdout
+
+    def test_an_installed_package_runs_outside_the_tree(self):
+        said = self.make("install")
+        path = said.split("PYTHONPATH=")[1].strip()
+        code = "import nullsim\n" + "print(nullsim.Network.from_spec('x.spec.toml').report().sources[0].sent)"
+        self.file("x.spec.toml", SPEC)
+        kept = {key: value for key, value in os.environ.items() if key != "NULLSIM"}
+        kept.update({"PYTHONPATH": path, "PATH": "/usr/bin:/bin"})
+        for words in (["-m", "nullsim"], ["-c", code]):
+            ended = subprocess.run([sys.executable, *words], capture_output=True, text=True, check=False, env=kept,
+                                   cwd=self.folder)
+            self.assertEqual((ended.returncode, ended.stderr), (0, ""))
+        self.assertEqual(ended.stdout, f"{called().report().sources[0].sent}\n")
+        launch = subprocess.run([f"{self.folder}/usr/bin/nullsim-launch", "--help"], capture_output=True, check=False)
+        self.assertEqual(launch.returncode, 0)
+        self.make("uninstall")
+        self.assertEqual([names for _, _, names in os.walk(os.path.join(self.folder, "usr")) if names], [])
+
+
 class Parts(unittest.TestCase):
     def test_intervals_are_those_of_tables(self):
         for freedom, confidence, bound in ((1, 0.95, 12.706), (2, 0.95, 4.303), (4, 0.95, 2.776), (19, 0.95, 2.093),
