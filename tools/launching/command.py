@@ -50,7 +50,7 @@ def perform(words):
     run = made(words)
     if len(run.nodes) == 1:
         print("launch: the topology has one partition: `network partition TOPO N` cuts it", file=sys.stderr)
-    run.demonstrate(View(sys.stderr.isatty() and not words.plain))
+    run.perform(View(sys.stderr.isatty() and not words.plain))
     print(run.certify(len(os.sched_getaffinity(0))), end="")
 
 

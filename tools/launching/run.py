@@ -63,8 +63,8 @@ class Run:
         node = self.nodes[key]
         return 100 if node.status == DONE else 100 * node.figures.get("safe", 0) // self.stop
 
-    def demonstrate(self, view):
-        """All of it: raises Refused with what failed."""
+    def perform(self, view):
+        """Runs all nodes to their end: raises Refused with what failed."""
         self.write()
         try:
             for node in self.nodes.values():

@@ -21,7 +21,8 @@ def state(run, key):
 def lines_of(run):
     """All lines."""
     width = max(len("host"), *(len(node.host.name) for node in run.nodes.values()))
-    head = f"{len(run.nodes)} nodes on {len({node.host for node in run.nodes.values()})} hosts {run.place.title}"
+    hosts = len({node.host for node in run.nodes.values()})
+    head = f"{len(run.nodes)} nodes{f' on {hosts} hosts' if hosts > 1 else ''} {run.place.title}"
     lines = [f"{head}; {run.seconds():.0f} s",
              f"{'node':<6}{'host':<{width + 2}}{'simulated':<{BAR + 8}}{'safe ms':>10}{'events':>13}{'broken':>8}"]
     for key, node in run.nodes.items():
