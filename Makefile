@@ -159,6 +159,7 @@ install: bin/nullsim
 	@install -D -m 755 bin/nullsim '$(INSTALLED)/bin/nullsim'
 	@install -D -m 644 docs/nullsim.1 '$(MANUAL)'
 	@install -D -m 644 tools/completion/nullsim '$(COMPLETION)'
+	@for tool in launch network; do ln -sf nullsim '$(COMPLETION)'-$$tool; done
 	@install -D -m 755 -t '$(TOOLS)' tools/launch tools/network tools/page tools/plot
 	@install -D -m 644 -t '$(TOOLS)/launching' tools/launching/*.py tools/launching/*.sh
 	@install -D -m 644 -t '$(TOOLS)/networks' tools/networks/*.py
@@ -175,6 +176,7 @@ install: bin/nullsim
 uninstall:
 	@rm -f '$(INSTALLED)'/bin/nullsim '$(INSTALLED)'/bin/nullsim-launch '$(INSTALLED)'/bin/nullsim-network \
 	  '$(INSTALLED)'/bin/nullsim-page '$(INSTALLED)'/bin/nullsim-plot '$(MANUAL)' '$(COMPLETION)' \
+	  '$(COMPLETION)-launch' '$(COMPLETION)-network' \
 	  '$(INSTALLED)'/lib/python3*/dist-packages/nullsim
 	@rm -rf '$(INSTALLED)/share/nullsim' '$(DOCUMENTS)'
 

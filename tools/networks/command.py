@@ -120,6 +120,7 @@ def parser():
     one.set_defaults(do=do_flows)
     one = some.add_parser("sweep", help="SPEC.toml KEY=a,b,c SEEDS=1..20 -- flows|report MEASURE..: means of variants "
                                         "with intervals of 95 per cent")
+    one.usage = "network sweep SPEC KEY=a,b,c .. SEEDS=1..20 -- flows|report MEASURE.."
     one.add_argument("--nullsim", metavar="PROGRAM", help="instead of bin/nullsim or nullsim")
     one.set_defaults(do=do_sweep)
     for name, found in some.choices.items():
