@@ -53,12 +53,34 @@ def hosts_of(said):
     return list(found.values())
 
 
-def check_reached(hosts):
-    """Refuses a host whose address leads each machine to itself, where there are others."""
-    for host in hosts if len(hosts) > 1 else ():
-        if host.address.startswith("127."):
-            raise Refused(f"host {host.name} has the address {host.address} here, at which no other host reaches it: "
-                          f"write `{host.name} address=A.B.C.D` in the host file")
+def is_loopback(host):
+    """Whether the address of a host leads each machine to itself."""
+    return host.address.startswith("127.")
+
+
+def own_address(other):
+    """The address at which this machine is for another one, or nothing. Nothing is sent for it."""
+    with socket.socket(socket.AF_INET, socket.SOCK_DGRAM) as made:
+        try:
+            made.connect((other, 9))
+            return made.getsockname()[0]
+        except OSError:
+            return None
+
+
+def reached(hosts):
+    """The hosts with addresses at which others reach them: a machine often has its own name for 127.0.1.1."""
+    others, found = [host for host in hosts if not is_loopback(host)], []
+    for host in hosts:
+        if len(hosts) > 1 and is_loopback(host):
+            is_here = host.name.partition(".")[0] == socket.gethostname().partition(".")[0]
+            address = own_address(others[0].address) if is_here and others else None
+            if not address:
+                raise Refused(f"host {host.name} has the address {host.address} here, at which no other host reaches "
+                              f"it: write `{host.name} address=A.B.C.D` in the host file")
+            host = host._replace(address=address)
+        found.append(host)
+    return found
 
 
 def tasks_of(said, count):

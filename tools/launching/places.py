@@ -6,7 +6,7 @@ import shlex
 import shutil
 import subprocess
 
-from launching.hosts import Host, Refused, address_of, check_reached, hosts_of, tasks_of
+from launching.hosts import Host, Refused, address_of, hosts_of, reached, tasks_of
 
 # A host that does not answer for so many seconds is gone.
 CONNECT_SECONDS, SILENCE_SECONDS = 10, 15
@@ -91,5 +91,5 @@ def found(by, said, ssh):
         raise Refused(f"--hosts stands with ssh and mpi: {by} knows its hosts")
     place = {"here": Here, "slurm": Slurm, "ssh": lambda: Ssh(hosts_of(said), ssh), "mpi": lambda: Mpi(hosts_of(said))}
     made = place[by]()
-    check_reached(made.hosts)
+    made.hosts = reached(made.hosts)
     return made

@@ -1,10 +1,12 @@
 """tools/launch with launchers and a program that only seem to be: what is started where, and what is said of faults."""
 
 import os
+import socket
 import stat
 import subprocess
 import sys
 import unittest
+from unittest import mock
 
 from launching import hosts
 from networks.tests import tool
@@ -164,7 +166,16 @@ class Launches(tool.Folder):
         self.assertIn('key "stop" is missing', beside)
 
 
-class Tasks(unittest.TestCase):
+class Hosts(unittest.TestCase):
+    def test_this_machine_has_the_address_by_which_it_reaches_others(self):
+        name = socket.gethostname()
+        some = [hosts.Host(name, "127.0.1.1", 1), hosts.Host("other", "192.0.2.1", 1)]
+        with mock.patch.object(hosts, "own_address", return_value="192.0.2.9"):
+            self.assertEqual([host.address for host in hosts.reached(some)], ["192.0.2.9", "192.0.2.1"])
+        with mock.patch.object(hosts, "own_address", return_value=None), self.assertRaises(hosts.Refused):
+            hosts.reached(some)
+        self.assertEqual(hosts.reached(some[:1]), some[:1])
+
     def test_tasks_of_a_slurm_job(self):
         self.assertEqual(hosts.tasks_of("2(x3),1", 4), [2, 2, 2, 1])
         self.assertEqual(hosts.tasks_of("", 2), [1, 1])
