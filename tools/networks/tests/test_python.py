@@ -7,8 +7,9 @@ import sys
 import unittest
 
 import nullsim
-from nullsim import runs
+from networks import sweeps
 from networks.tests import tool
+from nullsim import runs
 
 SPEC = """stop = "400 ms"
 seed = 1
@@ -76,6 +77,19 @@ class Making(tool.Folder):
             self.assertEqual(plain.with_values(values).topology(), nullsim.Network.from_text(text).topology())
         wanted = nullsim.Network.from_text(SPEC + "[defaults]\nhost_link = {queue = 7}\n").topology()
         self.assertEqual(plain.with_values({"defaults.host_link.queue": 7}).topology(), wanted)
+
+    def test_words_of_a_sweep_that_are_refused(self):
+        spec = self.file("x.spec.toml", SPEC)
+        for word, further, part in (("queue", (), "is no KEY=VALUE"), ("=5", (), "is no KEY=VALUE"),
+                                    ("SEEDS=9..1", (), "a range rises"), ("SEEDS=0..999999", (), "at most 100,000"),
+                                    ("stop=1 s", ("--", "tables"), "there are flows, report"),
+                                    ("flow.web.rat=1,2", (), "flow.web.rat: flow 0: key \"rat\" is unknown"),
+                                    ("link.0.queue=many", (), 'link 0 ("gw" to "isp"): key "queue" has to be')):
+            status, said, beside = tool.call("sweep", spec, word, "--nullsim", "/nosuch", *further)
+            self.assertEqual((status, said, beside.count("\n")), (3, "", 1), beside)
+            self.assertIn(part, beside)
+        self.assertEqual(sweeps.values_of("a.b=1,2.5,true,5 ms,\"x\""), ("a.b", [1, 2.5, True, "5 ms", "x"]))
+        self.assertEqual(sweeps.values_of("SEEDS=2..4"), ("SEEDS", [2, 3, 4]))
 
     def test_a_missing_program_is_said(self):
         why = self.fault(nullsim.Topology("", "/nosuch").check, kind=nullsim.Lacking)
