@@ -73,14 +73,15 @@ class Keys:
         self.ssh = f"ssh -F {folder}/ssh_config"
         os.makedirs("/run/sshd", exist_ok=True)
 
-    def serve(self, machine, hidden=(), more=""):
-        """Begins sshd on a machine. Folders that are hidden are empty there, as on a machine with files of its own."""
+    def serve(self, machine, hidden=(), more="", before=()):
+        """Begins sshd on a machine, perhaps by other words. Folders that are hidden are empty there, as on a machine
+        with files of its own."""
         config = os.path.join(self.folder, f"sshd-{machine.name}")
         with open(config, "w", encoding="ascii") as file:
             file.write(SSHD_CONFIG.format(folder=self.folder, more=more))
         # ip(8) gives a command mounts of its own.
         mounts = "".join(f"mount -t tmpfs none {folder} && " for folder in hidden)
-        words = machine.words("sh", "-c", f"{mounts}exec {SSHD} -D -f {config}")
+        words = machine.words(*before, "sh", "-c", f"{mounts}exec {SSHD} -D -f {config}")
         return subprocess.Popen(words, stdout=subprocess.DEVNULL, stderr=subprocess.DEVNULL)
 
 
