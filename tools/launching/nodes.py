@@ -104,6 +104,8 @@ class Node:
                             shutil.copyfileobj(read, file)
             stream.read()
         except (tarfile.TarError, OSError) as why:
+            # So it is as if it had been lost.
+            self.ended = None
             self.errors.append(f"its files did not come whole: {why}")
 
     def read_errors(self, child):
