@@ -1,8 +1,8 @@
 # `make help` lists the targets.
 
 .PHONY: all help try run bench compare cases run-cases check-docs check-edge check-parts check-frames check-links \
-  check-network check-pcap check-series check-tools check-worlds cut-connections deep demo tutorial words test \
-  gate-times install uninstall dist clean toolchain
+  check-network check-pcap check-series check-tools check-worlds cut-connections deep demo theory tutorial words \
+  test gate-times install uninstall dist clean toolchain
 
 # The topology and the interface of `make try` and `make run`; the folder of `make cases`; how many jobs `make` proves
 # with; which steps of `make deep`; whether `make compare` writes the times of a busy host; where `make install` puts
@@ -47,10 +47,13 @@ Check
   make check-links       breaks the connections of replicas at random octets, with ten thousand seeds, and certifies
                          what they come to
   make check-worlds      tries replicas in a million worlds of several machines, each drawn from a seed
-  make check-network *   runs the tests of tools/network (python3-networkx metis graphviz)
+  make check-network *   runs the tests of tools/network, tools/launch and the Python package (python3-networkx metis
+                         graphviz python3-numpy python3-pandas)
   make check-pcap *      reads the traces of the examples (tshark, or else tcpdump)
   make cases             compares the program with cases of an independent model; CASES=FOLDER: with those of a folder
   make run-cases *       runs the partitions of many topologies at once, and has each file verified
+  make theory *          draws and runs queues, and compares waits, losses and bounds with their formulas; two minutes
+                         (python3-matplotlib)
   make cut-connections * cuts the connection of two nodes a thousand times, and compares their files with those of the
                          one event list
   make deep *            all that is too long for the gate: all checks, attacks and planted bugs; STEPS=WORD: some of
@@ -61,8 +64,8 @@ Measure
                          ANYWAY=1: on a busy host too
   make gate-times        the gate, with the processor minutes of each crate (docs/CONTRIBUTING.md)
 Install
-  make install           puts nullsim, nullsim-network, nullsim-page and nullsim-plot, the manual page, the completion for
-                         bash, the documents and the examples below PREFIX (/usr/local)
+  make install           puts nullsim, nullsim-launch, nullsim-network, nullsim-page and nullsim-plot, the Python package,
+                         the manual page, the completion for bash, the documents and the examples below PREFIX (/usr/local)
   make uninstall         removes them
   make dist              makes an archive and a Debian package of the same files in dist/, with their checksums
 All need the Rattle toolchain (rt) on PATH and python3 of 3.9 or later, and those with a star python3 of 3.11 or later.
@@ -104,6 +107,9 @@ run-cases: bin/nullsim
 check-docs check-edge check-network check-parts check-pcap check-series: check-%: bin/nullsim
 	@dev/check/$*
 
+theory: bin/nullsim
+	@dev/check/theory
+
 tutorial: bin/nullsim
 	@dev/check/tutorial
 
@@ -144,24 +150,34 @@ INSTALLED = $(DESTDIR)$(PREFIX)
 MANUAL = $(INSTALLED)/share/man/man1/nullsim.1
 COMPLETION = $(INSTALLED)/share/bash-completion/completions/nullsim
 TOOLS = $(INSTALLED)/share/nullsim/tools
+# Where Debian's Python finds packages: below /usr for all its versions, below /usr/local for that which is there.
+PYTHON = $(INSTALLED)/lib/python3$(if $(filter /usr/local,$(PREFIX)),$(DEBIANS))/dist-packages
+DEBIANS = $(shell "$$(command -v /usr/bin/python3 || command -v python3)" -c 'import sys; print(".%d" % sys.version_info[1])')
 DOCUMENTS = $(INSTALLED)/share/doc/nullsim
 
 install: bin/nullsim
 	@install -D -m 755 bin/nullsim '$(INSTALLED)/bin/nullsim'
 	@install -D -m 644 docs/nullsim.1 '$(MANUAL)'
 	@install -D -m 644 tools/completion/nullsim '$(COMPLETION)'
-	@install -D -m 755 -t '$(TOOLS)' tools/network tools/page tools/plot
+	@for tool in launch network; do ln -sf nullsim '$(COMPLETION)'-$$tool; done
+	@install -D -m 755 -t '$(TOOLS)' tools/launch tools/network tools/page tools/plot
+	@install -D -m 644 -t '$(TOOLS)/launching' tools/launching/*.py tools/launching/*.sh
 	@install -D -m 644 -t '$(TOOLS)/networks' tools/networks/*.py
-	@for tool in network page plot; do ln -sf ../share/nullsim/tools/$$tool '$(INSTALLED)'/bin/nullsim-$$tool; done
+	@install -D -m 644 -t '$(TOOLS)/nullsim' tools/nullsim/*.py
+	@install -d '$(PYTHON)' && ln -sfn ../../../share/nullsim/tools/nullsim '$(PYTHON)/nullsim'
+	@for tool in launch network page plot; do ln -sf ../share/nullsim/tools/$$tool '$(INSTALLED)'/bin/nullsim-$$tool; done
 	@install -D -m 644 -t '$(DOCUMENTS)' README.md LICENSE
 	@install -D -m 644 -t '$(DOCUMENTS)/docs' docs/*.md
 	@install -D -m 644 -t '$(DOCUMENTS)/docs/pictures' docs/pictures/*
 	@install -D -m 644 -t '$(DOCUMENTS)/examples' examples/*
-	@echo 'installed $(INSTALLED)/bin/nullsim, and nullsim-network, nullsim-page and nullsim-plot beside it'
+	@echo 'installed $(INSTALLED)/bin/nullsim, and nullsim-launch, nullsim-network, nullsim-page and nullsim-plot beside it'
+	@$(if $(filter /usr /usr/local,$(PREFIX)),:,echo 'for Python: export PYTHONPATH=$(PYTHON)')
 
 uninstall:
-	@rm -f '$(INSTALLED)'/bin/nullsim '$(INSTALLED)'/bin/nullsim-network '$(INSTALLED)'/bin/nullsim-page \
-	  '$(INSTALLED)'/bin/nullsim-plot '$(MANUAL)' '$(COMPLETION)'
+	@rm -f '$(INSTALLED)'/bin/nullsim '$(INSTALLED)'/bin/nullsim-launch '$(INSTALLED)'/bin/nullsim-network \
+	  '$(INSTALLED)'/bin/nullsim-page '$(INSTALLED)'/bin/nullsim-plot '$(MANUAL)' '$(COMPLETION)' \
+	  '$(COMPLETION)-launch' '$(COMPLETION)-network' \
+	  '$(INSTALLED)'/lib/python3*/dist-packages/nullsim
 	@rm -rf '$(INSTALLED)/share/nullsim' '$(DOCUMENTS)'
 
 dist: bin/nullsim

@@ -1,15 +1,13 @@
 """Where the processes and the proxy listen: over loopback, or in network namespaces that a bridge joins, with netem on
 each of their links."""
 
-import ctypes
 import os
 
 from dev.lib import nodes, process
+from dev.lib.machines import enter
 
 NETEM = ["delay", "5ms", "loss", "2%"]
-NEW_NETWORK = 0x40000000
 SWITCH = "10.77.0.1"
-FOLDER = "/run/netns"
 
 
 class Refused(Exception):
@@ -47,14 +45,6 @@ def ip(*words):
         raise Refused(f"{words[0]}: {fault.strerror}") from fault
     if ended.status:
         raise Refused(f"{' '.join(words)}: {process.ending(ended)}")
-
-
-def enter(name):
-    """Moves the thread that calls it into a namespace."""
-    handle = os.open(os.path.join(FOLDER, name), os.O_RDONLY)
-    if ctypes.CDLL(None, use_errno=True).setns(handle, NEW_NETWORK):
-        raise OSError(ctypes.get_errno(), f"cannot enter the namespace {name}")
-    os.close(handle)
 
 
 class Namespaces:

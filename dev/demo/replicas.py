@@ -1,13 +1,10 @@
 """The processes, each of which prints once a second on standard error how far it is (docs/FORMATS.md, Runs)."""
 
-import ctypes
-import signal
 from collections import Counter
 
-from dev.lib import here
+from dev.lib import here, machines
 from dev.lib.nodes import Node
 
-DIES_WITH_PARENT = 1
 # The words of the line `safe S events E records R messages M nulls N connections C broken B resent R`.
 WORDS = ("safe", "events", "records", "messages", "nulls", "connections", "broken", "resent")
 
@@ -47,7 +44,7 @@ class Replica(Node):
 
     def prepare(self):
         """What a child does before it becomes the program."""
-        ctypes.CDLL(None).prctl(DIES_WITH_PARENT, signal.SIGKILL)
+        machines.die_with_parent()
         self.places.enter(self.key)
 
     def begin(self):

@@ -9,14 +9,17 @@ from dev.lib import here
 
 LEAST = (3, 9)
 # Modules and methods of Python that came later than LEAST.
-NEWER = {"tomllib": (3, 11)}
+NEWER = {"tomllib": (3, 11), "nullsim": (3, 11)}
 # The packages of Debian that have a module, or a program by its name.
 PACKAGES = {"matplotlib": "python3-matplotlib", "networkx": "python3-networkx", "dot": "graphviz", "gpmetis": "metis",
             "tshark": "tshark", "tcpdump": "tcpdump", "cc": "gcc", "g++": "g++", "valgrind": "valgrind",
-            "flake8": "python3-flake8", "/usr/include/ns3/core-module.h": "libns3-dev"}
-# Tools of a user, and scripts that call others: what they call, or load by other means than an import.
-TOOLS = {"tools/network": [], "tools/plot": [], "tools/page": ["tools/plot"]}
-CALLS = {**TOOLS, "dev/check/network": ["tools/networks"], "dev/check/tutorial": TOOLS, "dev/check/docs": TOOLS,
+            "flake8": "python3-flake8", "pandas": "python3-pandas", "numpy": "python3-numpy",
+            "mpirun": "openmpi-bin", "srun": "slurm-wlm", "/usr/include/ns3/core-module.h": "libns3-dev"}
+# Tools of a user, and scripts that call others: what they call, or load by other means than an import. DRAWN are the
+# tools that commands of documents call.
+TOOLS = {"tools/network": [], "tools/launch": [], "tools/nullsim": [], "tools/plot": [], "tools/page": ["tools/plot"]}
+DRAWN = ["tools/network", "tools/plot", "tools/page"]
+CALLS = {**TOOLS, "dev/check/network": ["tools/networks"], "dev/check/tutorial": DRAWN, "dev/check/docs": DRAWN,
          "dev/deep": ["dev/check", "dev/attack", "dev/compare"]}
 # Targets whose packages are those of the others that they call.
 OF_OTHERS = ("deep",)
@@ -82,9 +85,9 @@ def closure(paths):
 
 def needs_of(script):
     """The least Python and the packages of a script; with an option behind it, it looks for no package."""
-    paths = [here.path(script.split()[0])]
-    for other in CALLS.get(script, []):
-        paths += filter(is_python, here.files(other) if os.path.isdir(here.path(other)) else [here.path(other)])
+    paths = []
+    for name in (script.split()[0], *CALLS.get(script, [])):
+        paths += filter(is_python, here.files(name) if os.path.isdir(here.path(name)) else [here.path(name)])
     python, packages = LEAST, set()
     for names in closure(paths).values():
         python = max([python, *(NEWER[name] for name in names if name in NEWER)])

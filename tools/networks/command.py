@@ -69,8 +69,15 @@ def do_flows(words):
 
     found = spec.read(toml.load(words.spec))
     network = making.make(found, words.spec).network
-    rows = measured.table(network, found.scale, words.file, words.nullsim)
+    rows = measured.of_file(network, found.scale, words.file, words.nullsim)
     sys.stdout.write(measured.csv_text(rows) if words.csv else measured.people_text(rows))
+
+
+def do_sweep(words):
+    """The means of variants."""
+    from networks import sweeps
+
+    sys.stdout.write(sweeps.csv_text(words))
 
 
 def do_show(words):
@@ -111,18 +118,28 @@ def parser():
     one.add_argument("--csv", action="store_true", help="comma-separated values")
     one.add_argument("--nullsim", metavar="PROGRAM", help="instead of bin/nullsim or nullsim")
     one.set_defaults(do=do_flows)
+    one = some.add_parser("sweep", help="SPEC.toml KEY=a,b,c SEEDS=1..20 -- flows|report MEASURE..: means of variants "
+                                        "with intervals of 95 per cent")
+    one.usage = "network sweep SPEC KEY=a,b,c .. SEEDS=1..20 -- flows|report MEASURE.."
+    one.add_argument("--nullsim", metavar="PROGRAM", help="instead of bin/nullsim or nullsim")
+    one.set_defaults(do=do_sweep)
     for name, found in some.choices.items():
         found.add_argument("file", metavar="FILE", help="a file, or - for standard input")
         if name == "partition":
             found.add_argument("count", metavar="N", type=int, help="how many partitions: 1 to 64")
         if name == "flows":
             found.add_argument("spec", metavar="SPEC", help="the SPEC that the topology was made of")
+        if name == "sweep":
+            found.add_argument("values", metavar="KEY=a,b,c", nargs="*", help="values of a key, or SEEDS=1..20")
     return top
 
 
 def main(arguments):
     """Runs a command: its exit status."""
-    words = parser().parse_args(arguments)
+    # Behind `--` stands what a sweep measures.
+    end = arguments.index("--") if arguments[:1] == ["sweep"] and "--" in arguments else len(arguments)
+    words = parser().parse_args(arguments[:end])
+    words.further = arguments[end + 1:]
     try:
         words.do(words)
         sys.stdout.flush()

@@ -8,6 +8,7 @@ class Refused(Exception):
 
     def __init__(self, place, sentence):
         super().__init__(f"{place}: {sentence}" if place else sentence)
+        self.place, self.sentence = place, sentence
 
 
 class Lacking(Exception):

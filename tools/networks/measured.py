@@ -60,21 +60,27 @@ def flow_row(flow, rows, spread, scale):
     return made
 
 
-def table(network, scale, topology, asked=None):
-    """A row for each flow of a SPEC, in its order."""
-    nullsim = program.found(asked)
-    rows = program.rows(nullsim, topology, "csv")
-    check_same(network, rows, topology)
+def table(network, scale, topology, sources, delays):
+    """A row for each flow of a SPEC, in its order: of the rows of sources and of their delays that the program prints
+    of a topology."""
+    check_same(network, sources, topology)
     spreads = {}
-    for row in program.rows(nullsim, topology, "delays"):
+    for row in delays:
         spreads.setdefault(row["source"], []).append(
             (int(row["from_nanoseconds"]), int(row["to_nanoseconds"]), int(row["packets"])))
     of_flow = {}
-    for row, source in zip(rows, network.sources):
+    for row, source in zip(sources, network.sources):
         flow = source.flow
         of_flow.setdefault((flow.table, flow.one, flow.other), (flow, []))[1].append(row)
     return [flow_row(flow, some, [it for row in some for it in spreads.get(row["source"], ())], scale)
             for flow, some in of_flow.values()]
+
+
+def of_file(network, scale, topology, asked=None):
+    """The same of a topology in a file, which the program runs twice."""
+    nullsim = program.found(asked)
+    return table(network, scale, topology, program.report(nullsim, topology).sources,
+                 program.rows(nullsim, topology, "report", "delays"))
 
 
 def csv_text(rows):

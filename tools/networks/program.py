@@ -1,4 +1,4 @@
-"""Calls the program nullsim, and reads its comma-separated values."""
+"""Calls the program nullsim, and reads what `report TOPO csv` prints."""
 
 import csv
 import os
@@ -7,24 +7,57 @@ import subprocess
 
 from networks import errors
 
-OWN = os.path.join(os.path.dirname(os.path.dirname(os.path.dirname(os.path.realpath(__file__)))), "bin", "nullsim")
+# The folder that has tools/ in it: of the tree, or share/nullsim of an installed one.
+TOP = os.path.dirname(os.path.dirname(os.path.dirname(os.path.realpath(__file__))))
+OWN = os.path.join(TOP, "bin", "nullsim")
+INSTALLED = os.path.join(os.path.dirname(os.path.dirname(TOP)), "bin", "nullsim")
 
 
 def found(asked=None):
-    """The program: as asked, bin/nullsim, or nullsim on the path."""
-    program = asked or (OWN if os.path.exists(OWN) else shutil.which("nullsim"))
+    """The program: as asked, that of the tree or beside the installed tools, or nullsim on the path."""
+    own = next((path for path in (OWN, INSTALLED) if os.path.isfile(path)), None)
+    program = asked or own or shutil.which("nullsim")
     if not program:
         raise errors.Lacking("this needs nullsim: build it (`make`), or name it with --nullsim")
     return program
 
 
-def rows(program, topology, *words):
-    """The last table that `report TOPO ..` prints, a dictionary for each row."""
+def ended(program, *words):
+    """How the program ends with these words: its status, and what it printed."""
     try:
-        ended = subprocess.run([program, "report", topology, *words], capture_output=True, text=True, check=False)
+        return subprocess.run([program, *words], capture_output=True, text=True, check=False)
     except OSError as why:
         raise errors.Lacking(f"{errors.shown(program)} does not run: {why.strerror}") from None
-    if ended.returncode:
-        raise errors.Refused(topology, f"nullsim ends with {ended.stderr.strip() or ended.returncode}: `nullsim check` "
+
+
+def printed(program, topology, word, *words):
+    """What a word about a topology prints, which has to end well."""
+    end = ended(program, word, topology, *words)
+    if end.returncode:
+        raise errors.Refused(topology, f"nullsim ends with {end.stderr.strip() or end.returncode}: `nullsim check` "
                                        "says more")
-    return list(csv.DictReader(ended.stdout.split("\n\n")[-1].splitlines()))
+    return end.stdout
+
+
+def rows(program, topology, *words):
+    """The rows of comma-separated values that a word prints, a dictionary each."""
+    return list(csv.DictReader(printed(program, topology, *words).splitlines()))
+
+
+class Report:
+    """What `report TOPO csv` says: for each kind (node, interface, source), by name, the number of each measure; and a
+    row for each source, a dictionary of texts, with these columns. Where that word prints another form, this class
+    alone changes."""
+
+    def __init__(self, text):
+        long, _, wide = text.partition("\n\n")
+        self.measures = {}
+        for row in csv.DictReader(long.splitlines()):
+            self.measures.setdefault(row["kind"], {}).setdefault(row["name"], {})[row["measure"]] = int(row["value"])
+        reader = csv.DictReader(wide.splitlines())
+        self.columns, self.sources = reader.fieldnames or [], list(reader)
+
+
+def report(program, topology):
+    """The report of a topology."""
+    return Report(printed(program, topology, "report", "csv"))
