@@ -23,5 +23,6 @@ loop-job-preserved-in-Some-get_mut g c =
     let there : w ≡ get_or watched n w = search rules in
     record {
       seat = c.loop-job.invariant.seat;
+      passes = c.loop-job.invariant.passes;
       owns = map-set_same (λ x. x.own) watched n c.note.new.watched w (c.in_ok-note.ensures.own ∙ ap (λ x. x.own) there) ∙ c.loop-job.invariant.owns;
     }
