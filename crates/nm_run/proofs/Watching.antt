@@ -1,5 +1,5 @@
 -- The replicas of a run, kept and remembered in their order.
-use Rattle.std.proofs.Common.{◌≡◌, ℕ, zero, suc, ◌+◌, ◌<◌, All, List, [], ◌∷◌, ◌++◌, length, map, get_or, None, Some, option_map, refl, sym, ◌∙◌, ap, subst, arith, tt}
+use Rattle.std.proofs.Common.{◌≡◌, ℕ, zero, suc, ◌+◌, ◌<◌, All, List, [], ◌∷◌, ◌++◌, length, map, get_or, None, Some, option_map, refl, sym, ◌∙◌, ap, subst, arith}
 use Rattle.std.specs.Prelude.{slice_get, slice_set}
 use Rattle.std.proofs.lemmas.List.{length-map, map-append}
 use Rattle.std.proofs.lemmas.Option.{slice_get-get_or, slice_get-map}
@@ -21,8 +21,7 @@ own_there names watched n w are low is =
 
 -- what holds of each member at its place holds of all
 pub all_by_place : {A : Type 0} (P : A → Type 0) (xs : List A) → ((k : ℕ) (a : A) → slice_get xs k ≡ Some a → P a) → All P xs
-all_by_place P [] at = tt
-all_by_place P (x ∷ xs) at = (at zero x refl, all_by_place P xs (λ k a e. at (suc k) a e))
+all_by_place P xs at = λ k d low. at k (get_or xs k d) (slice_get-get_or xs k d low)
 
 pub get_is_within : {A : Type 0} (xs : List A) (k : ℕ) (a : A) → slice_get xs k ≡ Some a → k < length xs
 get_is_within [] k a e = absurd (let none : None ≡ Some a = e in cc)

@@ -46,7 +46,7 @@ impl<'a> Dispatcher<'a> {
     /// The passes of jobs, and those with which it looked at books, once it has ended.
     pub(crate) fn into_passes(self, _: Dispatched) -> Result<Vec<BookPass<Plain>>, AllocError>
         ensures { IfOk result
-            (λ passes. vec_len passes ≡ vec_len self.passes + vec_len self.watched) }
+            (λ passes. vec_len passes ≡ vec_len self.entry.passes + vec_len self.entry.watched) }
     {
         let Dispatcher {
             watched,

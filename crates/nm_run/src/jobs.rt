@@ -115,7 +115,7 @@ impl<'a> Watched<'a> {
 
     /// Its pass of the book.
     pub(crate) fn into_pass(self) -> BookPass<Plain>
-        ensures { result.book ≡ self.own.index }
+        ensures { result.book ≡ self.entry.own.index }
     {
         BookPass {
             book: self.own.index,

@@ -1,4 +1,4 @@
-use Rattle.std.proofs.Common.{◌≡◌, ◌<◌, ℕ, All, length, get_or, rules, sym, subst, ◌∙◌, ap, arith}
+use Rattle.std.proofs.Common.{◌≡◌, ◌<◌, ◌≤◌, ℕ, All, length, get_or, rules, sym, subst, ◌∙◌, ap, arith}
 use Rattle.std.specs.Prelude.{slice_get}
 use Rattle.std.proofs.Math.Seq.{map-set_same}
 use Rattle.std.proofs.lemmas.List.Elements.{All-push}
@@ -7,7 +7,7 @@ use Rattle.nm_run.specs.declared.stations.Own.{Own}
 use Rattle.nm_run.proofs.Watching.{all_by_place, get_is_within, one_more_by_place, own_there}
 use Rattle.std.proofs.lemmas.List.{length-set}
 use Rattle.nm_run.proofs.jobs.jobs_for.Goals as goal
-use Rattle.nm_run.proofs.jobs.jobs_for.Goals.{then-wants+in_ok-push, else-wants}
+use Rattle.nm_run.proofs.jobs.jobs_for.Goals.{then-wants+in_ok-push, else-wants, else-loop-number-test, then-loop-number-test+in_default}
 
 pub loop-number-preserved : goal.loop-number-preserved
 loop-number-preserved g c =
@@ -50,5 +50,15 @@ loop-number-preserved g c =
 
 pub returns-clause-looked : goal.returns-clause-looked
 returns-clause-looked g c = λ few.
-    all_by_place WasLookedAt c.loop-number.watched.items
-    (λ k a is. c.loop-number.invariant.looked k a (omega (arith, few, c.loop-number.invariant.long, get_is_within c.loop-number.watched.items k a is)) is)
+    let watched = c.loop-number.watched.items in
+    let n = c.loop-number.number in
+    let all = λ (past : length watched ≤ n). all_by_place WasLookedAt watched
+        (λ k a is. c.loop-number.invariant.looked k a (omega (arith, past, get_is_within watched k a is)) is) in
+    elim c.loop-number-test.branch [
+      | else-loop-number-test w ↦
+          let end : length c.args.threaded.now.books.now ≤ n = search rules in
+          subst (λ v. All WasLookedAt v.items) (sym w.watched-is) (all (omega (arith, few, c.loop-number.invariant.long, end)))
+      | then-loop-number-test+in_default w ↦
+          let none : length watched ≤ n = search rules in
+          subst (λ v. All WasLookedAt v.items) (sym w.watched-is) (all none)
+    ]

@@ -9,7 +9,7 @@ loop-replica-preserved c =
     let old = c.loop-replica.books.items in
     let new = c.push.new.self.items in
     let book = c.in_ok-share_one.field-0 in
-    let is = c.in_ok-share_one.ensures in
+    let is = c.in_ok-share_one.ensures.named in
     let low : r < c.args.plan.now.replicas = search rules in
     one_first p r c.args.plan.now.replicas (map (λ b. (b.partition, b.replica)) old) (map (λ b. (b.partition, b.replica)) new) low
     (named_more old new book (λ b. (b.partition, b.replica)) p r c.in_ok-push.ensures.items (named book.partition book.replica p r (is.0 ∙ c.new.ensures) is.1))
