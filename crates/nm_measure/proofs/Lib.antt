@@ -1,2 +1,12 @@
+mod Advances
 mod Counting
+mod Lists
+mod Nodes
+mod Readings
 mod Rounding
+mod Turns
+mod Turned
+mod Waitings
+mod Transmitting
+mod Seeing
+mod Watching

@@ -2,5 +2,11 @@ pub mod Amounts
 pub mod Flows
 pub mod Delays
 pub mod Measured
+pub mod Queues
+pub mod Busy
+pub mod Usage
+pub mod Waited
 pub mod Waiting
+pub mod Seen
+pub mod Interfaces
 pub mod Lines

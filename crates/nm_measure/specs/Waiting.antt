@@ -1,7 +1,30 @@
--- How long packets wait at an interface.
-use Rattle.std.specs.Prelude.{ℕ, ◌+◌, ◌-◌, ◌*◌, ◌^◌, min}
+-- The queue of an interface, as it is seen event by event.
+use Rattle.std.specs.Prelude.{ℕ, max}
+use Rattle.nm_measure.specs.Waited.{waited_at}
+use Rattle.nm_measure.specs.declared.queue.Queue.{Queue}
 
--- For how many nanoseconds packets waited, all together, up to a time: so many up to an earlier
--- one, from which on this many wait. It stops at the greatest of its type.
-abbrev pub waited_at : (waited waiting since now : ℕ) → ℕ
-waited_at waited waiting since now = min (waited + waiting * (now - since)) (2 ^ 128 - 1)
+-- nothing waited yet
+abbrev pub queue_empty : Queue
+queue_empty = record {
+  waiting = 0;
+  dropped = 0;
+  longest = 0;
+  recent = 0;
+  waited = 0;
+  since = 0;
+}
+
+-- from now on so many wait, and so many were dropped
+abbrev pub queue_later : Queue → (waiting dropped now : ℕ) → Queue
+queue_later q waiting dropped now = record {
+  waiting = waiting;
+  dropped = dropped;
+  longest = max q.longest waiting;
+  recent = max q.recent waiting;
+  waited = waited_at q.waited q.waiting q.since now;
+  since = now;
+}
+
+-- the most that wait are looked for anew
+abbrev pub queue_begun : Queue → Queue
+queue_begun q = record q { recent = q.waiting }

@@ -106,9 +106,10 @@ fn count_each(all: &mut Vec<IfaceTraffic>, records: &[Record])
 pub(crate) fn count_all(part: &mut Part<HeapList>, all: &mut Vec<IfaceTraffic>)
     requires { (t : TopologyValue) × (s : State (List ℕ) NodeStateValue)
         × IsCounted t s part.old all.old.items }
-    ensures { (t : TopologyValue) (s : State (List ℕ) NodeStateValue)
+    ensures counted { (t : TopologyValue) (s : State (List ℕ) NodeStateValue)
         → IsCounted t s part.old all.old.items → IsCounted t s part.new all.new.items
         × HasCountedAll part.new s }
+    ensures steps { part.new.steps ≡ part.old.steps }
 {
     count_each(all, part.trace());
     part.let_go();

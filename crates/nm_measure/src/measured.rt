@@ -1,10 +1,13 @@
 //! A network at a time of its run, and what was measured of it.
 
-ghost use Rattle.std.specs.Prelude.{◌≡◌, ℕ, ◌<◌, ◌≤◌, None, Some, IfOk, IfSome, OnOk, length};
+ghost use Rattle.std.specs.Prelude.{◌≡◌, ℕ, ◌-◌, ◌<◌, ◌≤◌, ◌^◌, min, None, Some};
+ghost use Rattle.std.specs.Prelude.{IfOk, IfSome, OnOk, length};
 ghost use Rattle.nm_model.specs.Run.{one_list};
 ghost use Rattle.nm_measure.specs.Amounts.{iface_traffic_of, drops_of};
+ghost use Rattle.nm_measure.specs.Busy.{busy_before, busy_share};
 ghost use Rattle.nm_measure.specs.Flows.{Balances};
-ghost use Rattle.nm_measure.specs.Measured.{IsMeasuredBefore};
+ghost use Rattle.nm_measure.specs.Measured.{HasRecent, IsMeasuredBefore};
+ghost use Rattle.nm_measure.specs.Queues.{longest_queue, waited_before};
 ghost use Rattle.nm_sim.specs.Network.{net_of};
 ghost use Rattle.nm_sim.specs.Part.{count_at, drops_at};
 ghost use Rattle.nm_topology.specs.TopologyValue.{TopologyValue};
@@ -13,6 +16,7 @@ use crate::amounts::{Amount, IfaceTraffic, count_all, no_traffic};
 use crate::courses::{Course, Ended};
 use crate::flow_counts::FlowCounts;
 use crate::flow_times::FlowTimes;
+use crate::interfaces::Interfaces;
 use crate::totals::{FlowTotals, IfaceTotals};
 use crate::watched::Watched;
 use nm_base::limits::MAX_PART_STEPS;
@@ -22,24 +26,33 @@ use nm_forward::Counter;
 use nm_progress::Progress;
 use nm_sim::Part;
 use nm_topology::Topology;
+use nm_topology::topology::accepted_topologies_are_in_order;
 use std::alloc::{AllocError, Global};
 use std::marker::Model;
 
-/// A whole network at a time of its run, and what was measured of it: counters, drops and traffic
-/// are those of the one event list; flows, queues and busy times are what was seen event by event.
+/// A whole network at a time of its run, and what was measured of it: counters, drops, traffic,
+/// queues in packets and busy times are those of the one event list; flows, and the octets that
+/// wait, are what was seen event by event.
 #[derive(Drop)]
 pub struct Measured {
     part: Part<HeapList>,
     traffic: Vec<IfaceTraffic>,
+    interfaces: Interfaces,
     watched: Watched,
 }
 
 impl Model for Measured {
+    ghost use Rattle.std.specs.Prelude.{map};
     ghost use Rattle.nm_measure.specs.Measured.{MeasuredValue};
 
     ghost Value = { MeasuredValue };
 
-    ghost view = { λ m. record { part = m.part; traffic = m.traffic.items } };
+    ghost view = { λ m. record {
+      part = m.part;
+      traffic = m.traffic.items;
+      seen = m.interfaces.all.items;
+      own = map (λ l. l.items) m.interfaces.own.items;
+    } };
 }
 
 impl Measured {
@@ -56,12 +69,15 @@ impl Measured {
     ) -> Result<Self, AllocError>
         ensures { IfOk result (IsMeasuredBefore topology.now 0) }
     {
+        accepted_topologies_are_in_order(topology); // law: `stop` is within its limit
         let traffic = no_traffic(alloc, topology)?;
+        let interfaces = Interfaces::new(alloc, topology)?;
         let watched = Watched::new(alloc, topology, followed)?;
         let part = Part::<HeapList>::start(alloc, topology, None)?;
         Ok(Measured {
             part,
             traffic,
+            interfaces,
             watched,
         })
     }
@@ -81,15 +97,23 @@ impl Measured {
     ) -> Result<(), AllocError>
         requires before { until ≤ topology.now.stop }
         requires from { (from : ℕ) × (from ≤ until) × IsMeasuredBefore topology.now from self.old }
-        ensures { OnOk result (IsMeasuredBefore topology.now until self.new) }
+        ensures before { OnOk result (IsMeasuredBefore topology.now until self.new) }
+        ensures recent { OnOk result (HasRecent topology.now self.old.part.steps self.new) }
     {
+        accepted_topologies_are_in_order(topology); // law: `stop` is within its limit
+        self.interfaces.begin_recent();
+        self.watched.begin_recent();
         for done in 0..MAX_PART_STEPS + 1 {
             let Some(key) = self.part.step(alloc, topology, until)? else {
                 return Ok(());
             };
             progress.note_records(self.part.handed(), self.part.trace().len(), key.time);
+            let guess = self.watched.guess(topology, &key.place);
+            let happened = self
+                .interfaces
+                .see(topology, &self.part, key.time, &key.place, guess);
             self.watched
-                .see(topology, &self.part, key.time, &key.place)?;
+                .see(topology, &self.part, key.time, &key.place, happened)?;
             count_all(&mut self.part, &mut self.traffic);
         }
         Err(AllocError)
@@ -127,13 +151,19 @@ impl Measured {
             → result.traffic ≡ iface_traffic_of iface (one_list (net_of t) m.events).records }
         ensures dropped { (t : TopologyValue) (until : ℕ) (m : IsMeasuredBefore t until self.now)
             → result.dropped ≡ drops_of iface (one_list (net_of t) m.events) }
+        ensures waited { (t : TopologyValue) (m : IsMeasuredBefore t time self.now)
+            → result.waited ≡ min (waited_before (net_of t) iface time m.events) (2 ^ 128 - 1) }
+        ensures busy { (t : TopologyValue) (m : IsMeasuredBefore t time self.now)
+            → result.busy ≡ busy_before (net_of t) iface time
+            (one_list (net_of t) m.events).records }
     {
+        let (waited, busy) = self.over_time(iface, time);
         IfaceTotals {
             traffic: self.traffic[iface.index()],
             dropped: self.part.dropped(iface).unwrap_or(0),
-            waited: self.watched.waited(iface, time),
+            waited,
             octets_waited: self.watched.octets_waited(iface, time),
-            busy: self.watched.busy_before(iface, time),
+            busy,
         }
     }
 
@@ -153,12 +183,45 @@ impl Measured {
         }
     }
 
-    /// The most packets that waited at an interface at one time since this was asked last, and the
-    /// most octets.
-    pub fn take_recent_queue(&mut self, iface: IfaceNo) -> Amount
-        ensures { self.new ≡ self.old }
+    /// For how many nanoseconds packets waited at an interface up to this time, all together, and
+    /// for how many it transmitted.
+    fn over_time(&self, iface: IfaceNo, time: Time) -> (u128, u64)
+        requires there { iface < length self.now.traffic }
+        ensures waited { (t : TopologyValue) (m : IsMeasuredBefore t time self.now)
+            → result.0 ≡ min (waited_before (net_of t) iface time m.events) (2 ^ 128 - 1) }
+        ensures busy { (t : TopologyValue) (m : IsMeasuredBefore t time self.now)
+            → result.1 ≡ busy_before (net_of t) iface time
+            (one_list (net_of t) m.events).records }
     {
-        self.watched.take_recent_queue(iface)
+        match self.interfaces.get(iface) {
+            Some(seen) => (seen.queue.waited(time), seen.usage.busy_before(time)),
+            None => (0, 0),
+        }
+    }
+
+    /// The most packets that waited at an interface at one time since the last advance began, and
+    /// the most octets.
+    pub fn recent_queue(&self, iface: IfaceNo) -> Amount
+        ensures { (t : TopologyValue) (first : ℕ) → HasRecent t first self.now
+            → iface < length t.ifaces
+            → result.packets ≡ longest_queue (net_of t) iface first self.now.part.steps }
+    {
+        Amount {
+            packets: self.recent_packets(iface),
+            octets: self.watched.recent_octets(iface),
+        }
+    }
+
+    /// The most packets that waited at an interface at one time since the last advance began.
+    fn recent_packets(&self, iface: IfaceNo) -> u64
+        ensures { (t : TopologyValue) (first : ℕ) → HasRecent t first self.now
+            → iface < length t.ifaces
+            → result ≡ longest_queue (net_of t) iface first self.now.part.steps }
+    {
+        match self.interfaces.get(iface) {
+            Some(seen) => seen.queue.recent(),
+            None => 0,
+        }
     }
 
     /// The greatest delay of what arrived of a source since this was asked last, in nanoseconds; 0
@@ -184,14 +247,24 @@ impl Measured {
     }
 
     /// The most packets that waited at an interface at one time, behind the one that it transmits.
-    pub fn longest_queue(&self, iface: IfaceNo) -> u64 {
-        self.watched.longest_queue(iface)
+    pub fn longest_queue(&self, iface: IfaceNo) -> u64
+        ensures { (t : TopologyValue) (until : ℕ) (m : IsMeasuredBefore t until self.now)
+            → iface < length t.ifaces → result ≡ longest_queue (net_of t) iface 0 m.events }
+    {
+        match self.interfaces.get(iface) {
+            Some(seen) => seen.queue.longest(),
+            None => 0,
+        }
     }
 
     /// For how many nanoseconds before `stop` an interface transmitted.
-    pub fn busy(&self, iface: IfaceNo) -> u64 {
-        match self.watched.usage(iface) {
-            Some(usage) => usage.busy(),
+    pub fn busy(&self, iface: IfaceNo) -> u64
+        ensures { (t : TopologyValue) (until : ℕ) (m : IsMeasuredBefore t until self.now)
+            → iface < length t.ifaces → result ≡ busy_before (net_of t) iface t.stop
+            (one_list (net_of t) m.events).records }
+    {
+        match self.interfaces.get(iface) {
+            Some(seen) => seen.usage.busy(),
             None => 0,
         }
     }
@@ -199,10 +272,15 @@ impl Measured {
     /// The share of the time from the start of its first packet to that of its last in which an
     /// interface transmitted, in thousandths. `None` where there are fewer than two packets.
     pub fn busy_share(&self, iface: IfaceNo) -> Option<u64>
-        ensures { IfSome result (λ share. share ≤ 1000) }
+        ensures share { (t : TopologyValue) (until : ℕ) (m : IsMeasuredBefore t until self.now)
+            → iface < length t.ifaces → result ≡ busy_share (net_of t) iface
+            (one_list (net_of t) m.events).records }
+        ensures most { IfSome result (λ share. share ≤ 1000) }
     {
-        let usage = self.watched.usage(iface)?;
-        usage.share()
+        match self.interfaces.get(iface) {
+            Some(seen) => seen.usage.share(),
+            None => None,
+        }
     }
 
     /// What became of the packets of a source. `None` where there is no such source.

@@ -1,10 +1,12 @@
 //! Parts of a whole.
 
-ghost use Rattle.std.specs.Prelude.{◌≤◌};
+ghost use Rattle.std.specs.Prelude.{◌≡◌, ◌≤◌};
+ghost use Rattle.nm_measure.specs.Busy.{thousandths_of};
 
 /// A part of a whole in thousandths, rounded down: 0 where there is no whole, 1,000 at most.
 pub fn thousandths(part: u64, whole: u64) -> u64
-    ensures { result ≤ 1000 }
+    ensures value { result ≡ thousandths_of part whole }
+    ensures most { result ≤ 1000 }
 {
     if whole == 0 {
         return 0;

@@ -1,9 +1,10 @@
 //! How interfaces transmit.
 
-ghost use Rattle.std.specs.Prelude.{◌≡◌, ◌≤◌, ◌+◌, min, IfSome};
+ghost use Rattle.std.specs.Prelude.{◌≡◌, ◌≤◌, ◌+◌, min, IfSome, None};
 ghost use Rattle.nm_base.specs.Count.{saturated};
 ghost use Rattle.nm_base.specs.declared.limits.TheConstants.{MAX_PACKET_OCTETS, MAX_RATE};
 ghost use Rattle.nm_iface.specs.Transmission.{transmission_time as time_of};
+ghost use Rattle.nm_measure.specs.Usage.{part_from, share_at, span_after};
 
 use crate::share::thousandths;
 use nm_base::Time;
@@ -11,7 +12,7 @@ use nm_iface::transmission_time;
 
 /// How an interface transmits.
 #[derive(Drop)]
-pub(crate) struct Usage {
+pub struct Usage {
     /// Bits per second.
     rate: u64,
     /// The octets of the last packet.
@@ -37,6 +38,7 @@ impl Usage {
         requires greatest { rate ≤ MAX_RATE }
         ensures rate { result.rate ≡ rate }
         ensures busy { result.busy ≡ 0 }
+        ensures starts { result.starts ≡ None }
     {
         Usage {
             rate,
@@ -57,7 +59,7 @@ impl Usage {
 
     /// For how many nanoseconds before this time it transmitted. No transmission started later.
     pub(crate) fn busy_before(&self, time: Time) -> u64
-        ensures { result ≤ self.now.busy }
+        ensures { result ≡ part_from self.now.starts self.now.busy self.now.last_busy time }
     {
         let Some((_, last)) = self.starts else {
             return self.busy;
@@ -70,7 +72,8 @@ impl Usage {
     /// The share of the time from the start of its first packet to that of its last in which it
     /// transmitted, in thousandths, rounded down. `None` where there are fewer than two.
     pub(crate) fn share(&self) -> Option<u64>
-        ensures { IfSome result (λ share. share ≤ 1000) }
+        ensures value { result ≡ share_at self.now.starts self.now.busy self.now.last_busy }
+        ensures most { IfSome result (λ share. share ≤ 1000) }
     {
         let (first, last) = self.starts?;
         let time = last.nanoseconds().saturating_sub(first.nanoseconds());
@@ -86,6 +89,7 @@ impl Usage {
         ensures time { result ≡ time_of self.old.rate octets }
         ensures rate { self.new.rate ≡ self.old.rate }
         ensures busy { self.new.busy ≡ self.old.busy }
+        ensures starts { self.new.starts ≡ self.old.starts }
     {
         if octets != self.octets {
             self.time = transmission_time(self.rate, octets);
@@ -97,9 +101,11 @@ impl Usage {
     /// The transmission of a packet of so many octets starts, so many nanoseconds before `stop`.
     pub(crate) fn start(&mut self, octets: usize, now: Time, left: u64)
         requires { octets ≤ MAX_PACKET_OCTETS }
+        ensures rate { self.new.rate ≡ self.old.rate }
         ensures busy { self.new.busy
             ≡ saturated (self.old.busy + min (time_of self.old.rate octets) left) }
-        ensures rate { self.new.rate ≡ self.old.rate }
+        ensures last { self.new.last_busy ≡ min (time_of self.old.rate octets) left }
+        ensures starts { self.new.starts ≡ span_after self.old.starts now }
     {
         let busy = self.time_of(octets).min(left);
         self.starts = match self.starts {

@@ -1,30 +1,25 @@
-//! What is seen of a run, event by event.
+//! What becomes of the packets of sources, as it is seen event by event.
 
-use crate::amounts::{Amount, NONE};
 use crate::courses::{Course, Courses, End, EndPlace, Ended, Hop, Reason};
 use crate::fates::{Fate, Tallies, Told};
 use crate::flow_counts::{FlowCounts, PacketOutcome};
 use crate::flow_times::FlowTimes;
 use crate::flows::{Arrival, Flows};
 use crate::guesses::Guesses;
+use crate::interfaces::{Happened, start_in};
 use crate::lane::Lane;
 use crate::tag::Tag;
-use crate::usage::Usage;
 use nm_base::{Dir, IfaceNo, NodeNo, Place, Record, SourceNo, Time};
 use nm_events::HeapList;
 use nm_packet::limits::HEADERS;
 use nm_sim::Part;
 use nm_topology::Topology;
-use nm_topology::topology::accepted_topologies_are_in_order;
 use nm_topology::traffic::Traffic;
 use std::alloc::{AllocError, Global};
 
-/// What is seen of a run: what becomes of packets, the longest queues, and how long interfaces
-/// transmit.
+/// What is seen of the packets of sources.
 #[derive(Drop)]
 pub(crate) struct Watched {
-    /// The interfaces of each node.
-    ifaces: Vec<Vec<IfaceNo>>,
     tallies: Tallies,
     flows: Flows,
     /// The direction of each interface that sends.
@@ -43,47 +38,13 @@ struct Offer {
     now: Time,
 }
 
-/// What an interface did with a packet that it did not transmit at once.
-#[derive(Clone, Copy)]
-enum Unstarted {
-    Waits,
-    Dropped,
-}
-
-/// The interfaces of each node.
-fn ifaces_of(alloc: Global, topology: &Topology) -> Result<Vec<Vec<IfaceNo>>, AllocError> {
-    let mut all = Vec::new(alloc);
-    for _ in 0..topology.nodes().len() {
-        all.push(Vec::new(alloc))?;
-    }
-    let mut number = 0u32;
-    for iface in topology.ifaces() {
-        if let Some(own) = all.get_mut(iface.node().index()) {
-            own.push(IfaceNo::new(number))?;
-        }
-        number = number.saturating_add(1);
-    }
-    Ok(all)
-}
-
 /// The direction of each interface, without packets.
 fn lanes_of(alloc: Global, topology: &Topology) -> Result<Vec<Lane>, AllocError> {
-    accepted_topologies_are_in_order(topology); // law: rates are within their limits
     let mut all = Vec::new(alloc);
-    for number in 0..topology.ifaces().len() {
-        let far = topology.iface(topology.iface_number(number)).far();
-        all.push(Lane::new(alloc, far.rate))?;
+    for _ in 0..topology.ifaces().len() {
+        all.push(Lane::new(alloc))?;
     }
     Ok(all)
-}
-
-/// The record of the transmission that the last event started, if it did. It is the event's last.
-fn start_in(part: &Part<HeapList>) -> Option<&Record> {
-    let record = part.trace().last()?;
-    match record.dir {
-        Dir::In => None,
-        Dir::Out => Some(record),
-    }
 }
 
 /// The octets of the packet that arrived in the last event. Its record is the event's first.
@@ -135,14 +96,6 @@ fn hop_of(record: &Record) -> Hop {
     }
 }
 
-/// How many nanoseconds before `stop` a transmission starts.
-fn time_left(topology: &Topology, record: &Record) -> u64 {
-    topology
-        .stop()
-        .nanoseconds()
-        .saturating_sub(record.time.nanoseconds())
-}
-
 /// The outcome that a fate is, if it is the end of a way.
 fn outcome_of(fate: Fate) -> Option<PacketOutcome> {
     match fate {
@@ -165,7 +118,6 @@ impl Watched {
             None => None,
         };
         Ok(Watched {
-            ifaces: ifaces_of(alloc, topology)?,
             tallies: Tallies::new(alloc, topology.nodes().len())?,
             flows: Flows::new(alloc, topology)?,
             lanes: lanes_of(alloc, topology)?,
@@ -174,43 +126,25 @@ impl Watched {
         })
     }
 
-    /// The most packets that waited at an interface at one time.
-    pub(crate) fn longest_queue(&self, iface: IfaceNo) -> u64 {
+    /// The most octets that waited at an interface at one time since that was begun.
+    pub(crate) fn recent_octets(&self, iface: IfaceNo) -> u64 {
         match self.lanes.get(iface.index()) {
-            Some(lane) => lane.longest_queue() as u64,
+            Some(lane) => lane.recent_octets(),
             None => 0,
         }
     }
 
-    /// The most packets that waited at an interface at one time since this was asked last, and the
-    /// most octets.
-    pub(crate) fn take_recent_queue(&mut self, iface: IfaceNo) -> Amount {
-        match self.lanes.get_mut(iface.index()) {
-            Some(lane) => lane.take_recent_queue(),
-            None => NONE,
+    /// From now on the most octets that wait at one time are looked for anew.
+    pub(crate) fn begin_recent(&mut self) {
+        for lane in &mut self.lanes {
+            lane.begin_recent();
         }
     }
 
-    /// For how many nanoseconds packets waited at an interface up to this time, all together.
-    pub(crate) fn waited(&self, iface: IfaceNo, now: Time) -> u128 {
-        match self.lanes.get(iface.index()) {
-            Some(lane) => lane.waited(now),
-            None => 0,
-        }
-    }
-
-    /// The same of their octets.
+    /// For how many nanoseconds octets waited at an interface up to this time, all together.
     pub(crate) fn octets_waited(&self, iface: IfaceNo, now: Time) -> u128 {
         match self.lanes.get(iface.index()) {
             Some(lane) => lane.octets_waited(now),
-            None => 0,
-        }
-    }
-
-    /// For how many nanoseconds before this time an interface transmitted.
-    pub(crate) fn busy_before(&self, iface: IfaceNo, now: Time) -> u64 {
-        match self.lanes.get(iface.index()) {
-            Some(lane) => lane.usage().busy_before(now),
             None => 0,
         }
     }
@@ -252,12 +186,6 @@ impl Watched {
         }
     }
 
-    /// How an interface transmits.
-    pub(crate) fn usage(&self, iface: IfaceNo) -> Option<&Usage> {
-        let lane = self.lanes.get(iface.index())?;
-        Some(lane.usage())
-    }
-
     /// What became of the packets of a source.
     pub(crate) fn flow(&self, source: SourceNo) -> Option<FlowCounts> {
         self.flows.counts(source)
@@ -268,8 +196,38 @@ impl Watched {
         self.flows.times(source)
     }
 
-    /// Sees the event of this time and place, which was just done. Of records the part has only the
-    /// event's.
+    /// Where the packet of the event that is next goes, if its node offers it to an interface where
+    /// it does not start: a guess.
+    pub(crate) fn guess(&self, topology: &Topology, place: &Place) -> IfaceNo {
+        match place {
+            Place::Complete(iface) => *iface,
+            Place::Arrive(iface) => self.guess_at(topology, *iface),
+            Place::Fire(source) => match topology.sources().get(source.index()) {
+                Some(from) => self.guesses.guess(
+                    from.node,
+                    &Tag::of_source(*source, 0, Time::from_nanoseconds(0)),
+                ),
+                None => IfaceNo::new(0),
+            },
+        }
+    }
+
+    /// The same of a packet that arrives at this interface.
+    fn guess_at(&self, topology: &Topology, number: IfaceNo) -> IfaceNo {
+        let Some(iface) = topology.ifaces().get(number.index()) else {
+            return number;
+        };
+        let Some(lane) = self.lanes.get(iface.far().iface.index()) else {
+            return number;
+        };
+        match lane.front() {
+            Some(tag) => self.guesses.guess(iface.node(), tag),
+            None => number,
+        }
+    }
+
+    /// Sees the event of this time and place, which was just done, and what happened with it at an
+    /// interface. Of records the part has only the event's.
     ///
     /// # Errors
     ///
@@ -280,33 +238,28 @@ impl Watched {
         part: &Part<HeapList>,
         now: Time,
         place: &Place,
+        happened: Happened,
     ) -> Result<(), AllocError> {
         match place {
-            Place::Complete(_) => self.see_completion(topology, part),
-            Place::Arrive(iface) => self.see_arrival(topology, part, *iface, now),
-            Place::Fire(source) => self.see_source(topology, part, *source, now),
+            Place::Complete(_) => self.see_completion(part),
+            Place::Arrive(iface) => self.see_arrival(topology, part, *iface, now, happened),
+            Place::Fire(source) => self.see_source(topology, part, *source, now, happened),
         }
     }
 
     /// Sees an interface complete a transmission. What waited longest there starts.
-    fn see_completion(
-        &mut self,
-        topology: &Topology,
-        part: &Part<HeapList>,
-    ) -> Result<(), AllocError> {
+    fn see_completion(&mut self, part: &Part<HeapList>) -> Result<(), AllocError> {
         let Some(record) = start_in(part) else {
             return Ok(());
         };
         let Some(lane) = self.lanes.get_mut(record.iface.index()) else {
             return Ok(());
         };
-        let octets = record.packet.octet_count();
-        let left = time_left(topology, record);
         let passed = match (&mut self.courses, lane.first_waiting()) {
             (Some(courses), Some(tag)) => courses.pass(tag, hop_of(record)),
             _ => Ok(()),
         };
-        lane.send_next(octets, record.time, left);
+        lane.send_next(record.packet.octet_count(), record.time);
         passed
     }
 
@@ -317,6 +270,7 @@ impl Watched {
         part: &Part<HeapList>,
         number: IfaceNo,
         now: Time,
+        happened: Happened,
     ) -> Result<(), AllocError> {
         let Some(iface) = topology.ifaces().get(number.index()) else {
             return Ok(());
@@ -340,7 +294,7 @@ impl Watched {
                 octets,
                 now,
             };
-            return self.see_offer(topology, part, offer);
+            return self.see_offer(part, offer, happened);
         }
         self.see_end(&tag, told, Arrival { node, octets, now })?;
         let offer = match told.fate {
@@ -357,7 +311,7 @@ impl Watched {
                 now,
             },
         };
-        self.see_answer(topology, part, offer)
+        self.see_answer(part, offer, happened)
     }
 
     /// The packet that is longest on the link from an interface leaves it.
@@ -393,12 +347,12 @@ impl Watched {
     /// Sees what a node answers to a packet that came to its end there, if it does.
     fn see_answer(
         &mut self,
-        topology: &Topology,
         part: &Part<HeapList>,
         answer: Offer,
+        happened: Happened,
     ) -> Result<(), AllocError> {
         if self.tallies.has_originated(part, answer.node) {
-            self.see_offer(topology, part, answer)
+            self.see_offer(part, answer, happened)
         } else {
             Ok(())
         }
@@ -412,6 +366,7 @@ impl Watched {
         part: &Part<HeapList>,
         source: SourceNo,
         now: Time,
+        happened: Happened,
     ) -> Result<(), AllocError> {
         let Some(from) = topology.sources().get(source.index()) else {
             return Ok(());
@@ -428,7 +383,7 @@ impl Watched {
                 tag,
                 now,
             };
-            return self.see_offer(topology, part, offer);
+            return self.see_offer(part, offer, happened);
         }
         self.flows.end(&tag, PacketOutcome::Discarded);
         let end = End {
@@ -443,40 +398,42 @@ impl Watched {
     /// Sees a packet offered to an interface of a node: it starts, waits, or is dropped.
     fn see_offer(
         &mut self,
-        topology: &Topology,
         part: &Part<HeapList>,
         offer: Offer,
+        happened: Happened,
     ) -> Result<(), AllocError> {
-        let Some(record) = start_in(part) else {
-            return self.see_no_start(part, offer);
-        };
-        self.pass(&offer.tag, hop_of(record))?;
-        match self.lanes.get_mut(record.iface.index()) {
-            Some(lane) => {
-                let octets = record.packet.octet_count();
-                lane.send(offer.tag, octets, record.time, time_left(topology, record))
+        match happened {
+            Happened::Started(iface) => self.see_start(part, offer, iface),
+            Happened::Waits(iface) => {
+                self.guesses.note(offer.node, &offer.tag, iface);
+                match self.lanes.get_mut(iface.index()) {
+                    Some(lane) => lane.wait(offer.tag, offer.octets, offer.now),
+                    None => Ok(()),
+                }
             }
-            None => Ok(()),
+            Happened::Dropped(iface) => {
+                self.guesses.note(offer.node, &offer.tag, iface);
+                self.see_drop(&offer.tag, EndPlace::Iface(iface), offer.now)
+            }
+            Happened::Nothing => {
+                self.see_drop(&offer.tag, EndPlace::Node(offer.node), offer.now)
+            }
         }
     }
 
-    /// Sees a packet offered to an interface of a node whose transmission does not start: it waits,
-    /// or is dropped.
-    fn see_no_start(&mut self, part: &Part<HeapList>, offer: Offer) -> Result<(), AllocError> {
-        let guess = self.guesses.guess(offer.node, &offer.tag);
-        let Some((iface, offered)) = self.offer_at(part, offer.node, guess) else {
-            return self.see_drop(&offer.tag, EndPlace::Node(offer.node), offer.now);
-        };
-        self.guesses.note(offer.node, &offer.tag, iface);
-        let Some(lane) = self.lanes.get_mut(iface.index()) else {
-            return Ok(());
-        };
-        match offered {
-            Unstarted::Waits => lane.wait(offer.tag, offer.octets, offer.now),
-            Unstarted::Dropped => {
-                lane.drop_one();
-                self.see_drop(&offer.tag, EndPlace::Iface(iface), offer.now)
-            }
+    /// Sees a packet start that was offered to this interface.
+    fn see_start(
+        &mut self,
+        part: &Part<HeapList>,
+        offer: Offer,
+        iface: IfaceNo,
+    ) -> Result<(), AllocError> {
+        if let Some(record) = start_in(part) {
+            self.pass(&offer.tag, hop_of(record))?;
+        }
+        match self.lanes.get_mut(iface.index()) {
+            Some(lane) => lane.send(offer.tag),
+            None => Ok(()),
         }
     }
 
@@ -490,37 +447,5 @@ impl Watched {
             time: now,
         };
         self.end(tag, end)
-    }
-
-    /// What an interface did with the packet of the last event, if it was offered to this one and
-    /// did not start: one more waits than before, or one more was dropped.
-    fn change_at(&self, part: &Part<HeapList>, iface: IfaceNo) -> Option<Unstarted> {
-        let lane = self.lanes.get(iface.index())?;
-        if part.waiting(iface)? > lane.waiting() {
-            return Some(Unstarted::Waits);
-        }
-        if part.dropped(iface)? > lane.dropped() {
-            return Some(Unstarted::Dropped);
-        }
-        None
-    }
-
-    /// The interface of a node to which the packet of the last event was offered, which did not
-    /// start, and what it did with it. The guess is looked at first.
-    fn offer_at(
-        &self,
-        part: &Part<HeapList>,
-        node: NodeNo,
-        guess: IfaceNo,
-    ) -> Option<(IfaceNo, Unstarted)> {
-        if let Some(offered) = self.change_at(part, guess) {
-            return Some((guess, offered));
-        }
-        for iface in self.ifaces.get(node.index())? {
-            if let Some(offered) = self.change_at(part, *iface) {
-                return Some((*iface, offered));
-            }
-        }
-        None
     }
 }

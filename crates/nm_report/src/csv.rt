@@ -1,7 +1,11 @@
 //! The measures of a run as comma-separated values for a program (RFC 4180).
 
-ghost use Rattle.std.specs.Prelude.{IfOk, OnOk};
+ghost use Rattle.std.specs.Prelude.{◌≡◌, ℕ, ◌<◌, ◌++◌, IfOk, OnOk, codes, length};
+ghost use Rattle.nm_topology.specs.TopologyValue.{TopologyValue};
 ghost use Rattle.nm_measure.specs.Lines.{EndsLine};
+ghost use Rattle.nm_measure.specs.Measured.{IsMeasuredBefore};
+ghost use Rattle.nm_report.specs.Values.{AreWholeLines, HaveValues, all_values, iface_line};
+ghost use Rattle.nm_report.specs.Values.{iface_values, traffic_lines, use_lines};
 
 use crate::iface_table::traffic_at;
 use crate::source_rows::push_source_rows;
@@ -15,12 +19,11 @@ use nm_topology::Topology;
 use nm_topology::traffic::{Source, Traffic};
 use std::alloc::Global;
 
-/// What has a value. The names of nodes and of interfaces need no quotes, and that of a source is
+/// A node or a source that has values. The names of nodes need no quotes, and that of a source is
 /// its number.
 #[derive(Clone, Copy)]
 enum Owner<'a> {
     Node(&'a str),
-    Iface(&'a str),
     Source(SourceNo),
 }
 
@@ -31,10 +34,6 @@ fn push_owner(text: &mut Vec<u8>, owner: &Owner<'_>) -> Appended {
             push_text(text, b"node,")?;
             push_text(text, name.as_bytes())
         }
-        Owner::Iface(name) => {
-            push_text(text, b"interface,")?;
-            push_text(text, name.as_bytes())
-        }
         Owner::Source(source) => {
             push_text(text, b"source,")?;
             push_number(text, source.index() as u64)
@@ -42,10 +41,10 @@ fn push_owner(text: &mut Vec<u8>, owner: &Owner<'_>) -> Appended {
     }
 }
 
-/// Appends values of a node, an interface or a source, each with which measure it is.
+/// Appends values of a node or a source, each with which measure it is.
 fn push_values(text: &mut Vec<u8>, owner: &Owner<'_>, values: &[(&str, u64)]) -> Appended
-    requires { EndsLine text.old.items }
-    ensures { OnOk result (EndsLine text.new.items) }
+    requires { AreWholeLines text.old.items }
+    ensures { OnOk result (AreWholeLines text.new.items) }
 {
     for (measure, value) in values {
         push_owner(text, owner)?;
@@ -60,8 +59,8 @@ fn push_values(text: &mut Vec<u8>, owner: &Owner<'_>, values: &[(&str, u64)]) ->
 
 /// The counters of a node, also those that are 0.
 fn push_node(text: &mut Vec<u8>, measured: &Measured, name: &str, node: NodeNo) -> Appended
-    requires { EndsLine text.old.items }
-    ensures { OnOk result (EndsLine text.new.items) }
+    requires { AreWholeLines text.old.items }
+    ensures { OnOk result (AreWholeLines text.new.items) }
 {
     for counter in Counter::ALL {
         let count = measured.counter(node, counter).unwrap_or(0);
@@ -70,31 +69,10 @@ fn push_node(text: &mut Vec<u8>, measured: &Measured, name: &str, node: NodeNo) 
     Ok(())
 }
 
-/// The values of an interface.
-fn push_iface(text: &mut Vec<u8>, measured: &Measured, name: &str, iface: IfaceNo) -> Appended
-    requires { EndsLine text.old.items }
-    ensures { OnOk result (EndsLine text.new.items) }
-{
-    let IfaceTraffic { came, went } = traffic_at(measured, iface);
-    push_values(
-        text,
-        &Owner::Iface(name),
-        &[
-            ("packets_in", came.packets),
-            ("octets_in", came.octets),
-            ("packets_out", went.packets),
-            ("octets_out", went.octets),
-            ("dropped", measured.dropped(iface).unwrap_or(0)),
-            ("longest_queue", measured.longest_queue(iface)),
-            ("busy_nanoseconds", measured.busy(iface)),
-        ],
-    )
-}
-
 /// The values that each source has.
 fn push_flow(text: &mut Vec<u8>, source: SourceNo, flow: &FlowCounts, times: &FlowTimes) -> Appended
-    requires { EndsLine text.old.items }
-    ensures { OnOk result (EndsLine text.new.items) }
+    requires { AreWholeLines text.old.items }
+    ensures { OnOk result (AreWholeLines text.new.items) }
 {
     push_values(
         text,
@@ -115,8 +93,8 @@ fn push_flow(text: &mut Vec<u8>, source: SourceNo, flow: &FlowCounts, times: &Fl
 
 /// The values of a source to whose packets there may be echo replies.
 fn push_replies(text: &mut Vec<u8>, source: SourceNo, astray: u64, trips: &Delays) -> Appended
-    requires { EndsLine text.old.items }
-    ensures { OnOk result (EndsLine text.new.items) }
+    requires { AreWholeLines text.old.items }
+    ensures { OnOk result (AreWholeLines text.new.items) }
 {
     push_values(
         text,
@@ -138,8 +116,8 @@ fn push_source(
     source: &Source,
     number: SourceNo,
 ) -> Appended
-    requires { EndsLine text.old.items }
-    ensures { OnOk result (EndsLine text.new.items) }
+    requires { AreWholeLines text.old.items }
+    ensures { OnOk result (AreWholeLines text.new.items) }
 {
     let flow = flow_of(measured, number);
     let Some(times) = measured.times(number) else {
@@ -154,21 +132,104 @@ fn push_source(
     }
 }
 
-/// The values of nodes, of interfaces and of sources.
-fn push_all(text: &mut Vec<u8>, topology: &Topology, measured: &Measured) -> Appended
-    requires { EndsLine text.old.items }
-    ensures { OnOk result (EndsLine text.new.items) }
+/// Appends a line feed behind a value.
+fn end_value(text: &mut Vec<u8>) -> Appended
+    ensures { OnOk result (text.new.items ≡ text.old.items ++ codes "\n") }
 {
+    push_text(text, b"\n")
+}
+
+/// Appends a value of an interface.
+fn push_value(text: &mut Vec<u8>, name: &str, measure: &[u8], value: u64) -> Appended
+    ensures { OnOk result (text.new.items
+        ≡ text.old.items ++ iface_line name.now measure.now value) }
+{
+    push_text(text, b"interface,")?;
+    push_text(text, name.as_bytes())?;
+    push_text(text, b",")?;
+    push_text(text, measure)?;
+    push_text(text, b",")?;
+    push_number(text, value)?;
+    end_value(text)
+}
+
+/// Appends how much came to an interface and went from it.
+fn push_traffic(text: &mut Vec<u8>, name: &str, traffic: &IfaceTraffic) -> Appended
+    ensures { OnOk result (text.new.items
+        ≡ text.old.items ++ traffic_lines name.now traffic.now) }
+{
+    push_value(text, name, b"packets_in", traffic.came.packets)?;
+    push_value(text, name, b"octets_in", traffic.came.octets)?;
+    push_value(text, name, b"packets_out", traffic.went.packets)?;
+    push_value(text, name, b"octets_out", traffic.went.octets)
+}
+
+/// Appends how many packets an interface dropped, how many waited there at most, and for how many
+/// nanoseconds it transmitted.
+fn push_use(text: &mut Vec<u8>, name: &str, dropped: u64, longest: u64, busy: u64) -> Appended
+    ensures { OnOk result (text.new.items
+        ≡ text.old.items ++ use_lines name.now dropped longest busy) }
+{
+    push_value(text, name, b"dropped", dropped)?;
+    push_value(text, name, b"longest_queue", longest)?;
+    push_value(text, name, b"busy_nanoseconds", busy)
+}
+
+/// Appends the values of an interface.
+fn push_iface(text: &mut Vec<u8>, measured: &Measured, name: &str, iface: IfaceNo) -> Appended
+    ensures { (t : TopologyValue) (until : ℕ) (m : IsMeasuredBefore t until measured.now)
+        → iface < length t.ifaces → OnOk result (text.new.items
+        ≡ text.old.items ++ iface_values t m.events iface name.now) }
+{
+    let traffic = traffic_at(measured, iface);
+    push_traffic(text, name, &traffic)?;
+    push_use(
+        text,
+        name,
+        measured.dropped(iface).unwrap_or(0),
+        measured.longest_queue(iface),
+        measured.busy(iface),
+    )
+}
+
+/// The values of all interfaces, in the order of the topology's text.
+fn ifaces_text(alloc: Global, topology: &Topology, measured: &Measured) -> MadeText
+    ensures { (until : ℕ) (m : IsMeasuredBefore topology.now until measured.now)
+        → IfOk result (λ text. text.items
+        ≡ all_values topology.now m.events 0 topology.now.ifaces) }
+{
+    let mut text = Vec::new(alloc);
+    for number in 0..topology.ifaces().len() {
+        let iface = topology.iface_number(number);
+        push_iface(&mut text, measured, topology.iface(iface).name(), iface)?;
+    }
+    Ok(text)
+}
+
+/// The names of the columns, and the values of nodes.
+fn nodes_text(alloc: Global, topology: &Topology, measured: &Measured) -> MadeText
+    ensures { IfOk result (λ text. AreWholeLines text.items) }
+{
+    let mut text = Vec::new(alloc);
+    push_text(&mut text, b"kind,name,measure,value")?;
+    end_line(&mut text)?;
     for (number, node) in (0..u32::MAX).zip(topology.nodes()) {
-        push_node(text, measured, node.name(), NodeNo::new(number))?;
+        push_node(&mut text, measured, node.name(), NodeNo::new(number))?;
     }
-    for (number, iface) in (0..u32::MAX).zip(topology.ifaces()) {
-        push_iface(text, measured, iface.name(), IfaceNo::new(number))?;
-    }
+    Ok(text)
+}
+
+/// The values of sources, and after an empty line a row for each source with all its measures.
+fn sources_text(alloc: Global, topology: &Topology, measured: &Measured) -> MadeText
+    ensures { IfOk result (λ text. EndsLine text.items) }
+{
+    let mut text = Vec::new(alloc);
     for (number, source) in (0..u32::MAX).zip(topology.sources()) {
-        push_source(text, measured, source, SourceNo::new(number))?;
+        push_source(&mut text, measured, source, SourceNo::new(number))?;
     }
-    Ok(())
+    end_line(&mut text)?;
+    push_source_rows(&mut text, topology, measured)?;
+    Ok(text)
 }
 
 /// A line for each value: what has it, its name, which measure it is, and the value. A source's
@@ -178,13 +239,14 @@ fn push_all(text: &mut Vec<u8>, topology: &Topology, measured: &Measured) -> App
 ///
 /// Where memory was refused.
 pub fn csv_text(alloc: Global, topology: &Topology, measured: &Measured) -> MadeText
-    ensures { IfOk result (λ text. EndsLine text.items) }
+    ensures lines { IfOk result (λ text. EndsLine text.items) }
+    ensures values { (until : ℕ) (m : IsMeasuredBefore topology.now until measured.now)
+        → IfOk result (λ text. HaveValues topology.now m.events text.items) }
 {
-    let mut text = Vec::new(alloc);
-    push_text(&mut text, b"kind,name,measure,value")?;
-    end_line(&mut text)?;
-    push_all(&mut text, topology, measured)?;
-    end_line(&mut text)?;
-    push_source_rows(&mut text, topology, measured)?;
+    let ifaces = ifaces_text(alloc, topology, measured)?;
+    let sources = sources_text(alloc, topology, measured)?;
+    let mut text = nodes_text(alloc, topology, measured)?;
+    push_text(&mut text, ifaces.as_slice())?;
+    push_text(&mut text, sources.as_slice())?;
     Ok(text)
 }

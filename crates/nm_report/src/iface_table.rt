@@ -1,5 +1,12 @@
 //! The table of interfaces.
 
+ghost use Rattle.std.specs.Prelude.{◌≡◌, ℕ, ◌<◌, length};
+ghost use Rattle.nm_model.specs.Run.{one_list};
+ghost use Rattle.nm_topology.specs.TopologyValue.{TopologyValue};
+ghost use Rattle.nm_sim.specs.Network.{net_of};
+ghost use Rattle.nm_measure.specs.Amounts.{iface_traffic_of};
+ghost use Rattle.nm_measure.specs.Measured.{IsMeasuredBefore};
+
 use crate::table::{Table, push_left_out};
 use crate::units::push_percentage;
 use nm_base::IfaceNo;
@@ -41,7 +48,11 @@ struct Rank {
 }
 
 /// What came to an interface and what it transmitted, which is nothing where it is not there.
-pub(crate) fn traffic_at(measured: &Measured, iface: IfaceNo) -> IfaceTraffic {
+pub(crate) fn traffic_at(measured: &Measured, iface: IfaceNo) -> IfaceTraffic
+    ensures { (t : TopologyValue) (until : ℕ) (m : IsMeasuredBefore t until measured.now)
+        → iface < length t.ifaces
+        → result ≡ iface_traffic_of iface (one_list (net_of t) m.events).records }
+{
     measured.traffic(iface).unwrap_or(NO_TRAFFIC)
 }
 

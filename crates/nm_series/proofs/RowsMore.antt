@@ -1,12 +1,16 @@
 -- One row more.
-use Rattle.std.proofs.Common.{◌≡◌, ℕ, zero, suc, ◌+◌, List, [], ◌∷◌, ◌++◌, length, Some, slice_get, get_or, ◌⊎◌, inl, inr, ◌<◌, refl, sym, ap, ◌∙◌, arith, append_assoc, append-nil, OnOk, Result, Ok, Err}
+use Rattle.std.proofs.Common.{◌≡◌, ℕ, zero, suc, ◌+◌, ◌-◌, subst, ⊎_elim, List, [], ◌∷◌, ◌++◌, length, Some, slice_get, get_or, ◌⊎◌, inl, inr, ◌<◌, refl, sym, ap, ◌∙◌, arith, append_assoc, append-nil, OnOk, Result, Ok, Err}
 use Rattle.nm_forward.specs.State.{NodeStateValue}
 use Rattle.nm_model.specs.Run.{State}
 use Rattle.nm_topology.specs.PartValues.{IfaceValue}
 use Rattle.nm_measure.specs.declared.totals.IfaceTotals.{IfaceTotals}
-use Rattle.std.proofs.lemmas.Option.{slice_get-get_or}
+use Rattle.std.proofs.lemmas.Option.{get_or_from_slice_get, slice_get-get_or, slice_get_cases, slice_get_within}
 use Rattle.nm_topology.specs.TopologyValue.{TopologyValue}
-use Rattle.nm_series.specs.Rows.{AreIfaceTotals, Had, had, iface_row, rows_of}
+use Rattle.nm_sim.specs.Network.{net_of}
+use Rattle.nm_measure.specs.Busy.{thousandths_of}
+use Rattle.nm_measure.specs.Measured.{HasRecent, MeasuredValue}
+use Rattle.nm_measure.specs.Queues.{longest_queue}
+use Rattle.nm_series.specs.Rows.{AreSeenBetween, AreTotals, Had, HadIfaces, IsSeenIn, had, iface_row, mean_between, rows_of}
 use Rattle.nm_series.specs.declared.iface_rows.IfaceSeen.{IfaceSeen}
 
 -- six texts, one behind another
@@ -60,7 +64,7 @@ pushed (y ∷ xs) v (suc i) x h = go (pushed xs v i x h)
     go (inr (e, g)) = inr (ap suc e, g)
 
 module _ (t : TopologyValue) (from n : ℕ) (old new : State (List ℕ) NodeStateValue) (before after : List IfaceTotals) where
-  had_is : (s : State (List ℕ) NodeStateValue) (all : List IfaceTotals) (d : IfaceTotals) → AreIfaceTotals t s all → n < length t.ifaces
+  had_is : (s : State (List ℕ) NodeStateValue) (all : List IfaceTotals) (d : IfaceTotals) → AreTotals t s all → n < length t.ifaces
       → (let x = get_or all n d in let y : Had = record { traffic = x.traffic; dropped = x.dropped } in y ≡ had n s)
   had_is s all d are low =
       let few : n < length all = let c = are.count in omega (arith, c, low) in
@@ -69,7 +73,7 @@ module _ (t : TopologyValue) (from n : ℕ) (old new : State (List ℕ) NodeStat
 
   -- the text with the row of interface n behind it
   pub row_next : (d e : IfaceTotals) (seen : List IfaceSeen) (x : IfaceSeen) (i : IfaceValue) (name initial mid next : List ℕ)
-      → AreIfaceTotals t old before → AreIfaceTotals t new after → n < length t.ifaces → length seen ≡ n → slice_get t.ifaces n ≡ Some i → name ≡ i.name
+      → AreTotals t old before → AreTotals t new after → n < length t.ifaces → length seen ≡ n → slice_get t.ifaces n ≡ Some i → name ≡ i.name
       → mid ≡ initial ++ rows_of from old new 0 t.ifaces seen
       → next ≡ mid ++ iface_row from name (record { traffic = (get_or before n d).traffic; dropped = (get_or before n d).dropped })
       (record { traffic = (get_or after n e).traffic; dropped = (get_or after n e).dropped }) x
@@ -84,3 +88,54 @@ module _ (t : TopologyValue) (from n : ℕ) (old new : State (List ℕ) NodeStat
       ∙ append_assoc initial rows (iface_row from i.name (had n old) (had n new) x)
       ∙ ap (λ m. initial ++ (rows ++ iface_row from i.name (had m old) (had m new) x)) (sym z)
       ∙ ap (λ l. initial ++ l) (sym (rows_more from old new 0 n t.ifaces seen i x count at))
+
+module _ (m : MeasuredValue) (before after : List IfaceTotals) (time : ℕ) where
+  -- nothing was seen yet
+  pub none_between : AreSeenBetween m before after time []
+  none_between = record { longest = λ t first i x recent there at. absurd cc; over_time = λ i x b a at was is. absurd cc }
+
+  -- one interface more
+  pub one_between : (seen : List IfaceSeen) (x : IfaceSeen) (n k : ℕ) (d e : IfaceTotals) → length seen ≡ n → k ≡ n
+      → ((t : TopologyValue) (first : ℕ) → HasRecent t first m → k < length t.ifaces → x.longest ≡ longest_queue (net_of t) k first m.part.steps)
+      → x.mean ≡ mean_between (get_or before n d).waited (get_or after n e).waited time
+      → x.busy ≡ thousandths_of ((get_or after n e).busy - (get_or before n d).busy) time
+      → AreSeenBetween m before after time seen → AreSeenBetween m before after time (seen ++ x ∷ [])
+  one_between seen x n k d e count same longest mean busy h = record {
+    longest = λ t first i y recent there at. ⊎_elim
+        (λ old. h.longest t first i y recent there old)
+        (λ new.
+        let is : k ≡ i = same ∙ sym count ∙ sym new.0 in
+        ap (λ (z : IfaceSeen). z.longest) new.1 ∙ subst (λ j. j < length t.ifaces → x.longest ≡ longest_queue (net_of t) j first m.part.steps) is (longest t first recent) there)
+        (pushed seen x i y at);
+    over_time = λ i y b a at was is. ⊎_elim
+        (λ old. h.over_time i y b a old was is)
+        (λ new.
+        let here : n ≡ i = sym count ∙ sym new.0 in
+        let b_is : get_or before n d ≡ b = get_or_from_slice_get before n b d (ap (slice_get before) here ∙ was) in
+        let a_is : get_or after n e ≡ a = get_or_from_slice_get after n a e (ap (slice_get after) here ∙ is) in (
+          ap (λ (z : IfaceSeen). z.mean) new.1 ∙ mean ∙ (λ j. mean_between (b_is j).waited (a_is j).waited time),
+          ap (λ (z : IfaceSeen). z.busy) new.1 ∙ busy ∙ (λ j. thousandths_of ((a_is j).busy - (b_is j).busy) time),
+        ))
+        (pushed seen x i y at);
+  }
+
+-- what was seen in a step is that of the one event list
+pub seen_in : (t : TopologyValue) (from until : ℕ) (m : MeasuredValue) (before after : List IfaceTotals) (seen : List IfaceSeen) (was : HadIfaces t from before) (is : HadIfaces t until after)
+    → (first : ℕ) → first ≡ was.events → HasRecent t first m → m.part.steps ≡ is.events → length seen ≡ length t.ifaces → AreSeenBetween m before after (until - from) seen
+    → (i : ℕ) (x : IfaceSeen) → slice_get seen i ≡ Some x → IsSeenIn t from until was.events is.events i x
+seen_in t from until m before after seen was is first same recent steps count h i x at =
+    let w = slice_get_within seen i x at in
+    let low : i < length t.ifaces = omega (arith, w, count) in
+    let b = member before (let c = was.totals.count in omega (arith, c, low)) in
+    let a = member after (let c = is.totals.count in omega (arith, c, low)) in
+    let z = h.over_time i x b.0 a.0 at b.1 a.1 in
+    let bz = was.over_time i b.0 b.1 in
+    let az = is.over_time i a.0 a.1 in
+    record {
+      longest = h.longest t first i x recent low at ∙ (λ j. longest_queue (net_of t) i (same j) (steps j));
+      mean = z.0 ∙ (λ j. mean_between (bz.0 j) (az.0 j) (until - from));
+      busy = z.1 ∙ (λ j. thousandths_of (az.1 j - bz.1 j) (until - from));
+    }
+  where
+    member : (l : List IfaceTotals) → i < length l → (y : IfaceTotals) × (slice_get l i ≡ Some y)
+    member l low = ⊎_elim (λ g. (g.0, g.2)) (λ g. absurd (omega (arith, low, g.0))) ((slice_get_cases l i).1)

@@ -1,5 +1,6 @@
 -- The rows of interfaces in a step.
-use Rattle.std.specs.Prelude.{◌≡◌, ℕ, suc, ◌-◌, List, [], ◌∷◌, ◌++◌, length, slice_get, Some, codes, decimal}
+use Rattle.std.specs.Prelude.{◌≡◌, ℕ, zero, suc, ◌-◌, ◌*◌, ◌/◌, ◌^◌, ◌<◌, min, List, [], ◌∷◌, ◌++◌, length, slice_get, Some, codes, decimal}
+use Rattle.nm_base.specs.Count.{saturated}
 use Rattle.nm_forward.specs.State.{NodeStateValue}
 use Rattle.nm_model.specs.Before.{IsBefore}
 use Rattle.nm_model.specs.Run.{State, one_list}
@@ -7,6 +8,9 @@ use Rattle.nm_topology.specs.PartValues.{IfaceValue}
 use Rattle.nm_topology.specs.TopologyValue.{TopologyValue}
 use Rattle.nm_sim.specs.Network.{net_of}
 use Rattle.nm_measure.specs.Amounts.{iface_traffic_of, drops_of}
+use Rattle.nm_measure.specs.Busy.{busy_before, thousandths_of}
+use Rattle.nm_measure.specs.Measured.{HasRecent, MeasuredValue}
+use Rattle.nm_measure.specs.Queues.{longest_queue, waited_before}
 use Rattle.nm_measure.specs.declared.amounts.IfaceTraffic.{IfaceTraffic}
 use Rattle.nm_measure.specs.declared.totals.IfaceTotals.{IfaceTotals}
 use Rattle.nm_series.specs.declared.iface_rows.IfaceSeen.{IfaceSeen}
@@ -21,18 +25,63 @@ abbrev pub had : ℕ → State (List ℕ) NodeStateValue → Had
 had i s = record { traffic = iface_traffic_of i s.records; dropped = drops_of i s }
 
 -- each interface's, by number
-pub record AreIfaceTotals (t : TopologyValue) (s : State (List ℕ) NodeStateValue)
+pub record AreTotals (t : TopologyValue) (s : State (List ℕ) NodeStateValue)
     (all : List IfaceTotals) : Type 0 where
   pub count : length all ≡ length t.ifaces
   pub each : (i : ℕ) (x : IfaceTotals) → slice_get all i ≡ Some x
       → (x.traffic ≡ (had i s).traffic) × (x.dropped ≡ (had i s).dropped)
+
+-- for how many nanoseconds packets waited at interface i before a time, before which so many events
+-- are, all together; it stops at the greatest of its type
+abbrev pub waited_by : TopologyValue → (i time events : ℕ) → ℕ
+waited_by t i time events = min (waited_before (net_of t) i time events) (2 ^ 128 - 1)
+
+-- and for how many it transmitted
+abbrev pub busy_by : TopologyValue → (i time events : ℕ) → ℕ
+busy_by t i time events = busy_before (net_of t) i time (one_list (net_of t) events).records
 
 -- each interface's before a time of the run: in the one event list after all events that are before
 -- it
 pub record HadIfaces (t : TopologyValue) (time : ℕ) (all : List IfaceTotals) : Type 0 where
   pub events : ℕ
   pub over : IsBefore (net_of t) time events
-  pub totals : AreIfaceTotals t (one_list (net_of t) events) all
+  pub totals : AreTotals t (one_list (net_of t) events) all
+  pub over_time : (i : ℕ) (x : IfaceTotals) → slice_get all i ≡ Some x
+      → (x.waited ≡ waited_by t i time events) × (x.busy ≡ busy_by t i time events)
+
+-- how many waited in the mean in so many nanoseconds, rounded down, where all waited for so many
+-- together; 0 in no time
+abbrev pub mean_in : (waited time : ℕ) → ℕ
+mean_in waited zero = 0
+mean_in waited (suc n) = waited / suc n
+
+-- in thousandths, where they waited for so many before and after; both products and quotients stop
+-- at the greatest of their types
+abbrev pub mean_between : (before after time : ℕ) → ℕ
+mean_between before after time =
+    saturated (mean_in (min ((after - before) * 1000) (2 ^ 128 - 1)) time)
+
+-- What was seen of interface i in a step from a time to a time, before which so many events are:
+-- the most packets that waited at one time, how many waited in the mean over time, and the share of
+-- the time in which it transmitted, both in thousandths, rounded down.
+pub record IsSeenIn (t : TopologyValue) (from until before after i : ℕ) (x : IfaceSeen)
+    : Type 0 where
+  pub longest : x.longest ≡ longest_queue (net_of t) i before after
+  pub mean : x.mean
+      ≡ mean_between (waited_by t i from before) (waited_by t i until after) (until - from)
+  pub busy : x.busy
+      ≡ thousandths_of (busy_by t i until after - busy_by t i from before) (until - from)
+
+-- the same, by what the interfaces had before and after
+pub record AreSeenBetween (m : MeasuredValue) (before after : List IfaceTotals) (time : ℕ)
+    (seen : List IfaceSeen) : Type 0 where
+  pub longest : (t : TopologyValue) (first i : ℕ) (x : IfaceSeen) → HasRecent t first m
+      → i < length t.ifaces → slice_get seen i ≡ Some x
+      → x.longest ≡ longest_queue (net_of t) i first m.part.steps
+  pub over_time : (i : ℕ) (x : IfaceSeen) (b a : IfaceTotals) → slice_get seen i ≡ Some x
+      → slice_get before i ≡ Some b → slice_get after i ≡ Some a
+      → (x.mean ≡ mean_between b.waited a.waited time)
+      × (x.busy ≡ thousandths_of (a.busy - b.busy) time)
 
 -- a value behind others
 abbrev pub cell : ℕ → List ℕ
@@ -67,7 +116,7 @@ rows_of from old new n (i ∷ ifaces) (x ∷ seen) =
     iface_row from i.name (had n old) (had n new) x ++ rows_of from old new (suc n) ifaces seen
 
 -- the rows of a step: what each interface had more in the one event list before its end than before
--- its begin
+-- its begin, and what was seen of it between
 pub record IsIfaceStep (t : TopologyValue) (from until : ℕ) (text : List ℕ) : Type 0 where
   pub before : ℕ
   pub after : ℕ
@@ -75,5 +124,7 @@ pub record IsIfaceStep (t : TopologyValue) (from until : ℕ) (text : List ℕ) 
   pub ends : IsBefore (net_of t) until after
   pub seen : List IfaceSeen
   pub all : length seen ≡ length t.ifaces
+  pub each : (i : ℕ) (x : IfaceSeen) → slice_get seen i ≡ Some x
+      → IsSeenIn t from until before after i x
   pub rows : text ≡ rows_of from (one_list (net_of t) before)
       (one_list (net_of t) after) 0 t.ifaces seen

@@ -1,15 +1,24 @@
 //! The rows of interfaces in a step.
 
-ghost use Rattle.std.specs.Prelude.{◌≡◌, ℕ, ◌++◌, List, OnOk, length};
+ghost use Rattle.std.specs.Prelude.{◌≡◌, ℕ, ◌-◌, ◌<◌, ◌++◌, List, OnOk, length};
+ghost use Rattle.nm_base.specs.Count.{saturated};
 ghost use Rattle.nm_forward.specs.State.{NodeStateValue};
 ghost use Rattle.nm_model.specs.Run.{State};
-ghost use Rattle.nm_series.specs.Rows.{AreIfaceTotals, HadIfaces, IsIfaceStep, counts_text};
-ghost use Rattle.nm_series.specs.Rows.{iface_row, rows_of, seen_text};
+ghost use Rattle.nm_topology.specs.TopologyValue.{TopologyValue};
+ghost use Rattle.nm_sim.specs.Network.{net_of};
+ghost use Rattle.nm_measure.specs.Busy.{thousandths_of};
+ghost use Rattle.nm_measure.specs.Measured.{HasRecent};
+ghost use Rattle.nm_measure.specs.Queues.{longest_queue};
+ghost use Rattle.nm_series.specs.Rows.{AreSeenBetween, AreTotals, HadIfaces, IsIfaceStep, counts_text};
+ghost use Rattle.nm_series.specs.Rows.{iface_row, mean_between, mean_in, rows_of, seen_text};
 
 use crate::cells::{end_row, push_cell};
 use crate::series::{Span, Totals};
-use nm_base::{IfaceNo, Time, push_number, push_text};
+use nm_base::{IfaceNo, Packet, Time, push_number, push_text};
+use nm_forward::NodeState;
 use nm_measure::{IfaceTotals, Measured, thousandths};
+use nm_model::run::times_pass;
+use nm_sim::network::every_topology_is_a_network;
 use nm_topology::Topology;
 use std::alloc::{AllocError, Global};
 
@@ -30,32 +39,39 @@ pub struct IfaceSeen {
 
 /// How many waited in the mean in a step, rounded down, where all waited for so many nanoseconds
 /// together.
-fn mean_of(waited: u128, length: u64) -> u64 {
+fn mean_of(waited: u128, length: u64) -> u64
+    ensures { result ≡ saturated (mean_in waited length) }
+{
     if length == 0 {
         return 0;
     }
     u64::try_from(waited / u128::from(length)).unwrap_or(u64::MAX)
 }
 
-/// What was seen of an interface in a step, before which it had this and after which that.
+/// What was seen of an interface in a step of so many nanoseconds, before which it had this and
+/// after which that.
 fn seen_of(
-    measured: &mut Measured,
+    measured: &Measured,
     iface: IfaceNo,
     before: &IfaceTotals,
     after: &IfaceTotals,
-    length: u64,
+    time: u64,
 ) -> IfaceSeen
-    ensures { measured.new ≡ measured.old }
+    ensures longest { (t : TopologyValue) (first : ℕ) → HasRecent t first measured.now
+        → iface < length t.ifaces
+        → result.longest ≡ longest_queue (net_of t) iface first measured.now.part.steps }
+    ensures mean { result.mean ≡ mean_between before.now.waited after.now.waited time }
+    ensures busy { result.busy ≡ thousandths_of (after.now.busy - before.now.busy) time }
 {
-    let longest = measured.take_recent_queue(iface);
+    let longest = measured.recent_queue(iface);
     let waited = after.waited.saturating_sub(before.waited);
     let octets = after.octets_waited.saturating_sub(before.octets_waited);
     IfaceSeen {
         longest: longest.packets,
-        mean: mean_of(waited.saturating_mul(1_000), length),
+        mean: mean_of(waited.saturating_mul(1_000), time),
         longest_octets: longest.octets,
-        mean_octets: mean_of(octets, length),
-        busy: thousandths(after.busy.saturating_sub(before.busy), length),
+        mean_octets: mean_of(octets, time),
+        busy: thousandths(after.busy.saturating_sub(before.busy), time),
     }
 }
 
@@ -113,17 +129,17 @@ fn push_row(
 fn push_rows(
     text: &mut Vec<u8>,
     topology: &Topology,
-    measured: &mut Measured,
+    measured: &Measured,
     before: &[IfaceTotals],
     after: &[IfaceTotals],
     span: &Span,
 ) -> Result<(), AllocError>
     requires before { length before.now ≡ length topology.now.ifaces }
     requires after { length after.now ≡ length topology.now.ifaces }
-    ensures same { measured.new ≡ measured.old }
-    ensures rows { OnOk result ((seen : List IfaceSeen) × (length seen ≡ length topology.now.ifaces)
-        × ((old new : State (List ℕ) NodeStateValue) → AreIfaceTotals topology.now old before.now
-        → AreIfaceTotals topology.now new after.now → text.new.items ≡ text.old.items
+    ensures { OnOk result ((seen : List IfaceSeen) × (length seen ≡ length topology.now.ifaces)
+        × AreSeenBetween measured.now before.now after.now (span.now.until - span.now.from) seen
+        × ((old new : State (List ℕ) NodeStateValue) → AreTotals topology.now old before.now
+        → AreTotals topology.now new after.now → text.new.items ≡ text.old.items
         ++ rows_of span.now.from old new 0 topology.now.ifaces seen)) }
 {
     for number in 0..topology.ifaces().len() {
@@ -174,6 +190,8 @@ impl Totals for IfaceTotals {
         span: &Span,
     ) -> Result<Vec<u8>, AllocError> {
         let mut text = Vec::new(alloc);
+        every_topology_is_a_network(topology); // law: `net_of` is a network of the model
+        times_pass::<Packet, NodeState>(); // law: so many events are before a time
         push_rows(&mut text, topology, measured, before, after, span)?;
         Ok(text)
     }

@@ -1,9 +1,9 @@
 //! What is told of a network over time, step by step.
 
-ghost use Rattle.std.specs.Prelude.{◌≡◌, ℕ, List, IfOk};
+ghost use Rattle.std.specs.Prelude.{◌≡◌, ℕ, ◌-◌, List, IfOk};
 ghost use Rattle.std.specs.Option.{option_map};
 ghost use Rattle.nm_topology.specs.TopologyValue.{TopologyValue};
-ghost use Rattle.nm_measure.specs.Measured.{IsMeasuredBefore};
+ghost use Rattle.nm_measure.specs.Measured.{IsMeasuredBefore, IsMeasuredStep};
 ghost use Rattle.nm_series.specs.Series.{IsSeries, Nexts};
 
 use crate::steps::end_of;
@@ -23,7 +23,9 @@ pub struct Span {
 
 impl Span {
     /// How long it is, in nanoseconds.
-    pub fn length(&self) -> u64 {
+    pub fn length(&self) -> u64
+        ensures { result ≡ self.now.until - self.now.from }
+    {
         self.until
             .nanoseconds()
             .saturating_sub(self.from.nanoseconds())
@@ -60,6 +62,7 @@ pub trait Totals: Drop {
     ) -> Result<Vec<u8>, AllocError>
         requires before { had topology.now span.now.from before.now }
         requires after { had topology.now span.now.until after.now }
+        requires step { IsMeasuredStep topology.now span.now.from span.now.until measured.old }
         ensures same { measured.new ≡ measured.old }
         ensures rows { IfOk result
             (λ text. are_rows topology.now span.now.from span.now.until text.items) };

@@ -7,8 +7,8 @@ use Rattle.nm_measure.proofs.amounts.count_all.Goals as goal
 pub let_go-requires : goal.let_go-requires
 let_go-requires c = let r = c.requires in (r.0, None, r.1, r.2.represents)
 
-pub returns : goal.returns
-returns c = λ t s h.
+pub returns-clause-counted : goal.returns-clause-counted
+returns-clause-counted c = λ t s h.
     let part = c.args.part.now in
     let gone = c.let_go.ensures.represents t None s h.represents in
     counted_all t s part c.let_go.new.self c.args.all.now.items c.count_each.new.all.items h gone.0 gone.1

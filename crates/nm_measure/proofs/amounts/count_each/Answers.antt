@@ -1,4 +1,4 @@
-use Rattle.std.proofs.Common.{◌<◌, ◌+◌, ◌≤◌, ◌++◌, [], ◌∷◌, length, take, Some, sym, ap, ◌∙◌, subst, arith, rules, append-nil}
+use Rattle.std.proofs.Common.{◌<◌, ◌≤◌, ◌++◌, [], ◌∷◌, length, take, Some, sym, ap, ◌∙◌, subst, arith, rules, append-nil}
 use Rattle.std.proofs.lemmas.List.{append_assoc, take_all}
 use Rattle.std.proofs.lemmas.Option.{slice_get-get_or}
 use Rattle.nm_measure.specs.Amounts.{AreTraffic}

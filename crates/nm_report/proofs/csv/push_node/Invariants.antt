@@ -1,5 +1,5 @@
-use Rattle.nm_measure.specs.Lines.{EndsLine}
+use Rattle.nm_report.specs.Values.{AreWholeLines}
 use Rattle.nm_report.proofs.csv.push_node.Given as goal
 
 abbrev pub invariant-loop-counter : goal.invariant-loop-counter
-invariant-loop-counter l = EndsLine l.text.items
+invariant-loop-counter l = AreWholeLines l.text.items

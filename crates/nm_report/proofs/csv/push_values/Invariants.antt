@@ -1,5 +1,5 @@
-use Rattle.nm_measure.specs.Lines.{EndsLine}
+use Rattle.nm_report.specs.Values.{AreWholeLines}
 use Rattle.nm_report.proofs.csv.push_values.Given as goal
 
 abbrev pub invariant-loop-measure : goal.invariant-loop-measure
-invariant-loop-measure l = EndsLine l.text.items
+invariant-loop-measure l = AreWholeLines l.text.items

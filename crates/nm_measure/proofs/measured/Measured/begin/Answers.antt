@@ -15,4 +15,10 @@ returns c = record {
   represents = c.in_ok-part.ensures.represents;
   traffic = c.in_ok-traffic.ensures;
   all = c.in_ok-part.ensures.keeping;
+  within = omega arith;
+  stops = c.accepted_topologies_are_in_order.ensures.limits.greatest_stop;
+  steps = c.in_ok-part.ensures.steps;
+  first = 0;
+  seen = c.in_ok-interfaces.ensures.seen;
+  own = c.in_ok-interfaces.ensures.own;
 }

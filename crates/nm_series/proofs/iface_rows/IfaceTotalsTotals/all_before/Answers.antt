@@ -1,7 +1,7 @@
 use Rattle.std.proofs.Common.{◌≡◌, ◌<◌, ◌≤◌, length, slice_get, rules, sym, ap, subst, ◌∙◌, arith, ⊎_elim}
 use Rattle.nm_model.specs.Run.{one_list}
 use Rattle.nm_sim.specs.Network.{net_of}
-use Rattle.nm_series.specs.Rows.{had}
+use Rattle.nm_series.specs.Rows.{busy_by, had, waited_by}
 use Rattle.nm_series.proofs.RowsMore.{pushed}
 use Rattle.nm_series.proofs.iface_rows.IfaceTotalsTotals.all_before.Goals as goal
 
@@ -16,6 +16,14 @@ loop-number-preserved c =
     record {
       within = omega (arith, low);
       count = search rules;
+      over_time = λ m i x got. ⊎_elim
+          (λ before. c.loop-number.invariant.over_time m i x before)
+          (λ last.
+          let at : c.iface_number.result ≡ i = same ∙ sym count ∙ sym last.0 in (
+            ap (λ v. v.waited) last.1 ∙ subst (λ j. c.totals.result.waited ≡ waited_by t j c.args.time m.events) at (c.totals.ensures.waited t m),
+            ap (λ v. v.busy) last.1 ∙ subst (λ j. c.totals.result.busy ≡ busy_by t j c.args.time m.events) at (c.totals.ensures.busy t m),
+          ))
+          (pushed c.loop-number.all.items c.totals.result i x (sym (ap (λ l. slice_get l i) more) ∙ got));
       each = λ m i x got.
           let s = one_list (net_of t) m.events in
           ⊎_elim
@@ -39,4 +47,5 @@ returns c =
       events = m.events;
       over = m.over;
       totals = record { count = omega (arith, low, over, count); each = c.loop-number.invariant.each m };
+      over_time = c.loop-number.invariant.over_time m;
     }

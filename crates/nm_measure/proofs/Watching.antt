@@ -1,0 +1,234 @@
+-- All interfaces, one event later.
+use Rattle.std.proofs.Common.{◌≡◌, ◌≢◌, ℕ, suc, ◌+◌, ◌-◌, ◌^◌, ◌<◌, ◌≤◌, max, min, List, [], ◌∷◌, ◌++◌, length, drop, Option, Some, None, slice_get, inl, refl, sym, ap, ◌∙◌, subst, arith, ⊎_elim, append-nil, length-append}
+use Rattle.std.proofs.Math.Seq.{drop-append_seam}
+use Rattle.std.proofs.lemmas.Option.{slice_get_cases, slice_get_within}
+use Rattle.nm_base.specs.Count.{saturated}
+use Rattle.nm_base.specs.declared.event.Event.{Event}
+use Rattle.nm_base.specs.declared.key.Key.{Key}
+use Rattle.nm_base.specs.declared.key.Place.{Place}
+use Rattle.nm_base.specs.declared.record.Dir.TheVariants.{Out}
+use Rattle.nm_base.specs.declared.record.Record.{Record}
+use Rattle.nm_events.specs.Held.{Held}
+use Rattle.nm_forward.specs.State.{NodeStateValue}
+use Rattle.nm_iface.specs.Transmission.{transmission_time}
+use Rattle.nm_model.specs.EventList.{least}
+use Rattle.nm_model.specs.Network.{IsNet}
+use Rattle.nm_model.specs.Port.{waiting_of}
+use Rattle.nm_model.specs.Run.{Effect, in_record, one_list, out_record}
+use Rattle.nm_model.specs.RunLaws.{KeysRise}
+use Rattle.nm_model.specs.Trace.{passed}
+use Rattle.nm_model.specs.TraceLaws.{StartsArrive}
+use Rattle.nm_model.proofs.ListLemmas.{not_some, nth_cong, nth_front, nth_last, same_number, some_inj}
+use Rattle.nm_topology.specs.TopologyValue.{TopologyValue}
+use Rattle.nm_sim.specs.Network.{far_of, net_of}
+use Rattle.nm_sim.specs.Part.{PartValue}
+use Rattle.nm_measure.specs.declared.seen.Seen.{Seen}
+use Rattle.nm_measure.specs.Busy.{part_before}
+use Rattle.nm_measure.specs.Interfaces.{AreSeen, HasQueue, HasStarted, IsNext, IsTurn, OneChanges, StartsNone, queue_in, started_record}
+use Rattle.nm_measure.specs.Queues.{time_after}
+use Rattle.nm_measure.specs.Seen.{IsQueue, IsSeen}
+use Rattle.nm_measure.specs.Usage.{IsUsed}
+use Rattle.nm_measure.specs.Waiting.{queue_empty, queue_later}
+use Rattle.nm_measure.proofs.Lists.{AreBegun}
+use Rattle.nm_measure.proofs.Seeing.{queue_anew, queue_first, queue_on, queue_same}
+use Rattle.nm_measure.proofs.Transmitting.{used_later, used_more}
+use Rattle.nm_measure.proofs.Turns.{effect_at, next_records, port_beside_start, starts_elsewhere, starts_here, starts_more, time_is, time_rises}
+
+module _ (t : TopologyValue) where
+  -- how long a packet's transmission takes
+  pub tx_is : (i : ℕ) (x : List ℕ) → 1 ≤ length x → transmission_time (far_of t i).rate (length x) ≡ (net_of t).tx i x
+  unfolding net_of
+  tx_is i x h = let e : max 1 (length x) ≡ length x = omega arith in ap (λ n. transmission_time (far_of t i).rate n) (sym e)
+
+  module _ (first n now : ℕ) (place : Place) (p : PartValue Held) (old : List Seen) (seen : AreSeen t first n old) (network : IsNet (net_of t))
+      (rises : (m : ℕ) → KeysRise (net_of t) m) (next : IsNext t n now place p) where
+    abbrev effect_of : Effect (List ℕ) NodeStateValue
+    effect_of = effect_at (net_of t) n next.event next.first
+
+    now_is : time_after (net_of t) (suc n) ≡ now
+    now_is = time_is (net_of t) n next.event next.first ∙ next.at_time
+
+    late : time_after (net_of t) n ≤ time_after (net_of t) (suc n)
+    late = let a = time_rises (net_of t) n next.event next.first rises in let b = time_is (net_of t) n next.event next.first in omega (arith, a, b)
+
+    starts_are : (i : ℕ) → passed Out i (one_list (net_of t) (suc n)).records
+        ≡ passed Out i (one_list (net_of t) n).records ++ passed Out i (out_record next.event.0.time effect_of.transmission)
+    starts_are i = ap (passed Out i) (next_records (net_of t) n next.event next.first)
+        ∙ starts_more i next.event.0.time (one_list (net_of t) n).records effect_of.came effect_of.transmission
+
+    starts_same : (i : ℕ) → ((a : ℕ × List ℕ) → effect_of.transmission ≡ Some a → i ≢ a.0)
+        → passed Out i (one_list (net_of t) (suc n)).records ≡ passed Out i (one_list (net_of t) n).records
+    starts_same i h = starts_are i
+        ∙ ap (λ l. passed Out i (one_list (net_of t) n).records ++ l) (starts_elsewhere i next.event.0.time effect_of.transmission h)
+        ∙ append-nil (passed Out i (one_list (net_of t) n).records)
+
+    -- an interface that stays as it was
+    stays : (i : ℕ) (x : Seen) → slice_get old i ≡ Some x → queue_in i (one_list (net_of t) (suc n)) ≡ queue_in i (one_list (net_of t) n)
+        → passed Out i (one_list (net_of t) (suc n)).records ≡ passed Out i (one_list (net_of t) n).records
+        → IsSeen (net_of t) i first (suc n) t.stop x × (x.usage.rate ≡ (far_of t i).rate)
+    stays i x at same starts =
+        let h = seen.each i x at in (
+          record {
+            queue = queue_same (net_of t) i first n seen.since x.queue h.0.queue late (ap (λ z. z.0) same) (ap (λ z. z.1) same);
+            used = subst (λ l. IsUsed (net_of t) i t.stop (time_after (net_of t) (suc n)) l x.usage.busy x.usage.last_busy x.usage.starts) (sym starts)
+                (used_later (net_of t) i t.stop (time_after (net_of t) n) (time_after (net_of t) (suc n)) late
+                (passed Out i (one_list (net_of t) n).records) x.usage.busy x.usage.last_busy x.usage.starts h.0.used);
+          },
+          h.1,
+        )
+
+    -- its queue is another
+    queue_is : (i : ℕ) (x y : Seen) → slice_get old i ≡ Some x → y.queue ≡ queue_later x.queue (queue_in i (one_list (net_of t) (suc n))).0 (queue_in i (one_list (net_of t) (suc n))).1 now
+        → IsQueue (net_of t) i first (suc n) y.queue
+    queue_is i x y at is = subst (IsQueue (net_of t) i first (suc n)) (sym is)
+        (queue_on (net_of t) i first n seen.since x.queue (seen.each i x at).0.queue late _ _ now refl refl (sym now_is))
+
+    -- it transmits as it did
+    used_as : (i : ℕ) (x y : Seen) → y.usage ≡ x.usage → slice_get old i ≡ Some x → passed Out i (one_list (net_of t) (suc n)).records ≡ passed Out i (one_list (net_of t) n).records
+        → IsUsed (net_of t) i t.stop (time_after (net_of t) (suc n)) (passed Out i (one_list (net_of t) (suc n)).records) y.usage.busy y.usage.last_busy y.usage.starts
+    used_as i x y is at starts =
+        subst (λ u. IsUsed (net_of t) i t.stop (time_after (net_of t) (suc n)) (passed Out i (one_list (net_of t) (suc n)).records) u.busy u.last_busy u.starts) (sym is)
+        (subst (λ l. IsUsed (net_of t) i t.stop (time_after (net_of t) (suc n)) l x.usage.busy x.usage.last_busy x.usage.starts) (sym starts)
+        (used_later (net_of t) i t.stop (time_after (net_of t) n) (time_after (net_of t) (suc n)) late
+        (passed Out i (one_list (net_of t) n).records) x.usage.busy x.usage.last_busy x.usage.starts (seen.each i x at).0.used))
+
+    -- all stay
+    pub seen_same : StartsNone t n → IsTurn t n None → AreSeen t first (suc n) old
+    seen_same none turn = record {
+      since = let s = seen.since in omega (arith, s);
+      count = seen.count;
+      each = λ i x at. stays i x at (turn i (let w = slice_get_within old i x at in let c = seen.count in omega (arith, w, c)) (λ e. not_some i e))
+          (starts_same i (λ a e. absurd (not_some a (sym (none next.event next.first) ∙ e))));
+    }
+
+    module _ (new : List Seen) (k : ℕ) where
+      -- each of the others stays, and one changes
+      all_seen : (Changes : Seen → Seen → Type 0) → OneChanges k Changes old new
+          → ((x y : Seen) → slice_get old k ≡ Some x → Changes x y → IsSeen (net_of t) k first (suc n) t.stop y × (y.usage.rate ≡ (far_of t k).rate))
+          → ((i : ℕ) (x : Seen) → i ≢ k → slice_get old i ≡ Some x → IsSeen (net_of t) i first (suc n) t.stop x × (x.usage.rate ≡ (far_of t i).rate))
+          → AreSeen t first (suc n) new
+      all_seen Changes one here others = record {
+        since = let s = seen.since in omega (arith, s);
+        count = one.count ∙ seen.count;
+        each = λ i y at. ⊎_elim
+            (λ same. subst (λ j. IsSeen (net_of t) j first (suc n) t.stop y × (y.usage.rate ≡ (far_of t j).rate)) (sym same)
+            (at_one y (subst (λ j. slice_get new j ≡ Some y) same at)))
+            (λ apart. others i y apart (sym (one.others i apart) ∙ at))
+            (same_number i k);
+      }
+        where
+          at_one : (y : Seen) → slice_get new k ≡ Some y → IsSeen (net_of t) k first (suc n) t.stop y × (y.usage.rate ≡ (far_of t k).rate)
+          at_one y at = ⊎_elim
+              (λ g. let z = one.here g.0 g.2 in here g.0 y g.2 (subst (Changes g.0) (some_inj z.0 y (sym z.1 ∙ at)) z.2))
+              (λ g. absurd (let w = slice_get_within new k y at in let c = one.count in omega (arith, w, c, g.0)))
+              ((slice_get_cases old k).1)
+
+      pub seen_turned : StartsNone t n → IsTurn t n (Some k) → OneChanges k (HasQueue now (queue_in k (one_list (net_of t) (suc n)))) old new
+          → AreSeen t first (suc n) new
+      seen_turned none turn one =
+          let same = λ (i : ℕ). starts_same i (λ a e. absurd (not_some a (sym (none next.event next.first) ∙ e))) in
+          all_seen (HasQueue now (queue_in k (one_list (net_of t) (suc n)))) one
+          (λ x y at changes. (
+            record {
+              queue = queue_is k x y at changes.0;
+              used = used_as k x y (changes.1) at (same k);
+            },
+            ap (λ u. u.rate) changes.1 ∙ (seen.each k x at).1,
+          ))
+          (λ i x apart at. stays i x at (turn i (let w = slice_get_within old i x at in let c = seen.count in omega (arith, w, c)) (λ e. apart (sym (some_inj k i e)))) (same i))
+
+      -- a transmission starts at interface k
+      pub seen_started : StartsArrive (net_of t) → t.stop < 2 ^ 64 → (x : List ℕ) → effect_of.transmission ≡ Some (k, x) → 1 ≤ length x
+          → OneChanges k (HasStarted (length x) now (t.stop - now) (queue_in k (one_list (net_of t) (suc n)))) old new
+          → AreSeen t first (suc n) new
+      seen_started arrive few x starts octets one =
+          all_seen (HasStarted (length x) now (t.stop - now) (queue_in k (one_list (net_of t) (suc n)))) one
+          (λ u y at changes. (
+            record {
+              queue = queue_is k u y at changes.queue;
+              used = used_now arrive few x starts octets u y at changes;
+            },
+            changes.rate ∙ (seen.each k u at).1,
+          ))
+          (λ i u apart at. stays i u at (ap (λ w. (length (waiting_of w.busy), saturated w.dropped)) (port_beside_start (net_of t) n next.event next.first (k, x) starts i apart))
+          (starts_same i (λ a e. subst (λ (z : ℕ × List ℕ). i ≢ z.0) (some_inj (k, x) a (sym starts ∙ e)) apart)))
+        where
+          used_now : StartsArrive (net_of t) → t.stop < 2 ^ 64 → (x : List ℕ) → effect_of.transmission ≡ Some (k, x) → 1 ≤ length x
+              → (u y : Seen) → slice_get old k ≡ Some u → HasStarted (length x) now (t.stop - now) (queue_in k (one_list (net_of t) (suc n))) u y
+              → IsUsed (net_of t) k t.stop (time_after (net_of t) (suc n)) (passed Out k (one_list (net_of t) (suc n)).records) y.usage.busy y.usage.last_busy y.usage.starts
+          used_now arrive few x starts octets u y at changes =
+              let h = seen.each k u at in
+              let l = passed Out k (one_list (net_of t) n).records in
+              let early = next.early in
+              let same_time : next.event.0.time ≡ now = next.at_time in
+              let is : passed Out k (one_list (net_of t) (suc n)).records ≡ l ++ (now, x) ∷ [] = starts_are k
+              ∙ (λ j. l ++ passed Out k (out_record (same_time j) (starts j))) ∙ ap (λ z. l ++ z) (starts_here k now x) in
+              let takes : transmission_time u.usage.rate (length x) ≡ (net_of t).tx k x = ap (λ r. transmission_time r (length x)) h.1 ∙ tx_is k x octets in
+              let more : min (transmission_time u.usage.rate (length x)) (t.stop - now) ≡ part_before (net_of t) k t.stop (now, x) = ap (λ z. min z (t.stop - now)) takes in
+              let used = used_more (net_of t) k t.stop now u.usage.busy u.usage.last_busy (min (transmission_time u.usage.rate (length x)) (t.stop - now)) u.usage.starts l x (time_after (net_of t) n) h.0.used
+              (λ front last split. apart_from arrive x is front last split) (omega (arith, early)) few more in
+              subst (λ (z : ℕ × List (ℕ × List ℕ) × ℕ × ℕ × Option (ℕ × ℕ)). IsUsed (net_of t) k t.stop z.0 z.1 z.2 z.3 z.4)
+              (λ j. (sym now_is j, sym is j, sym changes.busy j, sym changes.last j, sym changes.starts j)) used
+            where
+              apart_from : StartsArrive (net_of t) → (x : List ℕ) → passed Out k (one_list (net_of t) (suc n)).records ≡ passed Out k (one_list (net_of t) n).records ++ (now, x) ∷ []
+                  → (front : List (ℕ × List ℕ)) (last : ℕ × List ℕ) → passed Out k (one_list (net_of t) n).records ≡ front ++ last ∷ [] → last.0 + (net_of t).tx k last.1 ≤ now
+              apart_from arrive x is front last split =
+                  let all = front ++ last ∷ [] in
+                  let whole : passed Out k (one_list (net_of t) (suc n)).records ≡ all ++ (now, x) ∷ [] = is ∙ ap (λ l. l ++ (now, x) ∷ []) split in
+                  let e = length-append front (last ∷ []) in
+                  arrive.apart (suc n) k (length front) (length all) last.0 now last.1 x (omega (arith, e))
+                  (nth_cong _ _ (length front) last (sym whole) (nth_front all ((now, x) ∷ []) (length front) last (nth_last front last)))
+                  (nth_cong _ _ (length all) (now, x) (sym whole) (nth_last all (now, x)))
+
+-- the records of an event, and what they say of a transmission
+module _ (t : TopologyValue) (n now : ℕ) (place : Place) (p : PartValue Held) (next : IsNext t n now place p) where
+  kept_are : (e : Key × Event (List ℕ)) (f : least (one_list (net_of t) n).pending ≡ Some e)
+      → p.records.kept ≡ in_record e.0.time (effect_at (net_of t) n e f).came ++ out_record e.0.time (effect_at (net_of t) n e f).transmission
+  kept_are e f = next.kept ∙ ap (drop (length (one_list (net_of t) n).records)) (next_records (net_of t) n e f)
+      ∙ drop-append_seam (one_list (net_of t) n).records _
+
+  pub none_starts : ((time : ℕ) (came start : Option (ℕ × List ℕ)) → p.records.kept ≡ in_record time came ++ out_record time start → None ≡ started_record time start) → StartsNone t n
+  none_starts h = λ e f. go e.0.time (effect_at (net_of t) n e f).transmission (h e.0.time (effect_at (net_of t) n e f).came (effect_at (net_of t) n e f).transmission (kept_are e f))
+    where
+      go : (time : ℕ) (o : Option (ℕ × List ℕ)) → None ≡ started_record time o → o ≡ None
+      go time None e = refl
+      go time (Some a) e = absurd (not_some _ e)
+
+  pub one_starts : (r : Record (List ℕ)) → ((time : ℕ) (came start : Option (ℕ × List ℕ)) → p.records.kept ≡ in_record time came ++ out_record time start → Some r ≡ started_record time start)
+      → ((effect_at (net_of t) n next.event next.first).transmission ≡ Some (r.iface, r.packet)) × (r.time ≡ now)
+  one_starts r h =
+      let z = go next.event.0.time (effect_at (net_of t) n next.event next.first).transmission
+      (h next.event.0.time (effect_at (net_of t) n next.event next.first).came (effect_at (net_of t) n next.event next.first).transmission (kept_are next.event next.first)) in
+      (z.0, z.1 ∙ next.at_time)
+    where
+      go : (time : ℕ) (o : Option (ℕ × List ℕ)) → Some r ≡ started_record time o → (o ≡ Some (r.iface, r.packet)) × (r.time ≡ time)
+      go time None e = absurd (not_some r (sym e))
+      go time (Some a) e =
+          let is = some_inj r _ e in
+          ((λ k. Some ((sym is k).iface, (sym is k).packet)), ap (λ (z : Record (List ℕ)). z.time) is)
+
+-- nothing happened yet
+pub seen_first : (t : TopologyValue) (all : List Seen) → length all ≡ length t.ifaces
+    → ((i : ℕ) (x : Seen) → slice_get all i ≡ Some x → (x.queue ≡ queue_empty) × (x.usage.busy ≡ 0) × (x.usage.starts ≡ None) × (x.usage.rate ≡ (far_of t i).rate))
+    → AreSeen t 0 0 all
+seen_first t all count each = record {
+  since = omega arith;
+  count = count;
+  each = λ i x at. let z = each i x at in (record { queue = subst (IsQueue (net_of t) i 0 0) (sym z.0) (queue_first (net_of t) i); used = inl (refl, z.1, z.2) }, z.3);
+}
+
+-- the most that wait are looked for anew
+pub seen_anew : (t : TopologyValue) (first n : ℕ) (old new : List Seen) → AreBegun old new (length old) → length new ≡ length old → AreSeen t first n old → AreSeen t n n new
+seen_anew t first n old new begun count h = record {
+  since = omega arith;
+  count = count ∙ h.count;
+  each = λ i y at.
+      let z = begun i y at in
+      let s = h.each i z.0 z.1 in (
+        record {
+          queue = subst (IsQueue (net_of t) i n n) (sym (z.3 (slice_get_within old i z.0 z.1))) (queue_anew (net_of t) i first n z.0.queue s.0.queue);
+          used = subst (λ u. IsUsed (net_of t) i t.stop (time_after (net_of t) n) (passed Out i (one_list (net_of t) n).records) u.busy u.last_busy u.starts) (sym z.2) s.0.used;
+        },
+        ap (λ u. u.rate) z.2 ∙ s.1,
+      );
+}

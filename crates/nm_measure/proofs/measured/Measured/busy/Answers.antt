@@ -1,0 +1,10 @@
+use Rattle.std.proofs.Common.{sym, ap, ◌∙◌}
+use Rattle.std.specs.Option.{option_map}
+use Rattle.nm_measure.proofs.Readings.{busy_in_all, missing}
+use Rattle.nm_measure.proofs.measured.Measured.busy.Goals as goal
+
+pub returns-in-Some : goal.returns-in-Some
+returns-in-Some c = rw (← c.self.view_is) (λ t until m there. c.busy.ensures ∙ busy_in_all t until _ m c.args.iface c.in-Some.seen.now (sym c.get.ensures ∙ ap (option_map (λ x. x.now)) c.in-Some.is))
+
+pub returns-in-None : goal.returns-in-None
+returns-in-None c = rw (← c.self.view_is) (λ t until m there. absurd (missing t m.first m.events c.args.iface c.self.inside.interfaces.all.items m.seen there (sym c.get.ensures ∙ ap (option_map (λ x. x.now)) c.in-None.is)))

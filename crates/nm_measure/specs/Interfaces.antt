@@ -1,0 +1,95 @@
+-- What is seen of all interfaces of a network, event by event.
+use Rattle.std.specs.Prelude.{◌≡◌, ◌≢◌, ℕ, suc, ◌+◌, ◌<◌, ◌≤◌, min, List, drop, length, slice_get, Option, Some, None}
+use Rattle.nm_base.specs.Count.{saturated}
+use Rattle.nm_base.specs.declared.event.Event.{Event}
+use Rattle.nm_base.specs.declared.key.Key.{Key}
+use Rattle.nm_base.specs.declared.key.Place.{Place}
+use Rattle.nm_base.specs.declared.record.Dir.TheVariants.{Out}
+use Rattle.nm_base.specs.declared.record.Record.{Record}
+use Rattle.nm_events.specs.Held.{Held, pending_of}
+use Rattle.nm_forward.specs.State.{NodeStateValue}
+use Rattle.nm_iface.specs.Transmission.{transmission_time}
+use Rattle.nm_model.specs.EventList.{least}
+use Rattle.nm_model.specs.Port.{waiting_of}
+use Rattle.nm_model.specs.Run.{State, effect, one_list}
+use Rattle.nm_topology.specs.TopologyValue.{TopologyValue}
+use Rattle.nm_sim.specs.Network.{far_of, net_of}
+use Rattle.nm_sim.specs.Part.{PartValue, Represents}
+use Rattle.nm_measure.specs.declared.seen.Seen.{Seen}
+use Rattle.nm_measure.specs.Seen.{IsSeen}
+use Rattle.nm_measure.specs.Usage.{span_after}
+use Rattle.nm_measure.specs.Waiting.{queue_later}
+use Rattle.nm_measure.specs.Waiting.{queue_later}
+
+-- of each interface after n events, the most that waited of late being those since `first` of them
+pub record AreSeen (t : TopologyValue) (first n : ℕ) (all : List Seen) : Type 0 where
+  pub since : first ≤ n
+  pub count : length all ≡ length t.ifaces
+  pub each : (i : ℕ) (x : Seen) → slice_get all i ≡ Some x
+      → IsSeen (net_of t) i first n t.stop x × (x.usage.rate ≡ (far_of t i).rate)
+
+-- each interface is among those of its node
+abbrev pub AreOwn : TopologyValue → List (List ℕ) → Type 0
+AreOwn t own = (i : ℕ) → i < length t.ifaces → (l : List ℕ)
+    × (slice_get own ((net_of t).owner i) ≡ Some l) × (k : ℕ) × (slice_get l k ≡ Some i)
+
+-- how many packets wait at interface i in this state of a run, and how many were dropped
+abbrev pub queue_in : ℕ → State (List ℕ) NodeStateValue → ℕ × ℕ
+queue_in i s = (length (waiting_of (s.port i).busy), saturated (s.port i).dropped)
+
+-- as was seen last
+abbrev pub seen_queue : Seen → ℕ × ℕ
+seen_queue x = (x.queue.waiting, x.queue.dropped)
+
+-- the record of a transmission that starts
+abbrev pub started_record : ℕ → Option (ℕ × List ℕ) → Option (Record (List ℕ))
+started_record time None = None
+started_record time (Some a) =
+    Some (record { time = time; iface = a.0; dir = Out; packet = a.1 })
+
+-- the part is the whole network after event n, which happened now and at this place, and has its
+-- records alone
+pub record IsNext (t : TopologyValue) (n now : ℕ) (place : Place) (p : PartValue Held)
+    : Type 0 where
+  pub event : Key × Event (List ℕ)
+  pub first : least (one_list (net_of t) n).pending ≡ Some event
+  pub at_time : event.0.time ≡ now
+  pub at_place : event.0.place ≡ place
+  pub early : now < t.stop
+  pub before : (q : PartValue Held) × Represents pending_of t None q (one_list (net_of t) n)
+  pub represents : Represents pending_of t None p (one_list (net_of t) (suc n))
+  pub kept : p.records.kept
+      ≡ drop (length (one_list (net_of t) n).records) (one_list (net_of t) (suc n)).records
+
+-- event n starts no transmission
+abbrev pub StartsNone : TopologyValue → ℕ → Type 0
+StartsNone t n = (e : Key × Event (List ℕ)) → least (one_list (net_of t) n).pending ≡ Some e
+    → (effect (net_of t) (one_list (net_of t) n).node (one_list (net_of t) n).port e.0.time
+    e.0.number e.1).transmission ≡ None
+
+-- event n leaves all queues but this one as they are
+abbrev pub IsTurn : TopologyValue → ℕ → Option ℕ → Type 0
+IsTurn t n turned = (i : ℕ) → i < length t.ifaces → turned ≢ Some i
+    → queue_in i (one_list (net_of t) (suc n)) ≡ queue_in i (one_list (net_of t) n)
+
+-- one of a list changes so, and the others stay
+pub record OneChanges (k : ℕ) (Changes : Seen → Seen → Type 0) (old new : List Seen)
+    : Type 0 where
+  pub count : length new ≡ length old
+  pub here : (x : Seen) → slice_get old k ≡ Some x
+      → (y : Seen) × (slice_get new k ≡ Some y) × Changes x y
+  pub others : (i : ℕ) → i ≢ k → slice_get new i ≡ slice_get old i
+
+-- its queue is this now, and nothing else changed
+abbrev pub HasQueue : (now : ℕ) → (waits : ℕ × ℕ) → Seen → Seen → Type 0
+HasQueue now waits x y =
+    (y.queue ≡ queue_later x.queue waits.0 waits.1 now) × (y.usage ≡ x.usage)
+
+-- a transmission of so many octets started, so long before `stop`, and the queue is this now
+pub record HasStarted (octets now left : ℕ) (waits : ℕ × ℕ) (x y : Seen) : Type 0 where
+  pub queue : y.queue ≡ queue_later x.queue waits.0 waits.1 now
+  pub rate : y.usage.rate ≡ x.usage.rate
+  pub busy : y.usage.busy
+      ≡ saturated (x.usage.busy + min (transmission_time x.usage.rate octets) left)
+  pub last : y.usage.last_busy ≡ min (transmission_time x.usage.rate octets) left
+  pub starts : y.usage.starts ≡ span_after x.usage.starts now

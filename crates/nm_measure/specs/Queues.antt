@@ -1,0 +1,39 @@
+-- How many packets wait at the interfaces of a network, and for how long.
+use Rattle.std.specs.Prelude.{ℕ, zero, suc, ◌+◌, ◌-◌, ◌*◌, max, length}
+use Rattle.std.specs.Option.{option_map_or}
+use Rattle.nm_model.specs.EventList.{least}
+use Rattle.nm_model.specs.Network.{Net}
+use Rattle.nm_model.specs.Port.{waiting_of}
+use Rattle.nm_model.specs.Run.{one_list}
+
+-- the greatest of level first, level (first + 1) and so on, up to level (first + more)
+abbrev pub greatest_of : (level : ℕ → ℕ) → (first more : ℕ) → ℕ
+greatest_of level first zero = level first
+greatest_of level first (suc more) =
+    max (greatest_of level first more) (level (first + suc more))
+
+module _ {P N : Type 0} (net : Net P N) where
+  -- when the last of the first n events of the one event list happens; 0 where there is none
+  abbrev pub time_after : ℕ → ℕ
+  time_after zero = 0
+  time_after (suc n) =
+      option_map_or (λ e. e.0.time) (least (one_list net n).pending) (time_after n)
+
+  module _ (i : ℕ) where
+    -- how many packets wait at interface i after n events, behind the one that it transmits
+    abbrev pub waiting_after : ℕ → ℕ
+    waiting_after n = length (waiting_of ((one_list net n).port i).busy)
+
+    -- the most that waited at one time, after `first` events and from then on up to `last`
+    abbrev pub longest_queue : (first last : ℕ) → ℕ
+    longest_queue first last = greatest_of waiting_after first (last - first)
+
+    -- for how many nanoseconds packets waited, all together, up to event n: between two events
+    -- as many wait as after the first of them
+    abbrev pub waited_to : ℕ → ℕ
+    waited_to zero = 0
+    waited_to (suc n) = waited_to n + waiting_after n * (time_after (suc n) - time_after n)
+
+    -- and up to a time, before which n events are
+    abbrev pub waited_before : (time n : ℕ) → ℕ
+    waited_before time n = waited_to n + waiting_after n * (time - time_after n)

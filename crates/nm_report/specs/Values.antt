@@ -1,0 +1,61 @@
+-- The values of interfaces as comma-separated values.
+use Rattle.std.specs.Prelude.{◌≡◌, ◌⊎◌, ℕ, suc, List, [], ◌∷◌, ◌++◌, codes, decimal}
+use Rattle.nm_model.specs.Run.{one_list}
+use Rattle.nm_topology.specs.PartValues.{IfaceValue}
+use Rattle.nm_topology.specs.TopologyValue.{TopologyValue}
+use Rattle.nm_sim.specs.Network.{net_of}
+use Rattle.nm_measure.specs.Amounts.{drops_of, iface_traffic_of}
+use Rattle.nm_measure.specs.Busy.{busy_before}
+use Rattle.nm_measure.specs.Lines.{EndsLine}
+use Rattle.nm_measure.specs.Queues.{longest_queue}
+use Rattle.nm_measure.specs.declared.amounts.IfaceTraffic.{IfaceTraffic}
+
+-- whole lines, or nothing
+abbrev pub AreWholeLines : List ℕ → Type 0
+AreWholeLines text = (text ≡ []) ⊎ EndsLine text
+
+-- a line: what kind of thing has the value, its name, which measure it is, and the value
+abbrev pub value_line : (kind name measure : List ℕ) → ℕ → List ℕ
+value_line kind name measure value =
+    kind ++ codes "," ++ name ++ codes "," ++ measure ++ codes "," ++ decimal value ++ codes "\n"
+
+-- of an interface
+abbrev pub iface_line : (name measure : List ℕ) → ℕ → List ℕ
+iface_line name measure value = value_line (codes "interface") name measure value
+
+-- how much came to it and went from it
+abbrev pub traffic_lines : List ℕ → IfaceTraffic → List ℕ
+traffic_lines name x =
+    iface_line name (codes "packets_in") x.came.packets
+    ++ iface_line name (codes "octets_in") x.came.octets
+    ++ iface_line name (codes "packets_out") x.went.packets
+    ++ iface_line name (codes "octets_out") x.went.octets
+
+-- how many packets were dropped at its queue, how many waited there at most at one time, and for how
+-- many nanoseconds it transmitted
+abbrev pub use_lines : List ℕ → (dropped longest busy : ℕ) → List ℕ
+use_lines name dropped longest busy =
+    iface_line name (codes "dropped") dropped
+    ++ iface_line name (codes "longest_queue") longest
+    ++ iface_line name (codes "busy_nanoseconds") busy
+
+module _ (t : TopologyValue) (events : ℕ) where
+  -- the values of interface i of this name after so many events of the one event list
+  abbrev pub iface_values : ℕ → List ℕ → List ℕ
+  iface_values i name =
+      traffic_lines name (iface_traffic_of i (one_list (net_of t) events).records)
+      ++ use_lines name (drops_of i (one_list (net_of t) events)) (longest_queue (net_of t) i 0 events)
+      (busy_before (net_of t) i t.stop (one_list (net_of t) events).records)
+
+  -- of interfaces from number i on
+  abbrev pub all_values : ℕ → List IfaceValue → List ℕ
+  all_values i [] = []
+  all_values i (x ∷ xs) = iface_values i x.name ++ all_values (suc i) xs
+
+  -- the lines of all interfaces, in the order of the topology's text, between others
+  pub record HaveValues (text : List ℕ) : Type 0 where
+    pub front : List ℕ
+    pub rest : List ℕ
+    pub before : AreWholeLines front
+    pub after : EndsLine rest
+    pub is : text ≡ front ++ all_values 0 t.ifaces ++ rest
