@@ -23,7 +23,7 @@ CALLS = {**TOOLS, "dev/check/network": ["tools/networks"], "dev/check/tutorial":
          "dev/deep": ["dev/check", "dev/attack", "dev/compare"]}
 # Targets whose packages are those of the others that they call.
 OF_OTHERS = ("deep",)
-FORMATS = "docs/FORMATS.md"
+NETWORKS = "docs/NETWORKS.md"
 HELP = re.compile(r"^  make(?: ([a-z-]+))?( \*)?(?= )")
 
 
@@ -154,11 +154,11 @@ def table():
 
 
 def check_pages(report):
-    """README says the versions of Python that `make help` says, and FORMATS what tools/network needs."""
+    """README says the versions of Python that `make help` says, and NETWORKS what tools/network needs."""
     readme, helped = here.read("README.md"), here.read("Makefile")
     python, packages = needs_of("tools/network")
     for word in (f"Python {version(python)} or later", *packages):
-        report.note(word in here.read(FORMATS), f"{FORMATS}: it does not name {word}, which tools/network needs")
+        report.note(word in here.read(NETWORKS), f"{NETWORKS}: it does not name {word}, which tools/network needs")
     for python in (LEAST, max(NEWER.values())):
         for name, text in (("README.md", readme), ("make help", helped)):
             is_there = re.search(rf"\b{re.escape(version(python))} or later", text)

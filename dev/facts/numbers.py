@@ -43,6 +43,15 @@ nm_base/limits MAX_REPLICAS: and REPLICAS 1 or #,
 nm_base/limits MAX_PARTITION: over TCP, PARTITION 0 to # and
 nm_run/sides OWN_EVENTS: does up to # events after each poll
 nm_replica/limits MERGE_POLLS: merge what the other knows after every # polls
+nm_base/limits MAX_SCRIPT_STEPS: each step past the first #;
+nm_check/faults MAX_FAULTS: each other table follows, at most # and
+nm_paths/path DEFAULT_TIME_TO_LIVE: sends to ADDRESS with a time to live of #:
+nm_measure/spread EXACT_ROWS: while a source has up to # different delays
+nm_measure/spread KEPT_BITS: rounded down to its # highest bits
+nm_series/buckets MOST_ROWS: A source takes at most # rows
+nm_series/steps MAX_ROWS: More than # rows are refused
+nm_base/limits MAX_INPUT_OCTETS: It may have # octets; one more
+docs/PROTOCOL.md
 nm_transport/limits PERIOD_MILLISECONDS: in periods of # ms,
 nm_policy/limits REST_PERIODS: is called again # ms later
 nm_policy/limits RECALL_PERIODS s: calls once more, since the last Bye may have been lost, and then once # second
@@ -58,14 +67,6 @@ nm_base/limits MAX_BODY_OCTETS: the length is 0 or above #
 nm_frames/format HELLO_OCTETS: SHA-256 of the topology text | # |
 nm_frames/format HAVE_OCTETS: u64 number of messages held | # |
 nm_frames/format NULL_OCTETS: arrive at `clock` or later | # |
-nm_base/limits MAX_SCRIPT_STEPS: each step past the first #;
-nm_check/faults MAX_FAULTS: each other table follows, at most # and
-nm_paths/path DEFAULT_TIME_TO_LIVE: sends to ADDRESS with a time to live of #:
-nm_measure/spread EXACT_ROWS: while a source has up to # different delays
-nm_measure/spread KEPT_BITS: rounded down to its # highest bits
-nm_series/buckets MOST_ROWS: A source takes at most # rows
-nm_series/steps MAX_ROWS: More than # rows are refused
-nm_base/limits MAX_INPUT_OCTETS: It may have # octets; one more
 docs/ARCHITECTURE.md
 nm_forward/counter COUNTERS: There are # counters
 """

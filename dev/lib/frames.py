@@ -1,4 +1,4 @@
-"""The frames of a connection (docs/FORMATS.md, Frames): written, and read as far as their kinds and numbers."""
+"""The frames of a connection (docs/PROTOCOL.md, Frames): written, and read as far as their kinds and numbers."""
 
 import struct
 from collections import namedtuple

@@ -90,7 +90,7 @@ def do_show(words):
 def parser():
     """What the words mean."""
     top = argparse.ArgumentParser(
-        prog="network", description="Makes topology texts for nullsim; docs/FORMATS.md says more. What was chosen is "
+        prog="network", description="Makes topology texts for nullsim; docs/NETWORKS.md says more. What was chosen is "
                                     "said on standard error.", allow_abbrev=False
     )
     some = top.add_subparsers(dest="word", required=True, metavar="WORD")

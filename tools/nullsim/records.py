@@ -151,7 +151,7 @@ class FlowName:
 
 @dataclass(frozen=True)
 class Flow(Fates, FlowName):
-    """What became of the packets of a flow, over all its sources (docs/FORMATS.md)."""
+    """What became of the packets of a flow, over all its sources (docs/NETWORKS.md)."""
 
     answered: int
     least_delay: int

@@ -1,4 +1,4 @@
-//! What a peer says over a whole connection, as the frames of docs/FORMATS.md.
+//! What a peer says over a whole connection, as the frames of docs/PROTOCOL.md.
 
 use nm_fixtures::{SPLIT, ZEROS};
 use nm_topology::Topology;
