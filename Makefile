@@ -166,7 +166,7 @@ install: bin/nullsim
 	@install -D -m 644 -t '$(TOOLS)/nullsim' tools/nullsim/*.py
 	@install -d '$(PYTHON)' && ln -sfn ../../../share/nullsim/tools/nullsim '$(PYTHON)/nullsim'
 	@for tool in launch network page plot; do ln -sf ../share/nullsim/tools/$$tool '$(INSTALLED)'/bin/nullsim-$$tool; done
-	@install -D -m 644 -t '$(DOCUMENTS)' README.md LICENSE
+	@install -D -m 644 -t '$(DOCUMENTS)' README.md LICENSE CHANGELOG.md CITATION.cff
 	@install -D -m 644 -t '$(DOCUMENTS)/docs' docs/*.md
 	@install -D -m 644 -t '$(DOCUMENTS)/docs/pictures' docs/pictures/*
 	@install -D -m 644 -t '$(DOCUMENTS)/examples' examples/*
