@@ -28,8 +28,9 @@ def of_flows(network: Network) -> Measures:
 
 
 def numbers(row) -> list[tuple[str, int]]:
-    """The measures of a record."""
-    return [(measure, value) for measure, value in dataclasses.asdict(row).items() if isinstance(value, int)]
+    """The measures of a record; the number of a source is its name."""
+    return [(measure, value) for measure, value in dataclasses.asdict(row).items()
+            if isinstance(value, int) and measure != "source"]
 
 
 def of_report(network: Network) -> Measures:
