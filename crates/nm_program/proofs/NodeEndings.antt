@@ -1,7 +1,7 @@
 -- What is said of a replica that is served.
 use Rattle.std.proofs.Common.{◌≡◌, ◌⊎◌, ℕ, List, Option, Result, Ok, Err, IfOk, inl, inr, refl, subst}
 use Rattle.nm_command.specs.declared.status.Status.{Status}
-use Rattle.nm_command.specs.declared.status.Status.TheVariants.{File, Memory}
+use Rattle.nm_command.specs.declared.status.Status.TheVariants.{File, Memory, Stalled}
 use Rattle.nm_topology.specs.Topology.{topology_of}
 use Rattle.nm_topology.specs.TopologyValue.{TopologyValue}
 use Rattle.nm_book.specs.Book.{BookValue, state_of}
@@ -54,3 +54,9 @@ module _ {V E : Type 0} (items : V → List ℕ) (status_of : V → Status) (t :
 pub stops_writing : (before after : Option Files) (status : Status) → (status ≡ File) ⊎ (status ≡ Memory) → StopsNode before after status
 stops_writing before after status (inl file) = inl file
 stops_writing before after status (inr memory) = inr (inl memory)
+
+-- a replica that is not done, whose files have no names
+pub stops_serving : (before after : Option Files) (status : Status) → after ≡ before → (status ≡ File) ⊎ (status ≡ Memory) ⊎ (status ≡ Stalled) → StopsNode before after status
+stops_serving before after status same (inl file) = inl file
+stops_serving before after status same (inr (inl memory)) = inr (inl memory)
+stops_serving before after status same (inr (inr stalled)) = inr (inr (stalled, same))
