@@ -183,7 +183,8 @@ restarts.
 ];
 
 /// The version, and what the program reads.
-const VERSION: &str = "nullsim 1.0.0: topologies of formats 1 and 2, sessions of versions 1 and 2\n";
+const VERSION: &str =
+    "nullsim 1.0.0: topologies of formats 1 and 2, sessions of versions 1 and 2\n";
 
 /// More of a word, if there is such a word.
 fn more_of(word: &str) -> Option<&'static str> {

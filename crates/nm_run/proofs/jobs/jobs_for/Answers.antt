@@ -53,7 +53,7 @@ returns-clause-looked g c = λ few.
     let watched = c.loop-number.watched.items in
     let n = c.loop-number.number in
     let all = λ (past : length watched ≤ n). all_by_place WasLookedAt watched
-        (λ k a is. c.loop-number.invariant.looked k a (omega (arith, past, get_is_within watched k a is)) is) in
+    (λ k a is. c.loop-number.invariant.looked k a (omega (arith, past, get_is_within watched k a is)) is) in
     elim c.loop-number-test.branch [
       | else-loop-number-test w ↦
           let end : length c.args.threaded.now.books.now ≤ n = search rules in
