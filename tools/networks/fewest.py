@@ -1,9 +1,9 @@
 """Partitions with few channels, for networks of which the cut for even work has more channels than there may be.
 
-What is cut is then a graph whose edges weigh as many as the links that they are, so that the cheapest cut has the fewest
-channels. Parts may be as uneven as it takes: the first of some bounds is taken whose cut has few enough channels, or
-else the cut with the fewest, whose nodes are then moved one by one to the part with which most of their links join
-them.
+What is cut is then a graph whose edges weigh as many as the links that they are, so that the cheapest cut has the
+fewest channels. Parts may be as uneven as it takes: the first of some bounds is taken whose cut has few enough
+channels, or else the cut with the fewest, whose nodes are then moved one by one to the part with which most of their
+links join them.
 """
 
 from networks import cutting, limits, weights

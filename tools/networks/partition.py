@@ -26,8 +26,8 @@ def chosen(text, count, by=None):
 
 
 def split(network, found, count, by):
-    """The partition of each node, numbered in the order of the nodes. Where the cut for even work has more channels than
-    there may be, one with fewer is taken."""
+    """The partition of each node, numbered in the order of the nodes. Where the cut for even work has more channels
+    than there may be, one with fewer is taken."""
     parts, how = coarse.cut(network, found, count, by)
     parts = filled(network, found, parts, count)
     even = fewest.channels(network, parts)
