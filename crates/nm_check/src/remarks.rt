@@ -90,8 +90,8 @@ fn push_routes_of(
 /// and the first of them.
 const MAX_ALIKE: usize = 5;
 
-/// Appends the remark of these pieces, or, where there are too many alike, the first one alone, with
-/// how many there are of what.
+/// Appends the remark of these pieces, or, where there are too many alike, the first one alone,
+/// with how many there are of what.
 fn add_alike<'a>(
     alloc: Global,
     remarks: &mut Remarks,
@@ -347,8 +347,8 @@ fn push_unreached(alloc: Global, remarks: &mut Remarks, topology: &Topology) -> 
     Ok(())
 }
 
-/// A text with the remarks behind it: on routes, on sources, on interfaces and on hosts, each in the
-/// order of the topology's text; at most 20, and how many more there are.
+/// A text with the remarks behind it: on routes, on sources, on interfaces and on hosts, each in
+/// the order of the topology's text; at most 20, and how many more there are.
 pub fn with_remarks(
     alloc: Global,
     text: Vec<u8>,

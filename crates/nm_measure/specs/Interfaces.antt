@@ -19,7 +19,6 @@ use Rattle.nm_measure.specs.declared.seen.Seen.{Seen}
 use Rattle.nm_measure.specs.Seen.{IsSeen}
 use Rattle.nm_measure.specs.Usage.{span_after}
 use Rattle.nm_measure.specs.Waiting.{queue_later}
-use Rattle.nm_measure.specs.Waiting.{queue_later}
 
 -- of each interface after n events, the most that waited of late being those since `first` of them
 pub record AreSeen (t : TopologyValue) (first n : ℕ) (all : List Seen) : Type 0 where

@@ -1,7 +1,8 @@
 //! What is seen of all interfaces, event by event.
 
-ghost use Rattle.std.specs.Prelude.{◌≡◌, ◌≢◌, ℕ, suc, ◌-◌, ◌<◌, ◌≤◌, ◌++◌, true, false, List, Some, None};
-ghost use Rattle.std.specs.Prelude.{IfOk, IfSome, Option, length, map, option_map, slice_get};
+ghost use Rattle.std.specs.Prelude.{◌≡◌, ◌≢◌, ℕ, suc, ◌-◌, ◌<◌, ◌≤◌, ◌++◌, true, false, List};
+ghost use Rattle.std.specs.Prelude.{IfOk, IfSome, None, Option, Some, length, map, option_map};
+ghost use Rattle.std.specs.Prelude.{slice_get};
 ghost use Rattle.nm_base.specs.declared.limits.TheConstants.{MAX_PACKET_OCTETS};
 ghost use Rattle.nm_events.specs.Held.{pending_of};
 ghost use Rattle.nm_forward.specs.State.{NodeStateValue};
@@ -10,8 +11,9 @@ ghost use Rattle.nm_topology.specs.TopologyValue.{TopologyValue};
 ghost use Rattle.nm_sim.specs.Effects.{IsPlaceIn};
 ghost use Rattle.nm_sim.specs.Network.{net_of};
 ghost use Rattle.nm_sim.specs.Part.{Represents};
-ghost use Rattle.nm_measure.specs.Interfaces.{AreOwn, AreSeen, HasQueue, HasStarted, IsNext, IsTurn, StartsNone};
-ghost use Rattle.nm_measure.specs.Interfaces.{OneChanges, queue_in, seen_queue, started_record};
+ghost use Rattle.nm_measure.specs.Interfaces.{AreOwn, AreSeen, HasQueue, HasStarted, IsNext};
+ghost use Rattle.nm_measure.specs.Interfaces.{IsTurn, OneChanges, StartsNone, queue_in, seen_queue};
+ghost use Rattle.nm_measure.specs.Interfaces.{started_record};
 ghost use Rattle.nm_measure.specs.Waiting.{queue_later};
 ghost use Rattle.nm_measure.specs.declared.seen.Seen.{Seen as SeenValue};
 
@@ -281,7 +283,8 @@ impl Interfaces {
         ensures octets { 1 ≤ length record.now.packet }
         ensures one { (t : TopologyValue) (s : State (List ℕ) NodeStateValue)
             → Represents pending_of t None part.now s → length self.old.all.items ≡ length t.ifaces
-            → OneChanges record.now.iface (HasStarted (length record.now.packet) record.now.time left
+            → OneChanges record.now.iface
+            (HasStarted (length record.now.packet) record.now.time left
             (queue_in record.now.iface s)) self.old.all.items self.new.all.items }
     {
         let waits = queue_of(part, record.iface);

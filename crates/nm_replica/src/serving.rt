@@ -1,9 +1,8 @@
 //! One poll of a replica, and what follows it.
 
 ghost use Rattle.std.specs.Prelude.{◌%◌, ◌&&◌, ◌+◌, ◌-◌, ◌==◌, ◌||◌, ◌≡◌, ◌⊎◌, IfErr, IfOk};
-ghost use Rattle.std.specs.Prelude.{IfSome};
-ghost use Rattle.std.specs.Prelude.{OnOk, false, if◌then◌else◌, is_some, length, nat_lt, not, position};
-ghost use Rattle.std.specs.Prelude.{true};
+ghost use Rattle.std.specs.Prelude.{IfSome, OnOk, false, if◌then◌else◌, is_some, length, nat_lt};
+ghost use Rattle.std.specs.Prelude.{not, position, true};
 ghost use Rattle.std.specs.Arc.{arc_value};
 ghost use Rattle.nm_base.specs.Count.{saturated};
 ghost use Rattle.nm_policy.specs.Decisions.{are_missing};

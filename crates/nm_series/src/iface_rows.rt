@@ -9,8 +9,9 @@ ghost use Rattle.nm_sim.specs.Network.{net_of};
 ghost use Rattle.nm_measure.specs.Busy.{thousandths_of};
 ghost use Rattle.nm_measure.specs.Measured.{HasRecent};
 ghost use Rattle.nm_measure.specs.Queues.{longest_queue};
-ghost use Rattle.nm_series.specs.Rows.{AreSeenBetween, AreTotals, HadIfaces, IsIfaceStep, counts_text};
-ghost use Rattle.nm_series.specs.Rows.{iface_row, mean_between, mean_in, rows_of, seen_text};
+ghost use Rattle.nm_series.specs.Rows.{AreSeenBetween, AreTotals, HadIfaces, IsIfaceStep};
+ghost use Rattle.nm_series.specs.Rows.{counts_text, iface_row, mean_between, mean_in, rows_of};
+ghost use Rattle.nm_series.specs.Rows.{seen_text};
 
 use crate::cells::{end_row, push_cell};
 use crate::series::{Span, Totals};
