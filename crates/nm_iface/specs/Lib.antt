@@ -1,4 +1,3 @@
-pub mod Octets
 pub mod Transmission
 pub mod PortValue
 pub mod Offers

@@ -1,7 +1,8 @@
 //! Ports: drop-tail queues.
 
 ghost use Rattle.std.specs.Prelude.{◌≡◌, ℕ, ◌+◌, ◌<◌, ◌≤◌, ◌^◌, if◌then◌else◌, List, []};
-ghost use Rattle.std.specs.Prelude.{Option, Some, None, OnOk, IfSome, IsSome, length, true, false};
+ghost use Rattle.std.specs.Prelude.{Option, Some, None, OnOk, IfSome, IsSome, length, sum_by};
+ghost use Rattle.std.specs.Prelude.{true, false};
 ghost use Rattle.std.specs.Option.{option_map};
 ghost use Rattle.nm_base.specs.Count.{saturated};
 ghost use Rattle.nm_base.specs.declared.limits.TheConstants.{MAX_DELAY, MAX_PACKET_OCTETS};
@@ -11,7 +12,7 @@ ghost use Rattle.nm_iface.specs.PortValue.{has_room, takes, with_port};
 ghost use Rattle.nm_iface.specs.Offers.{HasCopy, IsTransmission, handed_back, transmitted_packet};
 ghost use Rattle.nm_iface.specs.Offers.{transmission_in};
 
-use crate::octets::{OctetLimit, may_wait, none_wait, with_fewer, with_more};
+use crate::octets::may_wait;
 use crate::queue_item::QueueItem;
 use crate::transmission::transmission_time;
 use nm_base::{Packet, Time, Twin};
@@ -59,12 +60,14 @@ impl Offered {
 #[derive(Drop)]
 pub struct Port {
     limit: u16,
-    octets: Option<OctetLimit>,
+    octet_limit: Option<u32>,
     rate: u64,
     delay: u64,
     /// When the transmission under way completes.
     busy_until: Option<Time>,
     waiting: VecDeque<QueueItem>,
+    /// How many octets these packets have.
+    waiting_octets: u32,
     dropped: u64,
     /// Whether what it transmits is recorded: then all that waits has its copy.
     recorded: bool,
@@ -75,14 +78,14 @@ impl Model for Port {
     ghost use Rattle.std.specs.Prelude.{map, option_map, sum_by, true};
     ghost use Rattle.std.specs.VecDeque.{deque_len, deque_capacity};
     ghost use Rattle.std.specs.Option.{IsSome};
-    ghost use Rattle.nm_base.specs.declared.limits.TheConstants.{MAX_DELAY, MAX_RATE};
-    ghost use Rattle.nm_iface.specs.Octets.{HasCounted, most_of};
+    ghost use Rattle.nm_base.specs.declared.limits.TheConstants.{MAX_DELAY, MAX_PACKET_OCTETS};
+    ghost use Rattle.nm_base.specs.declared.limits.TheConstants.{MAX_RATE};
     ghost use Rattle.nm_iface.specs.PortValue.{PortValue};
 
     ghost Value = { PortValue };
 
     ghost view = { λ p. record {
-      limit = record { packets = p.limit; octets = most_of p.octets };
+      limit = record { packets = p.limit; octets = p.octet_limit };
       rate = p.rate;
       delay = p.delay;
       busy = option_map (λ t. record {
@@ -96,7 +99,8 @@ impl Model for Port {
 
     ghost invariant = { λ p. (1 ≤ p.rate) × (p.rate ≤ MAX_RATE) × (p.delay ≤ MAX_DELAY)
         × (p.busy_until ≡ None → p.waiting.items ≡ [])
-        × HasCounted (sum_by length (map (λ w. w.packet) p.waiting.items)) p.octets
+        × (p.waiting_octets ≡ sum_by length (map (λ w. w.packet) p.waiting.items))
+        × All (λ w. length w.packet ≤ MAX_PACKET_OCTETS) p.waiting.items
         × IfSome p.busy_until (λ t. t < 2 ^ 51)
         × (p.recorded ≡ true → All (λ w. IsSome w.copy) p.waiting.items) };
 }
@@ -123,11 +127,12 @@ impl Port {
     {
         Port {
             limit,
-            octets: none_wait(octet_limit),
+            octet_limit,
             rate,
             delay,
             busy_until: None,
             waiting: VecDeque::new(alloc),
+            waiting_octets: 0,
             dropped: 0,
             recorded: true,
         }
@@ -252,6 +257,7 @@ impl Port {
     #[inline(always)]
     fn wait(&mut self, octets: usize, item: QueueItem)
         requires octets { octets ≡ length item.packet }
+        requires small { octets ≤ MAX_PACKET_OCTETS }
         requires busy { IsSome self.old.busy }
         requires limit { has_room self.old.limit (waiting_of self.old.busy) item.packet ≡ true }
         requires room { 1 ≤ self.old.room }
@@ -260,7 +266,7 @@ impl Port {
             (takes self.old.rate) 0 item.packet self.old.dropped self.old.busy).0 self.new.room }
         ensures left { self.old.room ≤ self.new.room + 1 }
     {
-        self.octets = with_more(self.octets, octets);
+        self.waiting_octets += octets as u32;
         self.waiting.push_back(item).unwrap();
     }
 
@@ -271,7 +277,8 @@ impl Port {
         ensures { (packet : List ℕ) → length packet ≡ octets
             → result ≡ has_room self.now.limit (waiting_of self.now.busy) packet }
     {
-        self.waiting.len() < usize::from(self.limit) && may_wait(self.octets, octets)
+        self.waiting.len() < usize::from(self.limit)
+            && may_wait(self.octet_limit, self.waiting_octets, octets)
     }
 
     /// Whether what it transmits is recorded.
@@ -323,7 +330,7 @@ impl Port {
     {
         match self.waiting.pop_front() {
             Some(item) => {
-                self.octets = with_fewer(self.octets, item.packet.octet_count());
+                self.waiting_octets -= item.packet.octet_count() as u32;
                 let start = transmission(self.rate, self.delay, now, item);
                 self.busy_until = Some(start.completes);
                 Some(start)
@@ -349,6 +356,13 @@ impl Port {
         ensures { result ≡ length (waiting_of self.now.busy) }
     {
         self.waiting.len()
+    }
+
+    /// How many octets these packets have.
+    pub fn waiting_octets(&self) -> u32
+        ensures { result ≡ sum_by length (waiting_of self.now.busy) }
+    {
+        self.waiting_octets
     }
 
     /// How many packets were dropped. It stops at the greatest `u64`.

@@ -17,7 +17,7 @@ use Rattle.nm_measure.specs.declared.seen.Seen.{Seen}
 use Rattle.nm_measure.specs.Busy.{busy_before, busy_share, part_before}
 use Rattle.nm_measure.specs.Interfaces.{AreSeen}
 use Rattle.nm_measure.specs.Measured.{IsMeasuredBefore, MeasuredValue}
-use Rattle.nm_measure.specs.Queues.{time_after, waited_before}
+use Rattle.nm_measure.specs.Queues.{in_octets, in_packets, time_after, waited_before}
 use Rattle.nm_measure.specs.Usage.{IsUsed, part_from, share_at}
 use Rattle.nm_measure.specs.Waited.{waited_at}
 use Rattle.nm_measure.proofs.Seeing.{waited_up_to}
@@ -60,8 +60,11 @@ module _ (t : TopologyValue) (until : ℕ) (m : MeasuredValue) (h : IsMeasuredBe
   late : time_after (net_of t) h.events ≤ until
   late = time_up_to (net_of t) until h.events h.over.first
 
-  pub waited_by : waited_at x.queue.waited x.queue.waiting x.queue.since until ≡ min (waited_before (net_of t) i until h.events) (2 ^ 128 - 1)
-  waited_by = waited_up_to (net_of t) i h.first h.events until x.queue (h.seen.each i x at).0.queue late
+  pub packets_waited : waited_at x.queue.packets.waited x.queue.packets.waiting x.queue.packets.since until ≡ min (waited_before (net_of t) in_packets i until h.events) (2 ^ 128 - 1)
+  packets_waited = waited_up_to (net_of t) in_packets i h.first h.events until x.queue.packets (h.seen.each i x at).0.queue.packets late
+
+  pub octets_waited : waited_at x.queue.octets.waited x.queue.octets.waiting x.queue.octets.since until ≡ min (waited_before (net_of t) in_octets i until h.events) (2 ^ 128 - 1)
+  octets_waited = waited_up_to (net_of t) in_octets i h.first h.events until x.queue.octets (h.seen.each i x at).0.queue.octets late
 
   pub busy_by : part_from x.usage.starts x.usage.busy x.usage.last_busy until ≡ busy_before (net_of t) i until (one_list (net_of t) h.events).records
   busy_by = let s = h.stops in busy_is (net_of t) i t.stop (time_after (net_of t) h.events) until x.usage.busy x.usage.last_busy x.usage.starts

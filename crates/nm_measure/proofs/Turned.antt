@@ -2,7 +2,6 @@
 use Rattle.std.proofs.Common.{◌≡◌, ◌≢◌, ℕ, suc, ◌<◌, true, List, length, Option, Some, None, slice_get, refl, sym, ap, ◌∙◌, arith, ⊎_elim}
 use Rattle.std.specs.Option.{IfSome}
 use Rattle.std.proofs.lemmas.Option.{slice_get_cases, slice_get_within}
-use Rattle.nm_base.specs.Count.{saturated}
 use Rattle.nm_base.specs.declared.event.Event.{Event}
 use Rattle.nm_base.specs.declared.key.Key.{Key}
 use Rattle.nm_base.specs.declared.key.Place.{Place}
@@ -13,7 +12,6 @@ use Rattle.nm_forward.specs.State.{NodeStateValue}
 use Rattle.nm_model.specs.EventList.{least}
 use Rattle.nm_model.specs.Network.{IsNet, Net, node_of}
 use Rattle.nm_model.specs.Orderly.{IsOrderly}
-use Rattle.nm_model.specs.Port.{Port, waiting_of}
 use Rattle.nm_model.specs.Run.{State, one_list}
 use Rattle.nm_model.proofs.Keys.{least_has}
 use Rattle.nm_model.proofs.ListLemmas.{same_number}
@@ -22,7 +20,7 @@ use Rattle.nm_topology.specs.TopologyValue.{TopologyValue}
 use Rattle.nm_sim.specs.Network.{net_of}
 use Rattle.nm_sim.specs.Part.{PartValue, Represents}
 use Rattle.nm_measure.specs.declared.seen.Seen.{Seen}
-use Rattle.nm_measure.specs.Interfaces.{AreOwn, AreSeen, IsNext, IsTurn, queue_in, seen_queue}
+use Rattle.nm_measure.specs.Interfaces.{AreOwn, AreSeen, IsNext, IsTurn, queue_in, seen_queue, waits_at}
 use Rattle.nm_measure.proofs.Turns.{completion_is, port_beside_changed, port_beside_completed, port_of_another}
 
 -- an event happens at the place of its key
@@ -33,28 +31,23 @@ event_at net n e first orderly q at = sym (placed_of net (λ q. true) (one_list 
 module _ (t : TopologyValue) (first n now : ℕ) (place : Place) (p : PartValue Held) (old : List Seen) (seen : AreSeen t first n old)
     (orderly : IsOrderly (net_of t) (λ q. true) (one_list (net_of t) n)) (next : IsNext t n now place p) where
   as_seen : (i : ℕ) (x : Seen) → slice_get old i ≡ Some x → seen_queue x ≡ queue_in i (one_list (net_of t) n)
-  as_seen i x at = let q = (seen.each i x at).0.queue in (λ k. (q.waiting k, q.dropped k))
-
-  port_queue : Port (List ℕ) → ℕ × ℕ
-  port_queue w = (length (waiting_of w.busy), saturated w.dropped)
+  as_seen i x at = let q = (seen.each i x at).0.queue in (λ k. record { packets = q.packets.waiting k; octets = q.octets.waiting k; dropped = q.dropped k })
 
   -- one that is not as it was seen
   pub turn_found : (g : ℕ) (x : Seen) → slice_get old g ≡ Some x → queue_in g (one_list (net_of t) (suc n)) ≢ seen_queue x → IsTurn t n (Some g)
-  unfolding port_queue
   turn_found g x at changed = λ i within other.
-      ap port_queue (port_beside_changed (net_of t) n next.event next.first g (λ same. changed (ap port_queue same ∙ sym (as_seen g x at))) i (λ e. other (ap Some (sym e))))
+      ap waits_at (port_beside_changed (net_of t) n next.event next.first g (λ same. changed (ap waits_at same ∙ sym (as_seen g x at))) i (λ e. other (ap Some (sym e))))
 
   -- all of its node are
   pub turn_none : (network : IsNet (net_of t)) (node : ℕ) → node_of (net_of t) place ≡ node
       → ((i : ℕ) (x : Seen) → i < length t.ifaces → (net_of t).owner i ≡ node → slice_get old i ≡ Some x → queue_in i (one_list (net_of t) (suc n)) ≡ seen_queue x)
       → IsTurn t n None
-  unfolding port_queue
   turn_none network node at same = λ i within other. ⊎_elim
       (λ own. ⊎_elim
       (λ g. same i g.0 within own g.2 ∙ as_seen i g.0 g.2)
       (λ g. absurd (let c = seen.count in omega (arith, g.0, within, c)))
       ((slice_get_cases old i).1))
-      (λ apart. ap port_queue (port_of_another (net_of t) n next.event next.first network i
+      (λ apart. ap waits_at (port_of_another (net_of t) n next.event next.first network i
       (λ e. apart (e ∙ ap (node_of (net_of t)) (event_at (net_of t) n next.event next.first orderly place next.at_place) ∙ at))))
       (same_number ((net_of t).owner i) node)
 
@@ -72,7 +65,6 @@ module _ (t : TopologyValue) (first n now : ℕ) (place : Place) (p : PartValue 
 
   -- that of a completion
   pub turn_completed : (i : ℕ) → place ≡ Complete i → IsTurn t n (Some i)
-  unfolding port_queue
   turn_completed i at = λ j within other.
-      ap port_queue (port_beside_completed (net_of t) n next.event next.first i
+      ap waits_at (port_beside_completed (net_of t) n next.event next.first i
       (completion_is (net_of t) n next.event next.first orderly i (next.at_place ∙ at)) j (λ e. other (ap Some (sym e))))

@@ -2,7 +2,6 @@
 use Rattle.std.proofs.Common.{◌≡◌, ◌≢◌, ℕ, suc, ◌+◌, ◌-◌, ◌^◌, ◌<◌, ◌≤◌, max, min, List, [], ◌∷◌, ◌++◌, length, drop, Option, Some, None, slice_get, inl, refl, sym, ap, ◌∙◌, subst, arith, ⊎_elim, append-nil, length-append}
 use Rattle.std.proofs.Math.Seq.{drop-append_seam}
 use Rattle.std.proofs.lemmas.Option.{slice_get_cases, slice_get_within}
-use Rattle.nm_base.specs.Count.{saturated}
 use Rattle.nm_base.specs.declared.event.Event.{Event}
 use Rattle.nm_base.specs.declared.key.Key.{Key}
 use Rattle.nm_base.specs.declared.key.Place.{Place}
@@ -13,7 +12,6 @@ use Rattle.nm_forward.specs.State.{NodeStateValue}
 use Rattle.nm_iface.specs.Transmission.{transmission_time}
 use Rattle.nm_model.specs.EventList.{least}
 use Rattle.nm_model.specs.Network.{IsNet}
-use Rattle.nm_model.specs.Port.{waiting_of}
 use Rattle.nm_model.specs.Run.{Effect, in_record, one_list, out_record}
 use Rattle.nm_model.specs.RunLaws.{KeysRise}
 use Rattle.nm_model.specs.Trace.{passed}
@@ -24,7 +22,7 @@ use Rattle.nm_sim.specs.Network.{far_of, net_of}
 use Rattle.nm_sim.specs.Part.{PartValue}
 use Rattle.nm_measure.specs.declared.seen.Seen.{Seen}
 use Rattle.nm_measure.specs.Busy.{part_before}
-use Rattle.nm_measure.specs.Interfaces.{AreSeen, HasQueue, HasStarted, IsNext, IsTurn, OneChanges, StartsNone, queue_in, started_record}
+use Rattle.nm_measure.specs.Interfaces.{AreSeen, HasQueue, HasStarted, IsNext, IsTurn, OneChanges, StartsNone, queue_in, started_record, waits_at}
 use Rattle.nm_measure.specs.Queues.{time_after}
 use Rattle.nm_measure.specs.Seen.{IsQueue, IsSeen}
 use Rattle.nm_measure.specs.Usage.{IsUsed}
@@ -69,7 +67,7 @@ module _ (t : TopologyValue) where
     stays i x at same starts =
         let h = seen.each i x at in (
           record {
-            queue = queue_same (net_of t) i first n seen.since x.queue h.0.queue late (ap (λ z. z.0) same) (ap (λ z. z.1) same);
+            queue = queue_same (net_of t) i first n seen.since x.queue h.0.queue late same;
             used = subst (λ l. IsUsed (net_of t) i t.stop (time_after (net_of t) (suc n)) l x.usage.busy x.usage.last_busy x.usage.starts) (sym starts)
                 (used_later (net_of t) i t.stop (time_after (net_of t) n) (time_after (net_of t) (suc n)) late
                 (passed Out i (one_list (net_of t) n).records) x.usage.busy x.usage.last_busy x.usage.starts h.0.used);
@@ -78,10 +76,10 @@ module _ (t : TopologyValue) where
         )
 
     -- its queue is another
-    queue_is : (i : ℕ) (x y : Seen) → slice_get old i ≡ Some x → y.queue ≡ queue_later x.queue (queue_in i (one_list (net_of t) (suc n))).0 (queue_in i (one_list (net_of t) (suc n))).1 now
+    queue_is : (i : ℕ) (x y : Seen) → slice_get old i ≡ Some x → y.queue ≡ queue_later x.queue (queue_in i (one_list (net_of t) (suc n))) now
         → IsQueue (net_of t) i first (suc n) y.queue
     queue_is i x y at is = subst (IsQueue (net_of t) i first (suc n)) (sym is)
-        (queue_on (net_of t) i first n seen.since x.queue (seen.each i x at).0.queue late _ _ now refl refl (sym now_is))
+        (queue_on (net_of t) i first n seen.since x.queue (seen.each i x at).0.queue late _ now refl (sym now_is))
 
     -- it transmits as it did
     used_as : (i : ℕ) (x y : Seen) → y.usage ≡ x.usage → slice_get old i ≡ Some x → passed Out i (one_list (net_of t) (suc n)).records ≡ passed Out i (one_list (net_of t) n).records
@@ -150,7 +148,7 @@ module _ (t : TopologyValue) where
             },
             changes.rate ∙ (seen.each k u at).1,
           ))
-          (λ i u apart at. stays i u at (ap (λ w. (length (waiting_of w.busy), saturated w.dropped)) (port_beside_start (net_of t) n next.event next.first (k, x) starts i apart))
+          (λ i u apart at. stays i u at (ap waits_at (port_beside_start (net_of t) n next.event next.first (k, x) starts i apart))
           (starts_same i (λ a e. subst (λ (z : ℕ × List ℕ). i ≢ z.0) (some_inj (k, x) a (sym starts ∙ e)) apart)))
         where
           used_now : StartsArrive (net_of t) → t.stop < 2 ^ 64 → (x : List ℕ) → effect_of.transmission ≡ Some (k, x) → 1 ≤ length x

@@ -10,15 +10,17 @@ use Rattle.nm_events.specs.Held.{Held, pending_of}
 use Rattle.nm_forward.specs.State.{NodeStateValue}
 use Rattle.nm_iface.specs.Transmission.{transmission_time}
 use Rattle.nm_model.specs.EventList.{least}
-use Rattle.nm_model.specs.Port.{waiting_of}
+use Rattle.nm_model.specs.Port.{Port, waiting_of}
 use Rattle.nm_model.specs.Run.{State, effect, one_list}
 use Rattle.nm_topology.specs.TopologyValue.{TopologyValue}
 use Rattle.nm_sim.specs.Network.{far_of, net_of}
 use Rattle.nm_sim.specs.Part.{PartValue, Represents}
+use Rattle.nm_measure.specs.declared.queue.Waits.{Waits}
 use Rattle.nm_measure.specs.declared.seen.Seen.{Seen}
+use Rattle.nm_measure.specs.Queues.{in_octets, in_packets}
 use Rattle.nm_measure.specs.Seen.{IsSeen}
 use Rattle.nm_measure.specs.Usage.{span_after}
-use Rattle.nm_measure.specs.Waiting.{queue_later}
+use Rattle.nm_measure.specs.Waiting.{queue_later, waits_of}
 
 -- of each interface after n events, the most that waited of late being those since `first` of them
 pub record AreSeen (t : TopologyValue) (first n : ℕ) (all : List Seen) : Type 0 where
@@ -32,13 +34,21 @@ abbrev pub AreOwn : TopologyValue → List (List ℕ) → Type 0
 AreOwn t own = (i : ℕ) → i < length t.ifaces → (l : List ℕ)
     × (slice_get own ((net_of t).owner i) ≡ Some l) × (k : ℕ) × (slice_get l k ≡ Some i)
 
--- how many packets wait at interface i in this state of a run, and how many were dropped
-abbrev pub queue_in : ℕ → State (List ℕ) NodeStateValue → ℕ × ℕ
-queue_in i s = (length (waiting_of (s.port i).busy), saturated (s.port i).dropped)
+-- what waits at a port, and was dropped there
+abbrev pub waits_at : Port (List ℕ) → Waits
+waits_at port = record {
+  packets = in_packets (waiting_of port.busy);
+  octets = in_octets (waiting_of port.busy);
+  dropped = saturated port.dropped;
+}
+
+-- at interface i in this state of a run
+abbrev pub queue_in : ℕ → State (List ℕ) NodeStateValue → Waits
+queue_in i s = waits_at (s.port i)
 
 -- as was seen last
-abbrev pub seen_queue : Seen → ℕ × ℕ
-seen_queue x = (x.queue.waiting, x.queue.dropped)
+abbrev pub seen_queue : Seen → Waits
+seen_queue x = waits_of x.queue
 
 -- the record of a transmission that starts
 abbrev pub started_record : ℕ → Option (ℕ × List ℕ) → Option (Record (List ℕ))
@@ -80,13 +90,12 @@ pub record OneChanges (k : ℕ) (Changes : Seen → Seen → Type 0) (old new : 
   pub others : (i : ℕ) → i ≢ k → slice_get new i ≡ slice_get old i
 
 -- its queue is this now, and nothing else changed
-abbrev pub HasQueue : (now : ℕ) → (waits : ℕ × ℕ) → Seen → Seen → Type 0
-HasQueue now waits x y =
-    (y.queue ≡ queue_later x.queue waits.0 waits.1 now) × (y.usage ≡ x.usage)
+abbrev pub HasQueue : (now : ℕ) → Waits → Seen → Seen → Type 0
+HasQueue now waits x y = (y.queue ≡ queue_later x.queue waits now) × (y.usage ≡ x.usage)
 
 -- a transmission of so many octets started, so long before `stop`, and the queue is this now
-pub record HasStarted (octets now left : ℕ) (waits : ℕ × ℕ) (x y : Seen) : Type 0 where
-  pub queue : y.queue ≡ queue_later x.queue waits.0 waits.1 now
+pub record HasStarted (octets now left : ℕ) (waits : Waits) (x y : Seen) : Type 0 where
+  pub queue : y.queue ≡ queue_later x.queue waits now
   pub rate : y.usage.rate ≡ x.usage.rate
   pub busy : y.usage.busy
       ≡ saturated (x.usage.busy + min (transmission_time x.usage.rate octets) left)

@@ -1,30 +1,48 @@
 -- The queue of an interface, as it is seen event by event.
 use Rattle.std.specs.Prelude.{ℕ, max}
 use Rattle.nm_measure.specs.Waited.{waited_at}
+use Rattle.nm_measure.specs.declared.level.Level.{Level}
 use Rattle.nm_measure.specs.declared.queue.Queue.{Queue}
+use Rattle.nm_measure.specs.declared.queue.Waits.{Waits}
 
 -- nothing waited yet
-abbrev pub queue_empty : Queue
-queue_empty = record {
-  waiting = 0;
-  dropped = 0;
-  longest = 0;
-  recent = 0;
-  waited = 0;
-  since = 0;
-}
+abbrev pub level_empty : Level
+level_empty = record { waiting = 0; longest = 0; recent = 0; waited = 0; since = 0 }
 
--- from now on so many wait, and so many were dropped
-abbrev pub queue_later : Queue → (waiting dropped now : ℕ) → Queue
-queue_later q waiting dropped now = record {
+-- from now on so many wait
+abbrev pub level_later : Level → (waiting now : ℕ) → Level
+level_later l waiting now = record {
   waiting = waiting;
-  dropped = dropped;
-  longest = max q.longest waiting;
-  recent = max q.recent waiting;
-  waited = waited_at q.waited q.waiting q.since now;
+  longest = max l.longest waiting;
+  recent = max l.recent waiting;
+  waited = waited_at l.waited l.waiting l.since now;
   since = now;
 }
 
 -- the most that wait are looked for anew
+abbrev pub level_begun : Level → Level
+level_begun l = record l { recent = l.waiting }
+
+-- nothing waited yet, and nothing was dropped
+abbrev pub queue_empty : Queue
+queue_empty = record { packets = level_empty; octets = level_empty; dropped = 0 }
+
+-- from now on this waits, and was dropped
+abbrev pub queue_later : Queue → Waits → (now : ℕ) → Queue
+queue_later q waits now = record {
+  packets = level_later q.packets waits.packets now;
+  octets = level_later q.octets waits.octets now;
+  dropped = waits.dropped;
+}
+
+-- the most that wait are looked for anew
 abbrev pub queue_begun : Queue → Queue
-queue_begun q = record q { recent = q.waiting }
+queue_begun q = record q { packets = level_begun q.packets; octets = level_begun q.octets }
+
+-- what waits now, and was dropped
+abbrev pub waits_of : Queue → Waits
+waits_of q = record {
+  packets = q.packets.waiting;
+  octets = q.octets.waiting;
+  dropped = q.dropped;
+}

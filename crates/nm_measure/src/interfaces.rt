@@ -17,7 +17,7 @@ ghost use Rattle.nm_measure.specs.Interfaces.{started_record};
 ghost use Rattle.nm_measure.specs.Waiting.{queue_later};
 ghost use Rattle.nm_measure.specs.declared.seen.Seen.{Seen as SeenValue};
 
-use crate::queue::Queue;
+use crate::queue::{Queue, Waits};
 use crate::seen::Seen;
 use crate::usage::Usage;
 use nm_base::{Dir, IfaceNo, NodeNo, Packet, Place, Record, SourceNo, Time};
@@ -111,16 +111,17 @@ pub(crate) fn start_in(part: &Part<HeapList>) -> Option<&Record>
     }
 }
 
-/// How many packets wait at an interface, and how many were dropped there.
-fn queue_of(part: &Part<HeapList>, iface: IfaceNo) -> (usize, u64)
+/// What waits at an interface, and was dropped there.
+fn queue_of(part: &Part<HeapList>, iface: IfaceNo) -> Waits
     ensures { (t : TopologyValue) (s : State (List ℕ) NodeStateValue)
         → Represents pending_of t None part.now s → iface < length t.ifaces
         → result ≡ queue_in iface s }
 {
-    (
-        part.waiting(iface).unwrap_or(0),
-        part.dropped(iface).unwrap_or(0),
-    )
+    Waits {
+        packets: part.waiting(iface).unwrap_or(0) as u64,
+        octets: u64::from(part.waiting_octets(iface).unwrap_or(0)),
+        dropped: part.dropped(iface).unwrap_or(0),
+    }
 }
 
 /// The node of a source.
@@ -271,7 +272,7 @@ impl Interfaces {
         if place >= self.all.len() {
             return false;
         }
-        let grows = waits.0 > self.all[place].queue.waiting();
+        let grows = waits.packets > self.all[place].queue.packets.waiting();
         self.all[place].change(waits, now);
         grows
     }

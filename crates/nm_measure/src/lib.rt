@@ -12,6 +12,7 @@ mod flows;
 mod guesses;
 mod interfaces;
 mod lane;
+pub mod level;
 pub mod lines;
 pub mod measured;
 mod measuring;

@@ -7,7 +7,7 @@ ghost use Rattle.nm_measure.specs.Amounts.{iface_traffic_of, drops_of};
 ghost use Rattle.nm_measure.specs.Busy.{busy_before, busy_share};
 ghost use Rattle.nm_measure.specs.Flows.{Balances};
 ghost use Rattle.nm_measure.specs.Measured.{HasRecent, IsMeasuredBefore};
-ghost use Rattle.nm_measure.specs.Queues.{longest_queue, waited_before};
+ghost use Rattle.nm_measure.specs.Queues.{in_octets, in_packets, longest_queue, waited_before};
 ghost use Rattle.nm_sim.specs.Network.{net_of};
 ghost use Rattle.nm_sim.specs.Part.{count_at, drops_at};
 ghost use Rattle.nm_topology.specs.TopologyValue.{TopologyValue};
@@ -31,14 +31,22 @@ use std::alloc::{AllocError, Global};
 use std::marker::Model;
 
 /// A whole network at a time of its run, and what was measured of it: counters, drops, traffic,
-/// queues in packets and busy times are those of the one event list; flows, and the octets that
-/// wait, are what was seen event by event.
+/// queues and busy times are those of the one event list; flows are what was seen event by event.
 #[derive(Drop)]
 pub struct Measured {
     part: Part<HeapList>,
     traffic: Vec<IfaceTraffic>,
     interfaces: Interfaces,
     watched: Watched,
+}
+
+/// For how many nanoseconds packets, and octets, waited at an interface up to a time, all together,
+/// and for how many it transmitted.
+#[derive(Clone, Copy)]
+struct OverTime {
+    waited: u128,
+    octets_waited: u128,
+    busy: u64,
 }
 
 impl Model for Measured {
@@ -102,7 +110,6 @@ impl Measured {
     {
         accepted_topologies_are_in_order(topology); // law: `stop` is within its limit
         self.interfaces.begin_recent();
-        self.watched.begin_recent();
         for done in 0..MAX_PART_STEPS + 1 {
             let Some(key) = self.part.step(alloc, topology, until)? else {
                 return Ok(());
@@ -152,17 +159,25 @@ impl Measured {
         ensures dropped { (t : TopologyValue) (until : ℕ) (m : IsMeasuredBefore t until self.now)
             → result.dropped ≡ drops_of iface (one_list (net_of t) m.events) }
         ensures waited { (t : TopologyValue) (m : IsMeasuredBefore t time self.now)
-            → result.waited ≡ min (waited_before (net_of t) iface time m.events) (2 ^ 128 - 1) }
+            → result.waited
+            ≡ min (waited_before (net_of t) in_packets iface time m.events) (2 ^ 128 - 1) }
+        ensures octets { (t : TopologyValue) (m : IsMeasuredBefore t time self.now)
+            → result.octets_waited
+            ≡ min (waited_before (net_of t) in_octets iface time m.events) (2 ^ 128 - 1) }
         ensures busy { (t : TopologyValue) (m : IsMeasuredBefore t time self.now)
             → result.busy ≡ busy_before (net_of t) iface time
             (one_list (net_of t) m.events).records }
     {
-        let (waited, busy) = self.over_time(iface, time);
+        let OverTime {
+            waited,
+            octets_waited,
+            busy,
+        } = self.over_time(iface, time);
         IfaceTotals {
             traffic: self.traffic[iface.index()],
             dropped: self.part.dropped(iface).unwrap_or(0),
             waited,
-            octets_waited: self.watched.octets_waited(iface, time),
+            octets_waited,
             busy,
         }
     }
@@ -183,44 +198,53 @@ impl Measured {
         }
     }
 
-    /// For how many nanoseconds packets waited at an interface up to this time, all together, and
-    /// for how many it transmitted.
-    fn over_time(&self, iface: IfaceNo, time: Time) -> (u128, u64)
+    /// For how long packets and octets waited at an interface up to this time, and for how long it
+    /// transmitted.
+    fn over_time(&self, iface: IfaceNo, time: Time) -> OverTime
         requires there { iface < length self.now.traffic }
         ensures waited { (t : TopologyValue) (m : IsMeasuredBefore t time self.now)
-            → result.0 ≡ min (waited_before (net_of t) iface time m.events) (2 ^ 128 - 1) }
+            → result.waited
+            ≡ min (waited_before (net_of t) in_packets iface time m.events) (2 ^ 128 - 1) }
+        ensures octets { (t : TopologyValue) (m : IsMeasuredBefore t time self.now)
+            → result.octets_waited
+            ≡ min (waited_before (net_of t) in_octets iface time m.events) (2 ^ 128 - 1) }
         ensures busy { (t : TopologyValue) (m : IsMeasuredBefore t time self.now)
-            → result.1 ≡ busy_before (net_of t) iface time
+            → result.busy ≡ busy_before (net_of t) iface time
             (one_list (net_of t) m.events).records }
     {
         match self.interfaces.get(iface) {
-            Some(seen) => (seen.queue.waited(time), seen.usage.busy_before(time)),
-            None => (0, 0),
+            Some(seen) => OverTime {
+                waited: seen.queue.packets.waited(time),
+                octets_waited: seen.queue.octets.waited(time),
+                busy: seen.usage.busy_before(time),
+            },
+            None => OverTime {
+                waited: 0,
+                octets_waited: 0,
+                busy: 0,
+            },
         }
     }
 
     /// The most packets that waited at an interface at one time since the last advance began, and
     /// the most octets.
     pub fn recent_queue(&self, iface: IfaceNo) -> Amount
-        ensures { (t : TopologyValue) (first : ℕ) → HasRecent t first self.now
-            → iface < length t.ifaces
-            → result.packets ≡ longest_queue (net_of t) iface first self.now.part.steps }
-    {
-        Amount {
-            packets: self.recent_packets(iface),
-            octets: self.watched.recent_octets(iface),
-        }
-    }
-
-    /// The most packets that waited at an interface at one time since the last advance began.
-    fn recent_packets(&self, iface: IfaceNo) -> u64
-        ensures { (t : TopologyValue) (first : ℕ) → HasRecent t first self.now
-            → iface < length t.ifaces
-            → result ≡ longest_queue (net_of t) iface first self.now.part.steps }
+        ensures packets { (t : TopologyValue) (first : ℕ) → HasRecent t first self.now
+            → iface < length t.ifaces → result.packets
+            ≡ longest_queue (net_of t) in_packets iface first self.now.part.steps }
+        ensures octets { (t : TopologyValue) (first : ℕ) → HasRecent t first self.now
+            → iface < length t.ifaces → result.octets
+            ≡ longest_queue (net_of t) in_octets iface first self.now.part.steps }
     {
         match self.interfaces.get(iface) {
-            Some(seen) => seen.queue.recent(),
-            None => 0,
+            Some(seen) => Amount {
+                packets: seen.queue.packets.recent(),
+                octets: seen.queue.octets.recent(),
+            },
+            None => Amount {
+                packets: 0,
+                octets: 0,
+            },
         }
     }
 
@@ -249,10 +273,11 @@ impl Measured {
     /// The most packets that waited at an interface at one time, behind the one that it transmits.
     pub fn longest_queue(&self, iface: IfaceNo) -> u64
         ensures { (t : TopologyValue) (until : ℕ) (m : IsMeasuredBefore t until self.now)
-            → iface < length t.ifaces → result ≡ longest_queue (net_of t) iface 0 m.events }
+            → iface < length t.ifaces
+            → result ≡ longest_queue (net_of t) in_packets iface 0 m.events }
     {
         match self.interfaces.get(iface) {
-            Some(seen) => seen.queue.longest(),
+            Some(seen) => seen.queue.packets.longest(),
             None => 0,
         }
     }

@@ -4,7 +4,7 @@ ghost use Rattle.std.specs.Prelude.{◌≤◌};
 ghost use Rattle.nm_base.specs.declared.limits.TheConstants.{MAX_PACKET_OCTETS};
 ghost use Rattle.nm_measure.specs.Interfaces.{HasQueue, HasStarted};
 
-use crate::queue::Queue;
+use crate::queue::{Queue, Waits};
 use crate::usage::Usage;
 use nm_base::Time;
 
@@ -16,20 +16,20 @@ pub struct Seen {
 }
 
 impl Seen {
-    /// From now on so many packets wait, and so many were dropped.
-    pub(crate) fn change(&mut self, waits: (usize, u64), now: Time)
+    /// From now on this waits, and was dropped.
+    pub(crate) fn change(&mut self, waits: Waits, now: Time)
         ensures { HasQueue now waits self.old self.new }
     {
-        self.queue.change(waits.0, waits.1, now);
+        self.queue.change(waits, now);
     }
 
     /// The transmission of a packet of so many octets starts now, so many nanoseconds before
-    /// `stop`. From now on so many packets wait, and so many were dropped.
-    pub(crate) fn start(&mut self, octets: usize, now: Time, left: u64, waits: (usize, u64))
+    /// `stop`. From now on this waits, and was dropped.
+    pub(crate) fn start(&mut self, octets: usize, now: Time, left: u64, waits: Waits)
         requires { octets ≤ MAX_PACKET_OCTETS }
         ensures { HasStarted octets now left waits self.old self.new }
     {
         self.usage.start(octets, now, left);
-        self.queue.change(waits.0, waits.1, now);
+        self.queue.change(waits, now);
     }
 }

@@ -11,7 +11,6 @@ use crate::lane::Lane;
 use crate::tag::Tag;
 use nm_base::{Dir, IfaceNo, NodeNo, Place, Record, SourceNo, Time};
 use nm_events::HeapList;
-use nm_packet::limits::HEADERS;
 use nm_sim::Part;
 use nm_topology::Topology;
 use nm_topology::traffic::Traffic;
@@ -34,7 +33,6 @@ pub(crate) struct Watched {
 struct Offer {
     node: NodeNo,
     tag: Tag,
-    octets: u64,
     now: Time,
 }
 
@@ -52,38 +50,6 @@ fn octets_of_arrival(part: &Part<HeapList>) -> u64 {
     match part.trace().first() {
         Some(record) => record.packet.octet_count() as u64,
         None => 0,
-    }
-}
-
-/// The octets of the ICMP error that answers the packet of the last event: its own headers, and
-/// what it quotes, which is the packet's header and at most eight octets behind it (RFC 792).
-fn octets_of_error(part: &Part<HeapList>) -> u64 {
-    let Some(record) = part.trace().first() else {
-        return 0;
-    };
-    match record.packet.octets() {
-        [first, _, high, low, ..] => {
-            let header = u64::from(*first % 16) * 4;
-            let total = u64::from(*high) * 256 + u64::from(*low);
-            HEADERS + total.min(header + 8)
-        }
-        _ => 0,
-    }
-}
-
-/// The octets of the packet with this number of a source: of one without a payload 28, those of its
-/// headers.
-fn octets_of_sent(traffic: &Traffic, number: u64) -> u64 {
-    match traffic {
-        Traffic::Cbr(cbr) => HEADERS + u64::from(cbr.flow.size),
-        Traffic::Echo(echo) => HEADERS + u64::from(echo.flow.size),
-        Traffic::Raw(raw) => match raw
-            .packets()
-            .get(usize::try_from(number).unwrap_or(usize::MAX))
-        {
-            Some(sent) => sent.packet.octet_count() as u64,
-            None => 0,
-        },
     }
 }
 
@@ -124,29 +90,6 @@ impl Watched {
             guesses: Guesses::new(alloc, topology.sources().len())?,
             courses,
         })
-    }
-
-    /// The most octets that waited at an interface at one time since that was begun.
-    pub(crate) fn recent_octets(&self, iface: IfaceNo) -> u64 {
-        match self.lanes.get(iface.index()) {
-            Some(lane) => lane.recent_octets(),
-            None => 0,
-        }
-    }
-
-    /// From now on the most octets that wait at one time are looked for anew.
-    pub(crate) fn begin_recent(&mut self) {
-        for lane in &mut self.lanes {
-            lane.begin_recent();
-        }
-    }
-
-    /// For how many nanoseconds octets waited at an interface up to this time, all together.
-    pub(crate) fn octets_waited(&self, iface: IfaceNo, now: Time) -> u128 {
-        match self.lanes.get(iface.index()) {
-            Some(lane) => lane.octets_waited(now),
-            None => 0,
-        }
     }
 
     /// The greatest delay of what arrived of a source since this was asked last.
@@ -259,7 +202,7 @@ impl Watched {
             (Some(courses), Some(tag)) => courses.pass(tag, hop_of(record)),
             _ => Ok(()),
         };
-        lane.send_next(record.packet.octet_count(), record.time);
+        lane.send_next();
         passed
     }
 
@@ -286,30 +229,20 @@ impl Watched {
             },
         )?;
         let told = self.tallies.fate(part, node);
-        let octets = octets_of_arrival(part);
         if let Fate::SentOn = told.fate {
-            let offer = Offer {
-                node,
-                tag,
-                octets,
-                now,
-            };
+            let offer = Offer { node, tag, now };
             return self.see_offer(part, offer, happened);
         }
+        let octets = octets_of_arrival(part);
         self.see_end(&tag, told, Arrival { node, octets, now })?;
-        let offer = match told.fate {
-            Fate::Requested => Offer {
-                node,
-                tag: tag.of_reply(),
-                octets,
-                now,
-            },
-            _ => Offer {
-                node,
-                tag: Tag::of_nobody(),
-                octets: octets_of_error(part),
-                now,
-            },
+        let answer = match told.fate {
+            Fate::Requested => tag.of_reply(),
+            _ => Tag::of_nobody(),
+        };
+        let offer = Offer {
+            node,
+            tag: answer,
+            now,
         };
         self.see_answer(part, offer, happened)
     }
@@ -379,7 +312,6 @@ impl Watched {
         if is_raw || self.tallies.has_originated(part, from.node) {
             let offer = Offer {
                 node: from.node,
-                octets: octets_of_sent(&from.traffic, tag.number),
                 tag,
                 now,
             };
@@ -407,7 +339,7 @@ impl Watched {
             Happened::Waits(iface) => {
                 self.guesses.note(offer.node, &offer.tag, iface);
                 match self.lanes.get_mut(iface.index()) {
-                    Some(lane) => lane.wait(offer.tag, offer.octets, offer.now),
+                    Some(lane) => lane.wait(offer.tag),
                     None => Ok(()),
                 }
             }

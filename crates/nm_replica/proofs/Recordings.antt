@@ -47,9 +47,8 @@ one_out b mid c room some more o r took is there next last =
     ∙ ap {A = List (Record (List ℕ))} (λ z. room ++ z) (sym (one_more (drop b.handed records) n (n + 1) r (at_drop records b.handed n r at) refl)) in
     (n + 1, step ∙ base ∙ moved, text)
 
--- a trace file can say the times of what came into an empty list
-pub handed_times : (b c : BookValue) (room given : List (Record (List ℕ))) → room ≡ [] → HandsOut b room c given → All (λ r. r.time ≤ MAX_TIME) given
-handed_times b c room given none hands =
+pub handed_times : (b c : BookValue) (room given : List (Record (List ℕ))) (cap : ℕ) → room ≡ [] → HandsOut b room cap c given → All (λ r. r.time ≤ MAX_TIME) given
+handed_times b c room given cap none hands =
     let n = hands.takes.0 in
     let records = (state_of b).records in
     subst (All (λ r. r.time ≤ MAX_TIME)) (sym (hands.takes.2 ∙ ap (λ z. z ++ take n (drop b.handed records)) none))

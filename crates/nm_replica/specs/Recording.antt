@@ -9,6 +9,11 @@ use Rattle.nm_files.specs.Files.{FailedAt, FilesTook}
 use Rattle.nm_files.specs.declared.trace_files.FileFault.{FileFault}
 use Rattle.nm_book.specs.Book.{BookValue, state_of}
 use Rattle.nm_shared.specs.Home.{Home, home_of}
+use Rattle.nm_replica.specs.declared.limits.TheConstants.{MAX_HANDED}
+
+-- a book has no record left to hand out
+abbrev pub IsEmptied : BookValue → Type 0
+IsEmptied b = length (state_of b).records ≤ b.handed
 
 -- book b hands out the first n of the records that it keeps, behind those of a list, and is c then
 abbrev pub TakesOut : BookValue → List (Record (List ℕ)) → BookValue → List (Record (List ℕ))
@@ -17,11 +22,20 @@ TakesOut b before c after =
     (n : ℕ) × (c ≡ record b { handed = b.handed + n })
     × (after ≡ before ++ take n (drop b.handed (state_of b).records))
 
+-- it has none left then, or the list has as many as there is room for or may be
+abbrev pub AreAllOut : (room : ℕ) → BookValue → List (Record (List ℕ)) → Type 0
+AreAllOut room c after = IsEmptied c ⊎ (room ≤ length after) ⊎ (MAX_HANDED ≤ length after)
+
 -- and a trace file can say the times of its records
-pub record HandsOut (b : BookValue) (before : List (Record (List ℕ))) (c : BookValue)
+pub record HandsOut (b : BookValue) (before : List (Record (List ℕ))) (room : ℕ) (c : BookValue)
     (after : List (Record (List ℕ))) : Type 0 where
   pub takes : TakesOut b before c after
+  pub all : AreAllOut room c after
   pub times : All (λ r. r.time ≤ MAX_TIME) (state_of b).records
+
+-- a book of this replica, if the counts are exact, was seen to have no record left to hand out
+abbrev pub WasEmptied : (exact : Bool) → Home → Type 0
+WasEmptied exact own = (b : BookValue) × (exact ≡ true → home_of b ≡ own) × IsEmptied b
 
 -- a hand-out of a book: its next n records
 abbrev pub out_of : BookValue × ℕ → List (Record (List ℕ))

@@ -3,7 +3,7 @@
 ghost use Rattle.std.specs.Prelude.{◌≡◌, ◌+◌, length, Some};
 ghost use Rattle.nm_book.specs.Book.{replica_of, safe_of, state_of};
 ghost use Rattle.nm_model.specs.Certificate.{is_done};
-ghost use Rattle.nm_replica.specs.Recording.{HandsOut, TakesOut};
+ghost use Rattle.nm_replica.specs.Recording.{AreAllOut, HandsOut, TakesOut};
 ghost use Rattle.nm_replica.specs.Served.{is_handed_out};
 ghost use Rattle.nm_shared.specs.Growing.{handed_grows, same_grows};
 ghost use Rattle.nm_sim.specs.Network.{net_of};
@@ -59,9 +59,11 @@ impl Act for Stand {
     ghost grows = { λ a b r c h. same_grows b c h.0 };
 }
 
-/// Takes the first records out that are kept, one after another, as many as the list has room for.
+/// Takes the first records out that are kept, one after another, as many as the list has room for,
+/// and at most `MAX_HANDED`.
 fn take_some(book: &mut Book, room: &mut Vec<Record>)
-    ensures { TakesOut book.old room.old.items book.new room.new.items }
+    ensures takes { TakesOut book.old room.old.items book.new room.new.items }
+    ensures all { AreAllOut room.old.cap book.new room.new.items }
 {
     for _ in 0..MAX_HANDED {
         if room.len() >= room.capacity() {
@@ -77,7 +79,8 @@ fn take_some(book: &mut Book, room: &mut Vec<Record>)
 /// Takes the first records out that are kept, as many as the list has room for: all in one go where
 /// it has room for all.
 fn take_out(book: &mut Book, room: Vec<Record>) -> Vec<Record>
-    ensures { TakesOut book.old room.items book.new result.items }
+    ensures takes { TakesOut book.old room.items book.new result.items }
+    ensures all { AreAllOut room.cap book.new result.items }
 {
     let mut room = room;
     if room.is_empty() && book.trace().len() <= room.capacity() {
@@ -112,7 +115,7 @@ pub struct HandOutSome {
 impl Act for HandOutSome {
     type Out = HandedOut;
 
-    ghost does = { λ a b r c. HandsOut b a.room.items c r.records.items
+    ghost does = { λ a b r c. HandsOut b a.room.items a.room.cap c r.records.items
         × (r.is_last ≡ is_handed_out c) };
 
     ghost news = { λ r. Some 0 };

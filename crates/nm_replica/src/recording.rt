@@ -1,7 +1,8 @@
 //! The records of a replica, written to its trace files while it runs.
 
-ghost use Rattle.std.specs.Prelude.{◌≡◌, IfErr, IfOk, OnOk, false, true};
-ghost use Rattle.nm_replica.specs.Recording.{Streamed, Streams, Wrote, WroteAsCounted};
+ghost use Rattle.std.specs.Prelude.{◌≡◌, ◌⊎◌, IfErr, IfOk, OnOk, false, true};
+ghost use Rattle.nm_replica.specs.Recording.{Streamed, Streams, WasEmptied, Wrote};
+ghost use Rattle.nm_replica.specs.Recording.{WroteAsCounted};
 ghost use Rattle.nm_replica.specs.Served.{WasFinished};
 
 use crate::acts::{HandOutSome, HandedOut};
@@ -37,6 +38,7 @@ fn write_some<C: Counts, S: Sink, R: Wait>(
     ensures so_far { IfErr result (λ _. Streamed S.seen C.exact C.home
         files.old.files.items files.new.files.items) }
     ensures last { IfOk result (λ r. r.is_last ≡ true → WasFinished C.exact C.home false) }
+    ensures all { IfOk result (λ r. r.has_more ≡ false → WasEmptied C.exact C.home) }
 {
     let room = Vec::with_capacity(alloc, MAX_HANDED)?;
     let HandedOut { records, is_last } = service.book.act(rt, pass, HandOutSome { room });
@@ -71,6 +73,8 @@ pub(crate) fn write_records<C: Counts, S: Sink, R: Wait>(
     ensures so_far { IfErr result (λ _. Streamed S.seen C.exact C.home
         files.old.files.items files.new.files.items) }
     ensures last { IfOk result (λ r. r.is_last ≡ true → WasFinished C.exact C.home false) }
+    ensures all { IfOk result (λ r. r.has_more ≡ false
+        → (service.now.keeps_records ≡ true) ⊎ (is_left ≡ false) ⊎ WasEmptied C.exact C.home) }
 {
     let mut all = Recorded {
         written: 0,

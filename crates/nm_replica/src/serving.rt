@@ -11,7 +11,7 @@ ghost use Rattle.nm_policy.specs.Laws.{at_first};
 ghost use Rattle.nm_policy.specs.Stays.{leaves, stayed};
 ghost use Rattle.nm_replica.specs.Connections.{AreAllReady, DropsSome, IsNoneReady, WaitsOnce};
 ghost use Rattle.nm_replica.specs.Polls.{KeepsCounts, Waits, failed_waits, is_active, was_cut};
-ghost use Rattle.nm_replica.specs.Recording.{Streamed, Streams, WroteAsCounted};
+ghost use Rattle.nm_replica.specs.Recording.{Streamed, Streams, WasEmptied, WroteAsCounted};
 ghost use Rattle.nm_replica.specs.Seats.{AreKept, StandOnBoard};
 ghost use Rattle.nm_replica.specs.Served.{AllWereFinished, EndsEarly, HasStayed, IsInterrupted};
 ghost use Rattle.nm_replica.specs.Served.{WasFinished, WasSeen};
@@ -19,7 +19,7 @@ ghost use Rattle.nm_replica.specs.Sessions.{first_sessions};
 ghost use Rattle.nm_replica.specs.Sisters.{MergesSister, is_sister_of, replica_name};
 ghost use Rattle.nm_replica.specs.Turns.{ServesAll, ServesTwice, WaitsAndServes, links};
 ghost use Rattle.nm_replica.specs.declared.served.Served.TheVariants.{Net};
-ghost use Rattle.nm_transport.specs.Transport.{elapsed_after};
+ghost use Rattle.nm_transport.specs.Transport.{elapsed_after, has_run_out};
 
 use crate::acts::{Stand, Standing};
 use crate::connections::Connections;
@@ -258,6 +258,23 @@ fn failed_waits(before: u32, waited: Waited) -> Result<u32, Served>
     }
 }
 
+/// Waits, or only looks where more is left to do: what that came to.
+fn wait_once<T: Transport, C: Counts>(
+    service: &Service<'_, C>,
+    transport: &mut T,
+    serving: &Serving<T::Connection>,
+) -> Waited
+    ensures idle { T.elapsed_periods transport.new
+        ≡ elapsed_after (T.elapsed_periods transport.old) (has_run_out result) }
+    ensures asked { T.was_to_wait transport.new ≡ not serving.now.is_busy }
+{
+    let may_wait = !serving.is_busy;
+    note_wait(service, may_wait);
+    let waited = transport.wait(may_wait);
+    note_wait(service, false);
+    waited
+}
+
 /// Waits, or only looks where more is left to do, and takes what came: whether a period was over.
 ///
 /// # Errors
@@ -283,10 +300,7 @@ fn await_transport<T: Transport, C: Counts>(
     ensures kept { KeepsCounts serving.old serving.new }
 {
     serving.connections.dial_all(alloc, transport)?;
-    let may_wait = !serving.is_busy;
-    note_wait(service, may_wait);
-    let waited = transport.wait(may_wait);
-    note_wait(service, false);
+    let waited = wait_once(service, transport, serving);
     serving.failed_waits = failed_waits(serving.failed_waits, waited)?;
     let ran_out = waited.has_run_out();
     serving.connections.pass_poll(transport, ran_out);
@@ -556,9 +570,12 @@ pub(crate) fn poll<C: Counts, S: Sink, T: Transport, R: Wait>(
     ensures news { IfOk result (λ p. is_some p.news
         ≡ ((serving.new.was_done && not serving.old.was_done) || nat_lt 0 p.written)) }
 
-    // The next poll waits only where nothing may have come on any connection.
+    // The next poll waits only where nothing may have come on any connection, and no record is left
+    // to hand out, unless the book keeps them.
     ensures busy { OnOk result (serving.new.is_busy ≡ false
         → IsNoneReady serving.new.connections.open) }
+    ensures records { OnOk result (serving.new.is_busy ≡ false
+        → (service.now.keeps_records ≡ true) ⊎ WasEmptied C.exact C.home) }
 
     // It answers whether the wait ran out, and whether all is done. An early ending is no success.
     ensures idle { IfOk result (λ p. T.elapsed_periods transport.new

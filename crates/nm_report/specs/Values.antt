@@ -7,7 +7,7 @@ use Rattle.nm_sim.specs.Network.{net_of}
 use Rattle.nm_measure.specs.Amounts.{drops_of, iface_traffic_of}
 use Rattle.nm_measure.specs.Busy.{busy_before}
 use Rattle.nm_measure.specs.Lines.{EndsLine}
-use Rattle.nm_measure.specs.Queues.{longest_queue}
+use Rattle.nm_measure.specs.Queues.{in_packets, longest_queue}
 use Rattle.nm_measure.specs.declared.amounts.IfaceTraffic.{IfaceTraffic}
 
 -- whole lines, or nothing
@@ -44,7 +44,7 @@ module _ (t : TopologyValue) (events : ℕ) where
   abbrev pub iface_values : ℕ → List ℕ → List ℕ
   iface_values i name =
       traffic_lines name (iface_traffic_of i (one_list (net_of t) events).records)
-      ++ use_lines name (drops_of i (one_list (net_of t) events)) (longest_queue (net_of t) i 0 events)
+      ++ use_lines name (drops_of i (one_list (net_of t) events)) (longest_queue (net_of t) in_packets i 0 events)
       (busy_before (net_of t) i t.stop (one_list (net_of t) events).records)
 
   -- of interfaces from number i on

@@ -9,8 +9,8 @@ use Rattle.nm_topology.specs.TopologyValue.{TopologyValue}
 use Rattle.nm_sim.specs.Network.{net_of}
 use Rattle.nm_measure.specs.Busy.{thousandths_of}
 use Rattle.nm_measure.specs.Measured.{HasRecent, MeasuredValue}
-use Rattle.nm_measure.specs.Queues.{longest_queue}
-use Rattle.nm_series.specs.Rows.{AreSeenBetween, AreTotals, Had, HadIfaces, IsSeenIn, had, iface_row, mean_between, rows_of}
+use Rattle.nm_measure.specs.Queues.{in_octets, in_packets, longest_queue}
+use Rattle.nm_series.specs.Rows.{AreSeenBetween, AreTotals, Had, HadIfaces, IsSeenIn, had, iface_row, mean_between, rows_of, whole_mean_between}
 use Rattle.nm_series.specs.declared.iface_rows.IfaceSeen.{IfaceSeen}
 
 -- six texts, one behind another
@@ -96,16 +96,20 @@ module _ (m : MeasuredValue) (before after : List IfaceTotals) (time : ℕ) wher
 
   -- one interface more
   pub one_between : (seen : List IfaceSeen) (x : IfaceSeen) (n k : ℕ) (d e : IfaceTotals) → length seen ≡ n → k ≡ n
-      → ((t : TopologyValue) (first : ℕ) → HasRecent t first m → k < length t.ifaces → x.longest ≡ longest_queue (net_of t) k first m.part.steps)
+      → ((t : TopologyValue) (first : ℕ) → HasRecent t first m → k < length t.ifaces
+      → (x.longest ≡ longest_queue (net_of t) in_packets k first m.part.steps) × (x.longest_octets ≡ longest_queue (net_of t) in_octets k first m.part.steps))
       → x.mean ≡ mean_between (get_or before n d).waited (get_or after n e).waited time
+      → x.mean_octets ≡ whole_mean_between (get_or before n d).octets_waited (get_or after n e).octets_waited time
       → x.busy ≡ thousandths_of ((get_or after n e).busy - (get_or before n d).busy) time
       → AreSeenBetween m before after time seen → AreSeenBetween m before after time (seen ++ x ∷ [])
-  one_between seen x n k d e count same longest mean busy h = record {
+  one_between seen x n k d e count same longest mean octets busy h = record {
     longest = λ t first i y recent there at. ⊎_elim
         (λ old. h.longest t first i y recent there old)
         (λ new.
         let is : k ≡ i = same ∙ sym count ∙ sym new.0 in
-        ap (λ (z : IfaceSeen). z.longest) new.1 ∙ subst (λ j. j < length t.ifaces → x.longest ≡ longest_queue (net_of t) j first m.part.steps) is (longest t first recent) there)
+        let of_it = subst (λ j. j < length t.ifaces → (x.longest ≡ longest_queue (net_of t) in_packets j first m.part.steps)
+        × (x.longest_octets ≡ longest_queue (net_of t) in_octets j first m.part.steps)) is (longest t first recent) there in
+        (ap (λ (z : IfaceSeen). z.longest) new.1 ∙ of_it.0, ap (λ (z : IfaceSeen). z.longest_octets) new.1 ∙ of_it.1))
         (pushed seen x i y at);
     over_time = λ i y b a at was is. ⊎_elim
         (λ old. h.over_time i y b a old was is)
@@ -114,6 +118,7 @@ module _ (m : MeasuredValue) (before after : List IfaceTotals) (time : ℕ) wher
         let b_is : get_or before n d ≡ b = get_or_from_slice_get before n b d (ap (slice_get before) here ∙ was) in
         let a_is : get_or after n e ≡ a = get_or_from_slice_get after n a e (ap (slice_get after) here ∙ is) in (
           ap (λ (z : IfaceSeen). z.mean) new.1 ∙ mean ∙ (λ j. mean_between (b_is j).waited (a_is j).waited time),
+          ap (λ (z : IfaceSeen). z.mean_octets) new.1 ∙ octets ∙ (λ j. whole_mean_between (b_is j).octets_waited (a_is j).octets_waited time),
           ap (λ (z : IfaceSeen). z.busy) new.1 ∙ busy ∙ (λ j. thousandths_of ((a_is j).busy - (b_is j).busy) time),
         ))
         (pushed seen x i y at);
@@ -132,9 +137,11 @@ seen_in t from until m before after seen was is first same recent steps count h 
     let bz = was.over_time i b.0 b.1 in
     let az = is.over_time i a.0 a.1 in
     record {
-      longest = h.longest t first i x recent low at ∙ (λ j. longest_queue (net_of t) i (same j) (steps j));
+      longest = (h.longest t first i x recent low at).0 ∙ (λ j. longest_queue (net_of t) in_packets i (same j) (steps j));
+      longest_octets = (h.longest t first i x recent low at).1 ∙ (λ j. longest_queue (net_of t) in_octets i (same j) (steps j));
       mean = z.0 ∙ (λ j. mean_between (bz.0 j) (az.0 j) (until - from));
-      busy = z.1 ∙ (λ j. thousandths_of (az.1 j - bz.1 j) (until - from));
+      mean_octets = z.1 ∙ (λ j. whole_mean_between (bz.1 j) (az.1 j) (until - from));
+      busy = z.2 ∙ (λ j. thousandths_of (az.2 j - bz.2 j) (until - from));
     }
   where
     member : (l : List IfaceTotals) → i < length l → (y : IfaceTotals) × (slice_get l i ≡ Some y)

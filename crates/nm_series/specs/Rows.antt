@@ -10,7 +10,7 @@ use Rattle.nm_sim.specs.Network.{net_of}
 use Rattle.nm_measure.specs.Amounts.{iface_traffic_of, drops_of}
 use Rattle.nm_measure.specs.Busy.{busy_before, thousandths_of}
 use Rattle.nm_measure.specs.Measured.{HasRecent, MeasuredValue}
-use Rattle.nm_measure.specs.Queues.{longest_queue, waited_before}
+use Rattle.nm_measure.specs.Queues.{in_octets, in_packets, longest_queue, waited_before}
 use Rattle.nm_measure.specs.declared.amounts.IfaceTraffic.{IfaceTraffic}
 use Rattle.nm_measure.specs.declared.totals.IfaceTotals.{IfaceTotals}
 use Rattle.nm_series.specs.declared.iface_rows.IfaceSeen.{IfaceSeen}
@@ -31,10 +31,11 @@ pub record AreTotals (t : TopologyValue) (s : State (List ℕ) NodeStateValue)
   pub each : (i : ℕ) (x : IfaceTotals) → slice_get all i ≡ Some x
       → (x.traffic ≡ (had i s).traffic) × (x.dropped ≡ (had i s).dropped)
 
--- for how many nanoseconds packets waited at interface i before a time, before which so many events
--- are, all together; it stops at the greatest of its type
-abbrev pub waited_by : TopologyValue → (i time events : ℕ) → ℕ
-waited_by t i time events = min (waited_before (net_of t) i time events) (2 ^ 128 - 1)
+-- for how many nanoseconds packets, or octets, waited at interface i before a time, before which so
+-- many events are, all together; it stops at the greatest of its type
+abbrev pub waited_by : (amount : List (List ℕ) → ℕ) → TopologyValue → (i time events : ℕ) → ℕ
+waited_by amount t i time events =
+    min (waited_before (net_of t) amount i time events) (2 ^ 128 - 1)
 
 -- and for how many it transmitted
 abbrev pub busy_by : TopologyValue → (i time events : ℕ) → ℕ
@@ -47,7 +48,9 @@ pub record HadIfaces (t : TopologyValue) (time : ℕ) (all : List IfaceTotals) :
   pub over : IsBefore (net_of t) time events
   pub totals : AreTotals t (one_list (net_of t) events) all
   pub over_time : (i : ℕ) (x : IfaceTotals) → slice_get all i ≡ Some x
-      → (x.waited ≡ waited_by t i time events) × (x.busy ≡ busy_by t i time events)
+      → (x.waited ≡ waited_by in_packets t i time events)
+      × (x.octets_waited ≡ waited_by in_octets t i time events)
+      × (x.busy ≡ busy_by t i time events)
 
 -- how many waited in the mean in so many nanoseconds, rounded down, where all waited for so many
 -- together; 0 in no time
@@ -61,14 +64,24 @@ abbrev pub mean_between : (before after time : ℕ) → ℕ
 mean_between before after time =
     saturated (mean_in (min ((after - before) * 1000) (2 ^ 128 - 1)) time)
 
+-- and in whole ones
+abbrev pub whole_mean_between : (before after time : ℕ) → ℕ
+whole_mean_between before after time = saturated (mean_in (after - before) time)
+
 -- What was seen of interface i in a step from a time to a time, before which so many events are:
--- the most packets that waited at one time, how many waited in the mean over time, and the share of
--- the time in which it transmitted, both in thousandths, rounded down.
+-- the most packets, and octets, that waited at one time, how many of them waited in the mean over
+-- time, the packets in thousandths, and the share of the time in which it transmitted, in
+-- thousandths. Means and the share are rounded down.
 pub record IsSeenIn (t : TopologyValue) (from until before after i : ℕ) (x : IfaceSeen)
     : Type 0 where
-  pub longest : x.longest ≡ longest_queue (net_of t) i before after
+  pub longest : x.longest ≡ longest_queue (net_of t) in_packets i before after
+  pub longest_octets : x.longest_octets ≡ longest_queue (net_of t) in_octets i before after
   pub mean : x.mean
-      ≡ mean_between (waited_by t i from before) (waited_by t i until after) (until - from)
+      ≡ mean_between (waited_by in_packets t i from before) (waited_by in_packets t i until after)
+      (until - from)
+  pub mean_octets : x.mean_octets
+      ≡ whole_mean_between (waited_by in_octets t i from before)
+      (waited_by in_octets t i until after) (until - from)
   pub busy : x.busy
       ≡ thousandths_of (busy_by t i until after - busy_by t i from before) (until - from)
 
@@ -77,10 +90,12 @@ pub record AreSeenBetween (m : MeasuredValue) (before after : List IfaceTotals) 
     (seen : List IfaceSeen) : Type 0 where
   pub longest : (t : TopologyValue) (first i : ℕ) (x : IfaceSeen) → HasRecent t first m
       → i < length t.ifaces → slice_get seen i ≡ Some x
-      → x.longest ≡ longest_queue (net_of t) i first m.part.steps
+      → (x.longest ≡ longest_queue (net_of t) in_packets i first m.part.steps)
+      × (x.longest_octets ≡ longest_queue (net_of t) in_octets i first m.part.steps)
   pub over_time : (i : ℕ) (x : IfaceSeen) (b a : IfaceTotals) → slice_get seen i ≡ Some x
       → slice_get before i ≡ Some b → slice_get after i ≡ Some a
       → (x.mean ≡ mean_between b.waited a.waited time)
+      × (x.mean_octets ≡ whole_mean_between b.octets_waited a.octets_waited time)
       × (x.busy ≡ thousandths_of (a.busy - b.busy) time)
 
 -- a value behind others

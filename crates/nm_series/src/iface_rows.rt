@@ -8,10 +8,10 @@ ghost use Rattle.nm_topology.specs.TopologyValue.{TopologyValue};
 ghost use Rattle.nm_sim.specs.Network.{net_of};
 ghost use Rattle.nm_measure.specs.Busy.{thousandths_of};
 ghost use Rattle.nm_measure.specs.Measured.{HasRecent};
-ghost use Rattle.nm_measure.specs.Queues.{longest_queue};
+ghost use Rattle.nm_measure.specs.Queues.{in_octets, in_packets, longest_queue};
 ghost use Rattle.nm_series.specs.Rows.{AreSeenBetween, AreTotals, HadIfaces, IsIfaceStep};
 ghost use Rattle.nm_series.specs.Rows.{counts_text, iface_row, mean_between, mean_in, rows_of};
-ghost use Rattle.nm_series.specs.Rows.{seen_text};
+ghost use Rattle.nm_series.specs.Rows.{seen_text, whole_mean_between};
 
 use crate::cells::{end_row, push_cell};
 use crate::series::{Span, Totals};
@@ -60,8 +60,13 @@ fn seen_of(
 ) -> IfaceSeen
     ensures longest { (t : TopologyValue) (first : ℕ) → HasRecent t first measured.now
         → iface < length t.ifaces
-        → result.longest ≡ longest_queue (net_of t) iface first measured.now.part.steps }
+        → (result.longest
+        ≡ longest_queue (net_of t) in_packets iface first measured.now.part.steps)
+        × (result.longest_octets
+        ≡ longest_queue (net_of t) in_octets iface first measured.now.part.steps) }
     ensures mean { result.mean ≡ mean_between before.now.waited after.now.waited time }
+    ensures octets { result.mean_octets
+        ≡ whole_mean_between before.now.octets_waited after.now.octets_waited time }
     ensures busy { result.busy ≡ thousandths_of (after.now.busy - before.now.busy) time }
 {
     let longest = measured.recent_queue(iface);

@@ -272,11 +272,11 @@ drops_is t part d s represented i =
     table_value (is_iface_here t part) (λ i w. IsPortOf t i w (s.port i)) d.ports (λ w. w.dropped) (saturated (s.port i).dropped) i (length t.ifaces)
     represented.ports represented.port_count (λ w p. p.dropped)
 
-pub waiting_is : (t : TopologyValue) (part : Option ℕ) (d : DevicesValue) (s : State (List ℕ) NodeStateValue) → DevicesRepresent t (states_in part s) d → (i : ℕ)
-    → option_and_then (option_map (λ w. length (waiting_of w.busy))) (slice_get d.ports i) ≡ waiting_at t part s i
-waiting_is t part d s represented i =
-    table_value (is_iface_here t part) (λ i w. IsPortOf t i w (s.port i)) d.ports (λ w. length (waiting_of w.busy)) (length (waiting_of (s.port i).busy)) i (length t.ifaces)
-    represented.ports represented.port_count (λ w p. ap (λ b. length (waiting_of b)) p.busy)
+pub waiting_is : (amount : List (List ℕ) → ℕ) (t : TopologyValue) (part : Option ℕ) (d : DevicesValue) (s : State (List ℕ) NodeStateValue) → DevicesRepresent t (states_in part s) d → (i : ℕ)
+    → option_and_then (option_map (λ w. amount (waiting_of w.busy))) (slice_get d.ports i) ≡ waiting_at amount t part s i
+waiting_is amount t part d s represented i =
+    table_value (is_iface_here t part) (λ i w. IsPortOf t i w (s.port i)) d.ports (λ w. amount (waiting_of w.busy)) (amount (waiting_of (s.port i).busy)) i (length t.ifaces)
+    represented.ports represented.port_count (λ w p. ap (λ b. amount (waiting_of b)) p.busy)
 
 -- the same state is represented with other records that represent its trace
 pub represents_records : {L : Type 0} (pending : L → FinMap key_cmp (Event (List ℕ))) (t : TopologyValue) (part : Option ℕ) {p : PartValue L} (r : RecordsValue) (s : State (List ℕ) NodeStateValue)

@@ -253,10 +253,12 @@ abbrev pub drops_at : TopologyValue → Option ℕ → State (List ℕ) NodeStat
 drops_at t part s i = if ltb i (length t.ifaces)
     && is_iface_here t part i then Some (saturated (s.port i).dropped) else None
 
--- how many packets wait at interface i behind the one that is transmitted, if it is here
-abbrev pub waiting_at : TopologyValue → Option ℕ → State (List ℕ) NodeStateValue → ℕ → Option ℕ
-waiting_at t part s i = if ltb i (length t.ifaces)
-    && is_iface_here t part i then Some (length (waiting_of (s.port i).busy)) else None
+-- how much waits at interface i behind the packet that is transmitted, if it is here: so much as
+-- these packets amount to, in number or in octets
+abbrev pub waiting_at : (amount : List (List ℕ) → ℕ) → TopologyValue → Option ℕ
+    → State (List ℕ) NodeStateValue → ℕ → Option ℕ
+waiting_at amount t part s i = if ltb i (length t.ifaces)
+    && is_iface_here t part i then Some (amount (waiting_of (s.port i).busy)) else None
 
 -- what was put on a channel that goes out from here: within the whole network there is none
 abbrev pub messages_out : TopologyValue → Option ℕ → State (List ℕ) NodeStateValue → ℕ

@@ -2,6 +2,7 @@
 
 ghost use Rattle.std.specs.Prelude.{◌≡◌, ℕ, slice_get, slice_index, ◌+◌, ◌≤◌, ◌<◌, ◌^◌, List, length};
 ghost use Rattle.std.specs.Prelude.{Option, Some, None, OnOk, OnErr, IfOk, IfErr, IfSome, Ok, Err, false};
+ghost use Rattle.std.specs.Prelude.{sum_by};
 ghost use Rattle.nm_base.specs.declared.limits.TheConstants.{MAX_TIME};
 ghost use Rattle.nm_base.specs.declared.event.Origin.TheVariants.{Arrival, Source as FromSource};
 ghost use Rattle.nm_base.specs.declared.event.Event.TheVariants.{Completion};
@@ -287,6 +288,17 @@ impl Devices {
     {
         match self.ports.get(iface.index()) {
             Some(Some(port)) => Some(port.waiting()),
+            Some(None) | None => None,
+        }
+    }
+
+    /// How many octets these packets have.
+    pub fn waiting_octets(&self, iface: IfaceNo) -> Option<u32>
+        ensures { result ≡ option_and_then (option_map (λ w. sum_by length (waiting_of w.busy)))
+            (slice_get self.now.ports iface) }
+    {
+        match self.ports.get(iface.index()) {
+            Some(Some(port)) => Some(port.waiting_octets()),
             Some(None) | None => None,
         }
     }

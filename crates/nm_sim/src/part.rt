@@ -34,7 +34,7 @@ ghost use Rattle.nm_topology.specs.Topology.{receiving_iface};
 ghost use Rattle.std.specs.FinMap.{empty, get, insert};
 ghost use Rattle.nm_sim.specs.Devices.{DevicesRepresent};
 ghost use Rattle.nm_sim.specs.Tables.{AllSome, IsMember};
-ghost use Rattle.std.specs.Prelude.{drop, if◌then◌else◌, is_some, slice_get};
+ghost use Rattle.std.specs.Prelude.{drop, if◌then◌else◌, is_some, slice_get, sum_by};
 
 use crate::devices::Devices;
 use crate::due::Due;
@@ -343,9 +343,18 @@ impl<L: EventList> Part<L> {
 
     /// How many packets wait at the interface behind the one that is transmitted, if it is here.
     pub fn waiting(&self, iface: IfaceNo) -> Option<usize>
-        ensures { OfTheRun L.pending self.now (λ t part s. result ≡ waiting_at t part s iface) }
+        ensures { OfTheRun L.pending self.now
+            (λ t part s. result ≡ waiting_at length t part s iface) }
     {
         self.devices.waiting(iface)
+    }
+
+    /// How many octets these packets have.
+    pub fn waiting_octets(&self, iface: IfaceNo) -> Option<u32>
+        ensures { OfTheRun L.pending self.now
+            (λ t part s. result ≡ waiting_at (sum_by length) t part s iface) }
+    {
+        self.devices.waiting_octets(iface)
     }
 
     /// The least time of an event that is to come, if there is one.

@@ -14,11 +14,14 @@ pub record TcpSeen : Type 0 where
   pub wire : WireSeen
   pub called : Option Called
 
--- what contracts see of a transport over TCP: where its peers listen, by their numbers, whether the
--- system had too little for one more connection when it was asked last, and how many waits ran out
+-- What contracts see of a transport over TCP: where its peers listen, by their numbers; whether
+-- somebody may have called; whether the system had too little for one more connection when it was
+-- asked last; whether the last wait was asked to wait; and how many waits ran out.
 pub record TcpTransportSeen : Type 0 where
   pub peers : List SocketAddr
+  pub is_called : Bool
   pub is_short : Bool
+  pub was_to_wait : Bool
   pub elapsed : ℕ
 
 -- the peer with this number was called, at its address

@@ -4,6 +4,7 @@
 
 pub mod limits;
 mod period;
+mod reading;
 mod shortage;
 pub mod tcp_transport;
 pub mod tcp_wire;

@@ -6,6 +6,7 @@ ghost use Rattle.nm_transport.specs.Period.{ReadsClock, begun_after, is_over, na
 ghost use Rattle.nm_transport.specs.declared.limits.TheConstants.{PERIOD_MILLISECONDS};
 
 use crate::limits::PERIOD_MILLISECONDS;
+use crate::reading::Reading;
 use std::time::{Clock, Duration, Instant};
 
 /// A period, and when it began, where the clock could be read then.
@@ -25,7 +26,7 @@ impl Period {
     /// One begins now.
     pub(crate) fn begin(clock: &impl Clock) -> Self {
         Period {
-            begun: Instant::now(clock).ok(),
+            begun: Reading::of(clock).instant(),
         }
     }
 
@@ -33,8 +34,8 @@ impl Period {
     pub(crate) fn left(&self, clock: &impl Clock) -> Duration
         ensures { as_nanos result ≤ PERIOD_MILLISECONDS * 1000000 }
     {
-        match (self.begun, Instant::now(clock)) {
-            (Some(begun), Ok(now)) => left_of(begun, now),
+        match (self.begun, Reading::of(clock).instant()) {
+            (Some(begun), Some(now)) => left_of(begun, now),
             _ => Duration::from_millis(PERIOD_MILLISECONDS),
         }
     }
@@ -44,14 +45,15 @@ impl Period {
     pub(crate) fn ends(&mut self, clock: &impl Clock, was_waited_for: bool) -> bool
         ensures { ReadsClock self.old.begun was_waited_for self.new.begun result }
     {
-        self.ends_at(Instant::now(clock).ok(), was_waited_for)
+        self.ends_at(Reading::of(clock), was_waited_for)
     }
 
-    /// The same, where that is what the clock says now, if it can be read.
-    fn ends_at(&mut self, now: Option<Instant>, was_waited_for: bool) -> bool
-        ensures ends { result ≡ is_over self.old.begun now was_waited_for }
-        ensures begun { self.new.begun ≡ begun_after self.old.begun now result }
+    /// The same, where the clock says this now.
+    fn ends_at(&mut self, now: Reading, was_waited_for: bool) -> bool
+        ensures ends { result ≡ is_over self.old.begun now.instant was_waited_for }
+        ensures begun { self.new.begun ≡ begun_after self.old.begun now.instant result }
     {
+        let now = now.instant();
         let is_over = match (self.begun, now) {
             (Some(begun), Some(now)) => left_of(begun, now).is_zero(),
             _ => was_waited_for,

@@ -1,17 +1,18 @@
 //! Connections over TCP.
 
-ghost use Rattle.std.specs.Prelude.{◌≡◌, ◌↔◌, ◌||◌, [], IfOk, IfSome, IsSomeAnd, IsTrue, Some};
-ghost use Rattle.std.specs.Prelude.{false, if◌then◌else◌};
+ghost use Rattle.std.specs.Prelude.{◌≡◌, ◌↔◌, ◌||◌, IfErr, IfOk, IfSome, IsSome, IsSomeAnd, IsTrue};
+ghost use Rattle.std.specs.Prelude.{None, Some, false, if◌then◌else◌, is_ok, true};
 ghost use Rattle.std.specs.Duration.{as_nanos};
 ghost use Rattle.nm_transport.specs.Shortage.{IsOfShortage};
-ghost use Rattle.nm_transport.specs.Transport.{IsCallTo, IsFresh, has_run_out, waited_as};
+ghost use Rattle.nm_transport.specs.Transport.{IsCallTo, IsFresh, elapsed_after, has_run_out};
+ghost use Rattle.nm_transport.specs.Transport.{waited_as};
 
 use crate::limits::MAX_REPORTS;
 use crate::period::Period;
 use crate::shortage::is_shortage;
 use crate::tcp_wire::{Called, TcpWire};
 use crate::transport::{Reported, Transport, Waited};
-use mio::net::TcpListener;
+use mio::net::{TcpListener, TcpStream};
 use mio::{Events, Interest, Poll, Token};
 use nm_base::failures::FailureCount;
 use std::alloc::Global;
@@ -24,7 +25,8 @@ use std::time::{Clock, Duration};
 const LISTENER: Token = Token(usize::MAX);
 
 /// A listener, the addresses of the peers to connect to, and a poll. A clause sees the addresses,
-/// whether the system has too little for one more connection, and how many waits ran out.
+/// whether somebody may have called, whether the system has too little for one more connection,
+/// whether the last wait was asked to wait, and how many waits ran out.
 #[derive(Drop)]
 pub struct TcpTransport<R> {
     net: R,
@@ -36,6 +38,8 @@ pub struct TcpTransport<R> {
     is_called: bool,
     /// The system has too little for one more connection, as it said last.
     is_short: bool,
+    /// The last wait was asked to wait, and not only to look.
+    was_to_wait: bool,
     /// The period that goes on.
     period: Period,
     idle: FailureCount,
@@ -48,7 +52,9 @@ impl<R> Model for TcpTransport<R> {
 
     ghost view = { λ t. record {
       peers = t.peers.items;
+      is_called = t.is_called;
       is_short = t.is_short;
+      was_to_wait = t.was_to_wait;
       elapsed = t.idle;
     } };
 }
@@ -79,6 +85,17 @@ fn may_be_called(was_called: bool, waited: Waited, has_call: bool) -> bool
     was_called || waited.has_run_out() || has_call
 }
 
+/// A connection that the poll reports, as the system answered.
+fn if_registered(connection: TcpWire, registered: &io::Result<()>) -> Option<TcpWire>
+    ensures { result ≡ (if is_ok registered.now then Some connection else None) }
+{
+    if registered.is_ok() {
+        Some(connection)
+    } else {
+        None
+    }
+}
+
 /// Whether the listener was reported.
 fn has_call(events: &Events) -> bool {
     events.iter().any(|event| event.token() == LISTENER)
@@ -101,7 +118,13 @@ impl<R: Net + Clock> TcpTransport<R> {
     where
         R: Drop,
         ensures { IfOk result
-            (λ t. t ≡ record { peers = peers.items; is_short = false; elapsed = 0 }) }
+            (λ t. t ≡ record {
+              peers = peers.items;
+              is_called = true;
+              is_short = false;
+              was_to_wait = false;
+              elapsed = 0;
+            }) }
     {
         let events = Events::with_capacity(alloc, MAX_REPORTS)?;
         poll.registry()
@@ -115,6 +138,7 @@ impl<R: Net + Clock> TcpTransport<R> {
             peers,
             is_called: true,
             is_short: false,
+            was_to_wait: false,
             period,
             idle: FailureCount::new(),
         })
@@ -134,14 +158,64 @@ impl<R: Net + Clock> TcpTransport<R> {
         Some(wire)
     }
 
-    /// The system refused a connection that somebody began, or has none.
-    fn note_refusal(&mut self, error: &io::Error)
-        ensures short { IsTrue self.new.is_short ↔ IsOfShortage error.now }
-        ensures same { (self.new.peers ≡ self.old.peers)
-            × (self.new.elapsed ≡ self.old.elapsed) }
+    /// What the listener answered: a connection that somebody began, or that the system refused one
+    /// or has none.
+    fn take_call(&mut self, answer: io::Result<(TcpStream, SocketAddr)>) -> Option<TcpWire>
+        ensures call { IfOk answer (λ a. IsSome result × (self.new ≡ record self.old {
+          is_short = false;
+        })) }
+        ensures refusal { IfErr answer (λ e. (result ≡ None)
+            × (IsTrue self.new.is_short ↔ IsOfShortage e)
+            × (self.new ≡ record self.old { is_called = false; is_short = self.new.is_short })) }
+        ensures fresh { IfSome result (λ w. IsFresh w.wire) }
     {
-        self.is_called = false;
-        self.is_short = is_shortage(error);
+        match answer {
+            Ok((stream, _)) => {
+                self.is_short = false;
+                Some(TcpWire::accepted(stream))
+            }
+            Err(error) => {
+                self.is_called = false;
+                self.is_short = is_shortage(&error);
+                None
+            }
+        }
+    }
+
+    /// The next connection that somebody began, if there is one.
+    fn next_call(&mut self) -> Option<TcpWire>
+        // The system is asked where somebody may have called, until it has no more.
+        ensures quiet { self.old.is_called ≡ false → (result ≡ None) × (self.new ≡ self.old) }
+        ensures none { result ≡ None → self.new.is_called ≡ false }
+        ensures fresh { IfSome result (λ w. IsFresh w.wire) }
+        ensures idle { self.new.elapsed ≡ self.old.elapsed }
+    {
+        if !self.is_called {
+            return None;
+        }
+        let answer = self.listener.accept();
+        self.take_call(answer)
+    }
+
+    /// Waits until a connection is ready or the period is over, or only looks.
+    fn wait_for(&mut self, may_wait: bool) -> Waited
+        ensures idle { self.new.elapsed ≡ elapsed_after self.old.elapsed (has_run_out result) }
+        ensures asked { self.new.was_to_wait ≡ may_wait }
+
+        // Somebody may have called where that was so before, and where a period was over.
+        ensures called { self.old.is_called ≡ true → self.new.is_called ≡ true }
+        ensures period { has_run_out result ≡ true → self.new.is_called ≡ true }
+    {
+        self.was_to_wait = may_wait;
+        let limit = wait_limit(may_wait, self.period.left(&self.net));
+        let has_waited = self.poll.poll(&mut self.events, Some(limit)).is_ok();
+        let was_quiet = may_wait && has_waited && self.events.is_empty();
+        let waited = waited_as(self.period.ends(&self.net, was_quiet), has_waited);
+        self.is_called = may_be_called(self.is_called, waited, has_call(&self.events));
+        if waited.has_run_out() {
+            self.idle.rise();
+        }
+        waited
     }
 }
 
@@ -152,6 +226,8 @@ impl<R: Net + Clock> Transport for TcpTransport<R> {
 
     ghost elapsed_periods = { λ t. t.elapsed };
 
+    ghost was_to_wait = { λ t. t.was_to_wait };
+
     ghost leads_to = { λ w. option_map (λ called. called.peer) w.called };
 
     fn connect(&mut self, peer: usize) -> Option<TcpWire> {
@@ -159,19 +235,7 @@ impl<R: Net + Clock> Transport for TcpTransport<R> {
     }
 
     fn accept(&mut self) -> Option<TcpWire> {
-        if !self.is_called {
-            return None;
-        }
-        match self.listener.accept() {
-            Ok((stream, _)) => {
-                self.is_short = false;
-                Some(TcpWire::accepted(stream))
-            }
-            Err(error) => {
-                self.note_refusal(&error);
-                None
-            }
-        }
+        self.next_call()
     }
 
     fn is_short(&self) -> bool
@@ -182,12 +246,8 @@ impl<R: Net + Clock> Transport for TcpTransport<R> {
 
     fn watch(&mut self, connection: TcpWire, key: usize) -> Option<TcpWire> {
         let mut connection = connection;
-        let watched = connection.register(self.poll.registry(), Token(key));
-        if watched.is_ok() {
-            Some(connection)
-        } else {
-            None
-        }
+        let registered = connection.register(self.poll.registry(), Token(key));
+        if_registered(connection, &registered)
     }
 
     fn unwatch(&mut self, connection: &mut TcpWire) {
@@ -195,15 +255,7 @@ impl<R: Net + Clock> Transport for TcpTransport<R> {
     }
 
     fn wait(&mut self, may_wait: bool) -> Waited {
-        let limit = wait_limit(may_wait, self.period.left(&self.net));
-        let has_waited = self.poll.poll(&mut self.events, Some(limit)).is_ok();
-        let was_quiet = may_wait && has_waited && self.events.is_empty();
-        let waited = waited_as(self.period.ends(&self.net, was_quiet), has_waited);
-        self.is_called = may_be_called(self.is_called, waited, has_call(&self.events));
-        if waited.has_run_out() {
-            self.idle.rise();
-        }
-        waited
+        self.wait_for(may_wait)
     }
 
     fn report(&self, number: usize) -> Option<Reported> {

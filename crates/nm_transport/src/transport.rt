@@ -1,7 +1,7 @@
 //! What the loop asks of what carries its octets. Each call may fail, and is then made again at a
 //! later poll.
 
-ghost use Rattle.std.specs.Prelude.{◌≡◌, ℕ, [], IfSome, Option, Some};
+ghost use Rattle.std.specs.Prelude.{◌≡◌, ℕ, [], Bool, IfSome, Option, Some};
 ghost use Rattle.nm_transport.specs.Transport.{has_run_out};
 
 use nm_base::Wire;
@@ -47,6 +47,9 @@ pub trait Transport {
     // How many waits ended because a period was over, or because it could not wait.
     ghost elapsed_periods: { Self → ℕ };
 
+    // The last wait was asked to wait, and not only to look.
+    ghost was_to_wait: { Self → Bool };
+
     // The number of the peer to which a connection was begun, if it was begun here.
     ghost leads_to: { Self.Connection → Option ℕ };
 
@@ -81,8 +84,9 @@ pub trait Transport {
     /// Waits until a connection is ready or the period is over, or only looks. The first call that
     /// ends once a period is over says so, and the next period begins then.
     fn wait(&mut self, may_wait: bool) -> Waited
-        ensures { elapsed_periods self.new
-            ≡ elapsed_after (elapsed_periods self.old) (has_run_out result) };
+        ensures idle { elapsed_periods self.new
+            ≡ elapsed_after (elapsed_periods self.old) (has_run_out result) }
+        ensures asked { was_to_wait self.new ≡ may_wait };
 
     /// The report with this number of those that the last wait made, if it made so many. A
     /// connection that is not reported is looked at when a period is over: to report all is as

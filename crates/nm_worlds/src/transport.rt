@@ -19,6 +19,8 @@ pub(crate) struct WorldTransport {
     now: u64,
     period_end: u64,
     idle: FailureCount,
+    /// The last wait was asked to wait.
+    was_to_wait: bool,
     /// Something came at its last poll, so that more may be left to do.
     is_busy: bool,
 }
@@ -33,6 +35,7 @@ impl WorldTransport {
             now,
             period_end: now.saturating_add(PERIOD_MILLISECONDS),
             idle: FailureCount::new(),
+            was_to_wait: false,
             is_busy: true,
         }
     }
@@ -67,6 +70,8 @@ impl Transport for WorldTransport {
 
     ghost elapsed_periods = { λ n. n.idle };
 
+    ghost was_to_wait = { λ n. n.was_to_wait };
+
     ghost leads_to = { λ w. w.peer };
 
     fn connect(&mut self, peer: usize) -> Option<WorldWire> {
@@ -95,7 +100,8 @@ impl Transport for WorldTransport {
         connection.close();
     }
 
-    fn wait(&mut self, _may_wait: bool) -> Waited {
+    fn wait(&mut self, may_wait: bool) -> Waited {
+        self.was_to_wait = may_wait;
         if self.now < self.period_end {
             return Waited::Ready;
         }

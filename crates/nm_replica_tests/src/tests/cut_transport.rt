@@ -59,6 +59,8 @@ impl<N: Transport> Transport for CutTransport<N> {
 
     ghost elapsed_periods = { λ n. N.elapsed_periods n.transport };
 
+    ghost was_to_wait = { λ n. N.was_to_wait n.transport };
+
     ghost leads_to = { λ w. w.peer };
 
     fn connect(&mut self, peer: usize) -> Option<CutWire<N::Connection>> {

@@ -69,6 +69,8 @@ pub struct Scripted {
     pub is_silent: bool,
     /// The system has too little for one more connection.
     pub is_short: bool,
+    /// The last wait was asked to wait.
+    was_to_wait: bool,
     idle: FailureCount,
     /// How many connections were given, and how many waits ran out.
     pub given: u64,
@@ -90,6 +92,7 @@ impl Scripted {
             manner: Manner::Whole,
             is_silent: false,
             is_short: false,
+            was_to_wait: false,
             idle: FailureCount::new(),
             given: 0,
             waited: 0,
@@ -142,6 +145,8 @@ impl Transport for Scripted {
 
     ghost elapsed_periods = { λ n. n.idle };
 
+    ghost was_to_wait = { λ n. n.was_to_wait };
+
     ghost leads_to = { λ w. w.peer };
 
     fn connect(&mut self, peer: usize) -> Option<CutWire<MemWire>> {
@@ -176,6 +181,7 @@ impl Transport for Scripted {
     }
 
     fn wait(&mut self, may_wait: bool) -> Waited {
+        self.was_to_wait = may_wait;
         let fails = self.fails();
         if !may_wait && !fails {
             return Waited::Ready;

@@ -9,7 +9,7 @@ pub put_all-requires : goal.put_all-requires
 put_all-requires g c =
     let did = c.act-records.ensures in
     subst (All (λ r. r.time ≤ MAX_TIME)) (sym c.as_slice.ensures.value)
-    (handed_times did.0 did.1 c.in_ok-room.room.items c.act-records.result.records.items c.in_ok-room.ensures.items did.2.0)
+    (handed_times did.0 did.1 c.in_ok-room.room.items c.act-records.result.records.items c.in_ok-room.room.cap c.in_ok-room.ensures.items did.2.0)
 
 pub returns-clause-wrote : goal.returns-clause-wrote
 returns-clause-wrote g c =

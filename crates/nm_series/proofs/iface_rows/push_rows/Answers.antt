@@ -1,6 +1,6 @@
 use Rattle.std.proofs.Common.{◌≡◌, ◌<◌, ◌+◌, ◌-◌, ◌++◌, ◌∷◌, [], length, rules, Some, slice_get, refl, sym, ap, subst, ◌∙◌, arith, append-nil, length-append}
 use Rattle.nm_measure.specs.Busy.{thousandths_of}
-use Rattle.nm_series.specs.Rows.{mean_between}
+use Rattle.nm_series.specs.Rows.{mean_between, whole_mean_between}
 use Rattle.nm_series.proofs.RowsMore.{no_rows, none_between, one_between, row_next}
 use Rattle.nm_series.proofs.iface_rows.push_rows.Goals as goal
 
@@ -33,7 +33,8 @@ loop-number-preserved c =
         rows.0 ++ x ∷ [],
         length-append rows.0 (x ∷ []) ∙ ap (λ k. k + 1) rows.1,
         one_between c.args.measured.now c.args.before.now c.args.after.now time rows.0 x n c.iface_number-iface.result _ _ rows.1 same
-            c.seen_of-seen.ensures.longest (c.seen_of-seen.ensures.mean ∙ ap (mean_between _ _) c.length.ensures) (c.seen_of-seen.ensures.busy ∙ ap (thousandths_of _) c.length.ensures) rows.2,
+            c.seen_of-seen.ensures.longest (c.seen_of-seen.ensures.mean ∙ ap (mean_between _ _) c.length.ensures)
+            (c.seen_of-seen.ensures.octets ∙ ap (whole_mean_between _ _) c.length.ensures) (c.seen_of-seen.ensures.busy ∙ ap (thousandths_of _) c.length.ensures) rows.2,
         λ old new was is.
             row_next t c.args.span.now.from n old new c.args.before.now c.args.after.now _ _ rows.0 x c.iface.result.now c.name.result.now c.args.text.now.items
             c.loop-number.text.items c.push_row.new.text.items was is low rows.1 at c.name.ensures (rows.3 old new was is) c.in_ok-push_row.ensures,

@@ -1,6 +1,7 @@
 use Rattle.std.proofs.Common.{◌≡◌, ◌<◌, ◌≤◌, length, slice_get, rules, sym, ap, subst, ◌∙◌, arith, ⊎_elim}
 use Rattle.nm_model.specs.Run.{one_list}
 use Rattle.nm_sim.specs.Network.{net_of}
+use Rattle.nm_measure.specs.Queues.{in_octets, in_packets}
 use Rattle.nm_series.specs.Rows.{busy_by, had, waited_by}
 use Rattle.nm_series.proofs.RowsMore.{pushed}
 use Rattle.nm_series.proofs.iface_rows.IfaceTotalsTotals.all_before.Goals as goal
@@ -20,7 +21,8 @@ loop-number-preserved c =
           (λ before. c.loop-number.invariant.over_time m i x before)
           (λ last.
           let at : c.iface_number.result ≡ i = same ∙ sym count ∙ sym last.0 in (
-            ap (λ v. v.waited) last.1 ∙ subst (λ j. c.totals.result.waited ≡ waited_by t j c.args.time m.events) at (c.totals.ensures.waited t m),
+            ap (λ v. v.waited) last.1 ∙ subst (λ j. c.totals.result.waited ≡ waited_by in_packets t j c.args.time m.events) at (c.totals.ensures.waited t m),
+            ap (λ v. v.octets_waited) last.1 ∙ subst (λ j. c.totals.result.octets_waited ≡ waited_by in_octets t j c.args.time m.events) at (c.totals.ensures.octets t m),
             ap (λ v. v.busy) last.1 ∙ subst (λ j. c.totals.result.busy ≡ busy_by t j c.args.time m.events) at (c.totals.ensures.busy t m),
           ))
           (pushed c.loop-number.all.items c.totals.result i x (sym (ap (λ l. slice_get l i) more) ∙ got));

@@ -1,0 +1,92 @@
+//! How much waits at an interface, over time, in packets or in octets.
+
+ghost use Rattle.std.specs.Prelude.{◌≡◌};
+ghost use Rattle.nm_measure.specs.Waited.{waited_at as waited_until};
+ghost use Rattle.nm_measure.specs.Waiting.{level_begun, level_empty, level_later};
+
+use nm_base::Time;
+
+/// How much waits at an interface, over time: so many packets, or so many octets.
+#[derive(Drop)]
+pub struct Level {
+    /// So many wait, behind the packet that is transmitted.
+    waiting: u64,
+    /// The most that waited at one time.
+    longest: u64,
+    /// The most that waited at one time since that was begun.
+    recent: u64,
+    /// For how many nanoseconds they waited, all together, up to the time from which on so many
+    /// wait.
+    waited: u128,
+    since: Time,
+}
+
+/// For how many nanoseconds packets, or octets, waited up to a time, all together: so many up to an
+/// earlier time, from which on this many wait.
+fn waited_at(waited: u128, waiting: u64, since: Time, now: Time) -> u128
+    ensures { result ≡ waited_until waited waiting since now }
+{
+    let time = now.nanoseconds().saturating_sub(since.nanoseconds());
+    waited.saturating_add(u128::from(waiting) * u128::from(time))
+}
+
+impl Level {
+    /// Nothing waited yet.
+    pub(crate) fn new() -> Self
+        ensures { result ≡ level_empty }
+    {
+        Level {
+            waiting: 0,
+            longest: 0,
+            recent: 0,
+            waited: 0,
+            since: Time::from_nanoseconds(0),
+        }
+    }
+
+    /// How many wait.
+    pub(crate) fn waiting(&self) -> u64
+        ensures { result ≡ self.now.waiting }
+    {
+        self.waiting
+    }
+
+    /// The most that waited at one time.
+    pub(crate) fn longest(&self) -> u64
+        ensures { result ≡ self.now.longest }
+    {
+        self.longest
+    }
+
+    /// The most that waited at one time since that was begun.
+    pub(crate) fn recent(&self) -> u64
+        ensures { result ≡ self.now.recent }
+    {
+        self.recent
+    }
+
+    /// For how many nanoseconds they waited, all together, up to this time.
+    pub(crate) fn waited(&self, now: Time) -> u128
+        ensures { result ≡ waited_until self.now.waited self.now.waiting self.now.since now }
+    {
+        waited_at(self.waited, self.waiting, self.since, now)
+    }
+
+    /// From now on the most that wait at one time are looked for anew.
+    pub(crate) fn begin_recent(&mut self)
+        ensures { self.new ≡ level_begun self.old }
+    {
+        self.recent = self.waiting;
+    }
+
+    /// From now on so many wait.
+    pub(crate) fn change(&mut self, waiting: u64, now: Time)
+        ensures { self.new ≡ level_later self.old waiting now }
+    {
+        self.waited = self.waited(now);
+        self.since = now;
+        self.waiting = waiting;
+        self.longest = self.longest.max(waiting);
+        self.recent = self.recent.max(waiting);
+    }
+}
