@@ -3,6 +3,8 @@ use Rattle.std.specs.Prelude.{ℕ, ◌+◌, Bool, true, false}
 use Rattle.nm_base.specs.Count.{saturated}
 use Rattle.nm_base.specs.declared.wire.Read.{Read}
 use Rattle.nm_base.specs.declared.wire.Read.TheVariants.{Got, End, Later, Fault}
+use Rattle.nm_base.specs.declared.wire.Written.{Written}
+use Rattle.nm_base.specs.declared.wire.Written.TheVariants as written
 
 pub record CountingWireValue (W : Type 0) : Type 0 where
   pub wire : W
@@ -24,3 +26,9 @@ noted c (Got octets) = record c { came = saturated (c.came + octets) }
 noted c End = record c { is_ready = false; has_ended = true }
 noted c Later = record c { is_ready = false }
 noted c Fault = c
+
+-- once a write came to this: the wire took octets, or none
+abbrev pub written_on : {W : Type 0} → CountingWireValue W → Written → CountingWireValue W
+written_on c (written.Took octets) = record c { written = saturated (c.written + octets) }
+written_on c written.Later = c
+written_on c written.Fault = c

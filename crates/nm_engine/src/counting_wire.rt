@@ -2,9 +2,9 @@
 
 ghost use Rattle.std.specs.Prelude.{◌≡◌, ◌+◌, ◌<◌, false, length, nat_lt, true};
 ghost use Rattle.nm_base.specs.Count.{saturated};
-ghost use Rattle.nm_base.specs.Wire.{ReadDoes};
+ghost use Rattle.nm_base.specs.Wire.{ReadDoes, WriteDoes};
 ghost use Rattle.nm_base.specs.declared.wire.Read.TheVariants.{Later};
-ghost use Rattle.nm_engine.specs.CountingWire.{noted, reported};
+ghost use Rattle.nm_engine.specs.CountingWire.{noted, reported, written_on};
 
 use nm_base::Wire;
 use nm_base::wire::{Read, Written};
@@ -156,11 +156,25 @@ impl<W: Wire> CountingWire<W> {
 impl<W: Wire> Wire for CountingWire<W> {
     ghost seen = { λ c. W.seen c.wire };
 
-    fn read_some(&mut self, buffer: &mut [u8]) -> Read {
+    fn read_some(&mut self, buffer: &mut [u8]) -> Read
+        ensures reads { ReadDoes (W.seen self.old.wire) (W.seen self.new.wire) result buffer.new }
+        ensures keeps { (W.seen self.new.wire).taken ≡ (W.seen self.old.wire).taken }
+
+        // What it came to is noted.
+        ensures noted { self.new ≡ record (noted self.old result) { wire = self.new.wire } }
+    {
         self.read_noted(buffer)
     }
 
-    fn write_some(&mut self, octets: &[u8]) -> Written {
+    fn write_some(&mut self, octets: &[u8]) -> Written
+        ensures writes { WriteDoes (W.seen self.old.wire) (W.seen self.new.wire) result octets.now }
+        ensures keeps { ((W.seen self.new.wire).given ≡ (W.seen self.old.wire).given)
+            × ((W.seen self.new.wire).ends ≡ (W.seen self.old.wire).ends) }
+
+        // What the wire took is counted.
+        ensures counted { self.new
+            ≡ record (written_on self.old result) { wire = self.new.wire } }
+    {
         let written = self.wire.write_some(octets);
         if let Written::Took(count) = written {
             self.count_written(count);

@@ -7,6 +7,7 @@ use Rattle.nm_base.specs.declared.fault.Fault.{Fault}
 use Rattle.nm_base.specs.declared.fault.Fault.TheVariants.{Memory, Refused}
 use Rattle.nm_topology.specs.TopologyValue.{TopologyValue}
 use Rattle.nm_book.specs.Book.{BookValue, replica_of}
+use Rattle.nm_book.specs.declared.fault.BookRefusal.{BookRefusal}
 use Rattle.nm_model.specs.Certificate.{is_done}
 use Rattle.nm_shared.specs.Home.{Home, home_of}
 use Rattle.nm_sim.specs.Network.{net_of}
@@ -43,6 +44,11 @@ is_stall Memory = false
 is_stall (Refused cause.Net) = false
 is_stall (Refused cause.Stalled) = true
 is_stall (Refused cause.Broken) = false
+
+-- why a replica cannot be served that has no book
+abbrev pub book_fault : Fault BookRefusal → Fault ProcessCause
+book_fault Memory = Memory
+book_fault (Refused refusal) = Refused cause.Broken
 
 -- a book of this replica has something left to do, or has handed records out
 abbrev pub IsUnfinished : Home → Type 0

@@ -5,14 +5,14 @@ ghost use Rattle.std.specs.Prelude.{false, true};
 ghost use Rattle.std.specs.Arc.{arc_value};
 ghost use Rattle.nm_peers.specs.Peers.{own_address};
 ghost use Rattle.nm_replica.specs.Finished.{IsDone};
-ghost use Rattle.nm_process.specs.Process.{IsAt, IsDoneReplica, IsUnfinished, is_stall};
+ghost use Rattle.nm_process.specs.Process.{IsAt, IsDoneReplica, IsUnfinished, book_fault};
+ghost use Rattle.nm_process.specs.Process.{is_stall};
 ghost use Rattle.nm_shared.specs.Counted.{IsBlankOf};
 ghost use Rattle.nm_shared.specs.Home.{home_at, home_of};
 
 use crate::ending::{Ending, ProcessEnd, process_end, serve_over};
 use crate::fault::{ProcessCause, ProcessFault, fault_of};
 use mio::Poll;
-use mio::net::TcpListener;
 use nm_base::{MemSink, PartNo};
 use nm_book::{Book, BookFault};
 use nm_files::TraceFiles;
@@ -25,7 +25,7 @@ use nm_shared::{
     ClockBoard, Closed, Counts, Ledgers, Lending, Naming, Pass, PassesOut, SharedBook,
 };
 use nm_topology::Topology;
-use nm_transport::TcpTransport;
+use nm_transport::{Bound, TcpTransport};
 use std::alloc::Global;
 use std::io::{self, ErrorKind};
 use std::marker::Brand;
@@ -53,26 +53,12 @@ pub struct Process<'a> {
     pub progress: &'a Progress,
 }
 
-/// A listener, and where the system says that it listens.
-#[derive(Drop)]
-struct Bound {
-    listener: TcpListener,
-    at: SocketAddr,
-}
-
 /// Whether one listens at an address where the system says that it listens: at the same address,
 /// and at the same port unless the system was to choose one.
 fn is_at(at: SocketAddr, asked: SocketAddr) -> bool
     ensures { IsTrue result ↔ IsAt at asked }
 {
     at.ip() == asked.ip() && (asked.port() == 0 || at.port() == asked.port())
-}
-
-/// A listener, and where it listens.
-fn bind_at<R: Net>(rt: &R, address: SocketAddr) -> io::Result<Bound> {
-    let listener = TcpListener::bind(rt, address)?;
-    let at = listener.local_addr()?;
-    Ok(Bound { listener, at })
 }
 
 /// Listens at the address that the replica of a book has among these.
@@ -86,12 +72,12 @@ fn listen<C: Counts, R: Net>(
     book: &SharedBook<C>,
 ) -> io::Result<Bound>
     ensures { IfOk result (λ bound. IsSomeAnd (own_address process.now.listeners.now
-        book.now.partition book.now.replica) (IsAt bound.at)) }
+        book.now.partition book.now.replica) (IsAt bound)) }
 {
     let own = own_address(process.listeners, book.partition, book.replica);
     let own = own.ok_or(ErrorKind::AddrNotAvailable)?;
-    let bound = bind_at(rt, own)?;
-    if !is_at(bound.at, own) {
+    let bound = Bound::listen(rt, own)?;
+    if !is_at(bound.at(), own) {
         return Err(ErrorKind::AddrNotAvailable.into());
     }
     Ok(bound)
@@ -107,8 +93,8 @@ fn open_transport<C: Counts, R: Net + Clock + Drop + Copy>(
 ) -> io::Result<TcpTransport<R>>
     ensures { IfOk result (λ transport. transport.peers ≡ addresses.items) }
 {
-    let Bound { listener, .. } = listen(rt, process, book)?;
-    TcpTransport::new(*rt, alloc, Poll::new(rt)?, listener, addresses)
+    let socket = listen(rt, process, book)?.into_socket();
+    TcpTransport::new(*rt, alloc, Poll::new(rt)?, socket, addresses)
 }
 
 /// Serves a replica that is shared with nobody else: what that came to, whether it is done or not.
@@ -152,6 +138,16 @@ fn serve<C: Counts, R: Net + Wait + Clock + Drop + Copy>(
     Ok(serve_over(rt, alloc, process, &service, holdings, &mut transport))
 }
 
+/// Why there is no book: memory was refused, or there is no such replica, which the words rule out.
+fn book_fault(fault: &BookFault) -> ProcessFault
+    ensures { result ≡ book_fault fault.now }
+{
+    match fault {
+        BookFault::Memory => ProcessFault::Memory,
+        BookFault::Refused(_) => ProcessFault::Refused(ProcessCause::Broken),
+    }
+}
+
 /// A shared book of a replica, which no other one is.
 fn shared_of<M: Naming + Send + Sync, E: Ledger + Send + Sync>(
     alloc: Global,
@@ -170,8 +166,7 @@ fn shared_of<M: Naming + Send + Sync, E: Ledger + Send + Sync>(
     let (partition, replica) = (process.partition, process.replica);
     match SharedBook::new(alloc, topology, partition, replica, counts, whole) {
         Ok(book) => Ok(book),
-        Err(BookFault::Memory) => Err(ProcessFault::Memory),
-        Err(BookFault::Refused(_)) => Err(ProcessFault::Refused(ProcessCause::Broken)),
+        Err(fault) => Err(book_fault(&fault)),
     }
 }
 

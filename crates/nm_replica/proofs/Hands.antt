@@ -21,21 +21,21 @@ NoneWanted s n = (peer : ℕ) → peer < n → is_due_at s.peers peer ≡ false
 pub one_over : (s : ContactsValue) (n : ℕ) → is_due_at s.peers n ≡ false → NoneWanted s n → NoneWanted s (n + 1)
 one_over s n free before peer low = below_more (λ p. is_due_at s.peers p ≡ false) n before free peer low
 
-module _ {W : Type 0} (leads_to : W → Option ℕ) (sessions : List (Option SessionValue)) (n : ℕ) (old new : ContactsValue) (slab : Slab (Connection W))
+module _ {W : Type 0} (leads_to : W → Option ℕ) (sessions : List (Option SessionValue) × List (Option SessionValue)) (n : ℕ) (old new : ContactsValue) (slab : Slab (Connection W))
     (did : Dials leads_to sessions n old new slab) where
   pub one_dialed : NoneWanted old n → NoneWanted new (n + 1)
   one_dialed before peer low =
       below_more (λ p. is_due_at new.peers p ≡ false) n
       (λ p l. let ne : p ≢ n = λ e. absurd (omega (arith, l, e)) in
-      ⊎_elim (λ is. others 0 n old new (inl is) p ne ∙ before p l) (λ d. others d.0 n old new (inr d.2) p ne ∙ before p l) did)
-      (⊎_elim (λ is. no_more 0 n old new (inl is)) (λ d. no_more d.0 n old new (inr d.2)) did) peer low
+      ⊎_elim (λ is. others 0 n old new (inl is.0) p ne ∙ before p l) (λ d. others d.0 n old new (inr d.2) p ne ∙ before p l) did)
+      (⊎_elim (λ is. no_more 0 n old new (inl is.0)) (λ d. no_more d.0 n old new (inr d.2)) did) peer low
 
   pub dialed_as_many : length new.peers ≡ length old.peers
-  dialed_as_many = ⊎_elim (λ is. as_many 0 n old new (inl is)) (λ d. as_many d.0 n old new (inr d.2)) did
+  dialed_as_many = ⊎_elim (λ is. as_many 0 n old new (inl is.0)) (λ d. as_many d.0 n old new (inr d.2)) did
 
   -- one more was called
   pub one_more_called : (first : ContactsValue) → is_due_at old.peers n ≡ true → (k : ℕ) × CallsSome k first old → (k : ℕ) × CallsSome k first new
-  one_more_called first due so_far = (suc so_far.0, (old, so_far.1, (n, due, ⊎_elim inl (λ d. inr (d.0, d.1, d.2)) did)))
+  one_more_called first due so_far = (suc so_far.0, (old, so_far.1, (n, due, ⊎_elim (λ is. inl is.0) (λ d. inr (d.0, d.1, d.2)) did)))
 
 -- nobody is to be called, where that is so below their number
 pub none_wanted : (s : ContactsValue) (n : ℕ) → length s.peers ≤ n → NoneWanted s n → (peer : ℕ) → is_due_at s.peers peer ≡ false

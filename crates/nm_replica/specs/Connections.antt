@@ -53,14 +53,15 @@ LetsStaleGo old new =
     × ((key : ℕ) → is_slot is_stale (contact_at new.connections key) ≡ false)
 
 -- A peer is called: by a connection that leads to it and has its session, under a key that is
--- free; or no connection could be begun.
-abbrev pub Dials : {W : Type 0} → (leads_to : W → Option ℕ) → List (Option SessionValue)
+-- free; or no connection could be begun, and the sessions are as they were.
+abbrev pub Dials : {W : Type 0} → (leads_to : W → Option ℕ)
+    → (sessions : List (Option SessionValue) × List (Option SessionValue))
     → (peer : ℕ) → (old new : ContactsValue) → Slab (Connection W) → Type 0
 Dials leads_to sessions peer old new slab =
-    (new ≡ after old (NotCalled peer))
+    ((new ≡ after old (NotCalled peer)) × (sessions.1 ≡ sessions.0))
     ⊎ ((key : ℕ) × MayCome old (Called key peer) × (new ≡ after old (Called key peer))
     × IsSomeAnd (get slab key) (λ c. (leads_to c.link.wire.wire ≡ Some peer)
-    × (c.link.session ≡ slice_index_or sessions peer None)))
+    × (c.link.session ≡ slice_index_or sessions.0 peer None)))
 
 -- a peer that is due is called, or no connection to it could be begun
 abbrev pub CallsOne : (old new : ContactsValue) → Type 0

@@ -1,5 +1,5 @@
 -- What polls come to: how long nothing was ready or done, and when serving ends by it.
-use Rattle.std.specs.Prelude.{◌≡◌, ℕ, ◌+◌, Bool, true, false, nat_le, nat_lt, ◌||◌, Option, Some, None, Result, Ok, Err, if◌then◌else◌}
+use Rattle.std.specs.Prelude.{◌≡◌, ℕ, ◌+◌, Bool, true, false, nat_le, nat_lt, ◌||◌, not, Option, Some, None, Result, Ok, Err, if◌then◌else◌}
 use Rattle.std.specs.declared.alloc.AllocError.{AllocError}
 use Rattle.nm_base.specs.Count.{saturated}
 use Rattle.nm_book.specs.declared.running.Ran.{Ran}
@@ -40,11 +40,13 @@ abbrev pub Waits : (ran_out : Bool) → (before after : ℕ) → Type 0
 Waits ran_out before after =
     (waited : Waited) × (has_run_out waited ≡ ran_out) × (failed_waits before waited ≡ Ok after)
 
--- whether a run of the book left events to do, or memory was refused to it
-abbrev pub was_cut : Ran → Result Bool AllocError
-was_cut (All n) = Ok false
-was_cut (Limit n) = Ok true
-was_cut (Memory n) = Err (record {})
+-- whether a replica is to go on at once after a run of its book, or after none: where the run left
+-- events to do, and there is no pool that does them; or memory was refused to the run
+abbrev pub runs_on : (has_pool : Bool) → Option Ran → Result Bool AllocError
+runs_on has_pool None = Ok false
+runs_on has_pool (Some (All n)) = Ok false
+runs_on has_pool (Some (Limit n)) = Ok (not has_pool)
+runs_on has_pool (Some (Memory n)) = Err (record {})
 
 -- how serving ends after a poll, if it does: it is done, or so many periods in a row were idle as
 -- its limit says

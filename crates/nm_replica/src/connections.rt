@@ -165,8 +165,8 @@ impl<W> Connections<W> {
         requires { is_due_at self.old.contacts.peers peer ≡ true }
         ensures idle { T.elapsed_periods transport.new ≡ T.elapsed_periods transport.old }
         ensures dials { OnOk result
-            (Dials T.leads_to self.old.sessions peer self.old.contacts self.new.contacts
-            self.new.open) }
+            (Dials T.leads_to (self.old.sessions, self.new.sessions) peer self.old.contacts
+            self.new.contacts self.new.open) }
     {
         self.open.reserve(1)?;
         let key = self.open.vacant_key();

@@ -10,7 +10,7 @@ ghost use Rattle.nm_policy.specs.Lasting.{has_lasted, lasted_after};
 ghost use Rattle.nm_policy.specs.Laws.{at_first};
 ghost use Rattle.nm_policy.specs.Stays.{leaves, stayed};
 ghost use Rattle.nm_replica.specs.Connections.{AreAllReady, DropsSome, IsNoneReady, WaitsOnce};
-ghost use Rattle.nm_replica.specs.Polls.{KeepsCounts, Waits, failed_waits, is_active, was_cut};
+ghost use Rattle.nm_replica.specs.Polls.{KeepsCounts, Waits, failed_waits, is_active, runs_on};
 ghost use Rattle.nm_replica.specs.Recording.{Streamed, Streams, WasEmptied, WroteAsCounted};
 ghost use Rattle.nm_replica.specs.Seats.{AreKept, StandOnBoard};
 ghost use Rattle.nm_replica.specs.Served.{AllWereFinished, EndsEarly, HasStayed, IsInterrupted};
@@ -19,6 +19,8 @@ ghost use Rattle.nm_replica.specs.Sessions.{first_sessions};
 ghost use Rattle.nm_replica.specs.Sisters.{MergesSister, is_sister_of, replica_name};
 ghost use Rattle.nm_replica.specs.Turns.{ServesAll, ServesTwice, WaitsAndServes, links};
 ghost use Rattle.nm_replica.specs.declared.served.Served.TheVariants.{Net};
+ghost use Rattle.nm_shared.specs.Pool.{IsRunAnswer};
+ghost use Rattle.nm_book.specs.declared.running.Ran.TheVariants.{Limit};
 ghost use Rattle.nm_transport.specs.Transport.{elapsed_after, has_run_out};
 
 use crate::acts::{Stand, Standing};
@@ -331,34 +333,51 @@ fn goes_on<C: Counts>(service: &Service<'_, C>) -> bool
     lent.is_none()
 }
 
-/// Whether a run of the book left events to do.
+/// Whether the replica is to go on at once after a run, or after none.
 ///
 /// # Errors
 ///
-/// Where memory was refused to it.
-fn was_cut(ran: Ran) -> Result<bool, AllocError>
-    ensures { result ≡ was_cut ran }
+/// Where memory was refused to the run.
+fn runs_on<C: Counts>(service: &Service<'_, C>, ran: Option<Ran>) -> Result<bool, AllocError>
+    ensures { result ≡ runs_on service.now.lending.now ran }
 {
     match ran {
-        Ran::All(_) => Ok(false),
-        Ran::Limit(_) => Ok(true),
-        Ran::Memory(_) => Err(AllocError),
+        None | Some(Ran::All(_)) => Ok(false),
+        Some(Ran::Limit(_)) => Ok(goes_on(service)),
+        Some(Ran::Memory(_)) => Err(AllocError),
     }
 }
 
+/// Runs the book, if the replica is to.
+fn run_own<C: Counts, R: Wait>(
+    rt: &R,
+    alloc: Global,
+    service: &Service<'_, C>,
+    pass: &mut Pass<C>,
+) -> Option<Ran>
+    ensures { IfSome result (λ ran. IsRunAnswer service.now.run_limit ran) }
+{
+    let limit = own_limit(service.lending.is_lent(), service.run_limit);
+    if limit == 0 {
+        return None;
+    }
+    Some(service.book.run(rt, pass, alloc, limit))
+}
+
 /// Runs the book, if the replica is to, and looks how far it is: that, and whether it may run on at
-/// once.
+/// once, which no replica does that has a pool.
 fn run_book<C: Counts, R: Wait>(
     rt: &R,
     alloc: Global,
     service: &Service<'_, C>,
     pass: &mut Pass<C>,
 ) -> Result<(Standing, bool), AllocError>
-    ensures { IfOk result (λ s. WasSeen C.exact C.home s.0) }
+    ensures seen { IfOk result (λ s. WasSeen C.exact C.home s.0) }
+    ensures on { IfOk result (λ s. s.1 ≡ true → (service.now.lending.now ≡ false)
+        × ((n : ℕ) × IsRunAnswer service.now.run_limit (Limit n))) }
 {
-    let limit = own_limit(service.lending.is_lent(), service.run_limit);
-    let is_left = limit > 0 && was_cut(service.book.run(rt, pass, alloc, limit))?;
-    let runs_on = is_left && goes_on(service);
+    let ran = run_own(rt, alloc, service, pass);
+    let runs_on = runs_on(service, ran)?;
     let standing = service.book.act(rt, pass, Stand);
     note_progress(service, &standing);
     Ok((standing, runs_on))

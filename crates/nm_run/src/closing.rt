@@ -31,7 +31,8 @@ impl Passes {
     /// None so far, of so many books.
     #[tactic(auto, using(std::proofs::lemmas::List::Sums::sum_by_push))]
     fn new(alloc: Global, books: usize) -> Result<Self, AllocError>
-        ensures { IfOk result (λ p. pass_count p ≡ 0) }
+        ensures none { IfOk result (λ p. pass_count p ≡ 0) }
+        ensures books { IfOk result (λ p. vec_len p.lists ≡ books) }
     {
         let mut lists = Vec::new(alloc);
         for _ in 0..books {
@@ -47,7 +48,8 @@ impl Passes {
     /// `Broken` where there is no such book. `Memory` where memory was refused.
     #[tactic(auto, using(crate::proofs::Passing::one_pass_more))]
     fn add(&mut self, book: usize, pass: Pass<Plain>) -> Result<(), Stop>
-        ensures { OnOk result (pass_count self.new ≡ pass_count self.old + 1) }
+        ensures one { OnOk result (pass_count self.new ≡ pass_count self.old + 1) }
+        ensures books { OnOk result (vec_len self.new.lists ≡ vec_len self.old.lists) }
     {
         let Some(list) = self.lists.get_mut(book) else {
             return Err(Stop::Broken);
@@ -62,7 +64,8 @@ impl Passes {
     ///
     /// Those of `add`.
     fn add_each(&mut self, passes: Vec<Pass<Plain>>) -> Result<(), Stop>
-        ensures { OnOk result (pass_count self.new ≡ pass_count self.old + vec_len passes) }
+        ensures all { OnOk result (pass_count self.new ≡ pass_count self.old + vec_len passes) }
+        ensures books { OnOk result (vec_len self.new.lists ≡ vec_len self.old.lists) }
     {
         for (book, pass) in passes.into_iter().enumerate() {
             self.add(book, pass)?;
@@ -84,6 +87,7 @@ fn gather_sides<S: Sink + Drop>(
 ) -> Result<Vec<TraceFiles<S>>, Stop>
     ensures passes { OnOk result
         (pass_count passes.new ≡ pass_count passes.old + sum_by given_back ends.items) }
+    ensures books { OnOk result (vec_len passes.new.lists ≡ vec_len passes.old.lists) }
     ensures files { (made : Option Files)
         → All (λ end. AreCounted S.seen made end.files.files.items) ends.items
         → IfOk result (λ files. All (λ own. AreCounted S.seen made own.files.items) files.items) }
@@ -144,6 +148,7 @@ fn close_books(
     passes: Passes,
     replicas: u8,
 ) -> Result<Vec<Book>, Stop>
+    requires { vec_len passes.lists ≡ vec_len books }
     ensures { IfOk result (λ closed. AreInPlace replicas closed.items) }
 {
     let mut closed = Vec::new(alloc);

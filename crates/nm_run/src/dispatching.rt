@@ -1,6 +1,6 @@
 //! The dispatcher: it gives jobs to a pool as long as there are any.
 
-ghost use Rattle.std.specs.Prelude.{◌≡◌, ◌+◌, ◌<◌, ◌≤◌, All, IfErr, IfOk, OnOk, is_some, length};
+ghost use Rattle.std.specs.Prelude.{◌≡◌, ◌==◌, ◌+◌, ◌<◌, ◌≤◌, All, IfErr, IfOk, OnOk, is_some, length};
 ghost use Rattle.std.specs.Prelude.{true, vec_len};
 ghost use Rattle.std.specs.List.{list_all};
 ghost use Rattle.nm_run.specs.Watching.{Answers, AreOwns, names_of, owns_of};
@@ -218,9 +218,20 @@ fn note_progress<G>(threaded: &Threaded<'_, G>, all: &[Watched<'_>]) {
         .note(Time::from_nanoseconds(time), records);
 }
 
-/// Waits until it is woken, or the time is over. No replica is left asleep then whose run is done:
-/// once all books are, all were woken.
-fn listen(dispatcher: &mut Dispatcher<'_>, woken: Option<AllWoken>)
+/// There was nothing to do.
+#[derive(Clone, Copy)]
+struct Idle(());
+
+/// That there was nothing to do, where jobs did no events.
+fn idle_after(events: u64) -> Option<Idle>
+    ensures { is_some result ≡ (events == 0) }
+{
+    if events == 0 { Some(Idle(())) } else { None }
+}
+
+/// Waits until it is woken, or the time is over, since there was nothing to do. No replica is left
+/// asleep then whose run is done: once all books are, all were woken.
+fn listen(dispatcher: &mut Dispatcher<'_>, woken: Option<AllWoken>, _: Idle)
     requires { list_all (λ w. w.is_done) dispatcher.old.watched.items ≡ true
         → is_some woken ≡ true }
     ensures seat { dispatcher.new.seat ≡ dispatcher.old.seat }
@@ -281,8 +292,8 @@ pub(crate) fn dispatch<G: Gate + Sync, R: Threads + Wait + Sync>(
         note_progress(threaded, dispatcher.watched.as_slice());
         woken = wake_done(threaded, dispatcher.watched.as_slice(), woken);
         dispatcher.looks_at_all = false;
-        if events == 0 {
-            listen(dispatcher, woken);
+        if let Some(idle) = idle_after(events) {
+            listen(dispatcher, woken, idle);
         }
     }
     Err(threaded.fail(rt))

@@ -6,6 +6,7 @@ ghost use Rattle.nm_book.specs.declared.running.Ran.TheVariants.{Memory};
 ghost use Rattle.nm_run.specs.Replicas.{AreWordsOf};
 ghost use Rattle.nm_run.specs.Watching.{Answers, AreOwns, WasLookedAt, names_of, owns_of};
 ghost use Rattle.nm_shared.specs.Board.{IsSeatOf};
+ghost use Rattle.nm_shared.specs.Pool.{IsRunAnswer};
 
 use crate::stations::Own;
 use crate::threads::Threaded;
@@ -168,7 +169,8 @@ impl<'a> Watched<'a> {
     /// Does a job of its book with its own pass.
     pub(crate) fn run<R: Wait>(&mut self, rt: &R, alloc: Global, job: &Job) -> Ran
         requires { self.old.own.index ≡ job.now.book }
-        ensures { self.new.own ≡ self.old.own }
+        ensures own { self.new.own ≡ self.old.own }
+        ensures answer { IsRunAnswer job.now.limit result }
     {
         self.own.book.run(rt, &mut self.pass, alloc, job.limit)
     }

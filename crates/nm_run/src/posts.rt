@@ -2,14 +2,15 @@
 
 ghost use Rattle.std.specs.Prelude.{◌==◌, ◌≡◌, ◌∷◌, [], IfOk, OnOk, map, not};
 ghost use Rattle.std.specs.Net.Addr.{ipv4_octets};
+ghost use Rattle.std.specs.declared.net.socket_addr.SocketAddr.TheVariants.{V4};
 ghost use Rattle.nm_run.specs.Replicas.{IsNextListener, listener_pair};
 
 use crate::stations::Station;
 use crate::stop::Stop;
-use mio::net::TcpListener;
 use mio::{Poll, Token, Waker};
 use nm_peers::Listener;
 use nm_shared::{Lending, Plain, SharedBook};
+use nm_transport::Bound;
 use std::alloc::Global;
 use std::io;
 use std::net::{Ipv4Addr, Net, SocketAddr};
@@ -21,7 +22,7 @@ const WOKEN: Token = Token(usize::MAX - 1);
 /// A socket that listens, and the poll on which its replica will wait.
 #[derive(Drop)]
 pub(crate) struct Post {
-    pub socket: TcpListener,
+    pub bound: Bound,
     pub poll: Poll,
 }
 
@@ -49,15 +50,17 @@ fn own_host() -> Ipv4Addr
     Ipv4Addr::LOCALHOST
 }
 
-/// A socket that listens at a free port of 127.0.0.1, for the replica of this book.
-fn listen<R: Net>(net: &R, book: &SharedBook<Plain>) -> io::Result<(TcpListener, Listener)>
-    ensures { IfOk result (λ opened. (opened.1.partition ≡ book.now.partition)
+/// A socket that listens at a free port of 127.0.0.1, for the replica of this book, which is said
+/// to listen where the socket does.
+fn listen<R: Net>(net: &R, book: &SharedBook<Plain>) -> io::Result<(Bound, Listener)>
+    ensures replica { IfOk result (λ opened. (opened.1.partition ≡ book.now.partition)
         × (opened.1.replica ≡ book.now.replica)) }
+    ensures address { IfOk result (λ opened. opened.0 ≡ V4 opened.1.address) }
 {
-    let socket = TcpListener::bind(net, SocketAddr::from((own_host(), 0)))?;
-    match socket.local_addr()? {
+    let bound = Bound::listen(net, SocketAddr::from((own_host(), 0)))?;
+    match bound.at() {
         SocketAddr::V4(address) => Ok((
-            socket,
+            bound,
             Listener {
                 partition: book.partition,
                 replica: book.replica,
@@ -78,9 +81,9 @@ fn open_one<R: Net>(
     ensures { OnOk result (IsNextListener posts.old.listeners.items posts.new.listeners.items
         (book.now.partition, book.now.replica)) }
 {
-    let (socket, listener) = listen(net, book)?;
+    let (bound, listener) = listen(net, book)?;
     let (poll, waker) = woken_poll(net)?;
-    posts.posts.push(Post { socket, poll })?;
+    posts.posts.push(Post { bound, poll })?;
     posts.listeners.push(listener)?;
     posts.stations.push(Station {
         lending,

@@ -209,17 +209,20 @@ fn sides_of<'a, F: Outputs, G, R: Wait>(
 }
 
 /// What the dispatcher remembers of each replica at first.
-fn watch_all<'a, G, R: Wait>(
-    rt: &R,
-    threaded: &Threaded<'a, G>,
-) -> Result<Vec<Watched<'a>>, AllocError>
-    ensures { IfOk result (λ watched. AreOwns (names_of threaded.now) (owns_of watched.items)) }
+///
+/// # Errors
+///
+/// `Broken` where one is not there. `Memory` where memory was refused.
+fn watch_all<'a, G, R: Wait>(rt: &R, threaded: &Threaded<'a, G>) -> Result<Vec<Watched<'a>>, Stop>
+    ensures owns { IfOk result
+        (λ watched. AreOwns (names_of threaded.now) (owns_of watched.items)) }
+    ensures all { IfOk result (λ watched. vec_len watched ≡ length threaded.now.books.now) }
 {
     let (topology, replicas) = (threaded.plan.topology, threaded.plan.replicas);
     let mut watched = Vec::new(threaded.alloc);
-    for _ in 0..threaded.books.len() {
-        let Some(own) = threaded.own_at(watched.len()) else {
-            break;
+    for number in 0..threaded.books.len() {
+        let Some(own) = threaded.own_at(number) else {
+            return Err(Stop::Broken);
         };
         let pass = own.book.pass(rt)?;
         watched.push(Watched::new(threaded.alloc, topology, replicas, own, pass)?)?;
@@ -233,7 +236,7 @@ fn dispatcher_of<'a, G, R: Wait>(
     threaded: &Threaded<'a, G>,
     poll: Poll,
     seat: Seat,
-) -> Result<Dispatcher<'a>, AllocError>
+) -> Result<Dispatcher<'a>, Stop>
     ensures seat { IfOk result (λ d. d.seat ≡ seat) }
     ensures owns { IfOk result (λ d. AreOwns (names_of threaded.now) (owns_of d.watched.items)) }
 {

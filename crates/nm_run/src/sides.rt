@@ -1,6 +1,6 @@
 //! The replicas of a run, each in a thread of its own.
 
-ghost use Rattle.std.specs.Prelude.{◌≡◌, ◌⊎◌, ◌≤◌, All, IfOk, Option, Some, false, true};
+ghost use Rattle.std.specs.Prelude.{◌≡◌, ◌⊎◌, ◌≤◌, All, IfErr, IfOk, Option, Some, false, true};
 ghost use Rattle.nm_replica.specs.declared.served.Served.TheVariants.{Ended, Memory, Net};
 ghost use Rattle.nm_files.specs.Files.{AreCounted};
 ghost use Rattle.nm_files.specs.Outputs.{Files};
@@ -18,7 +18,7 @@ use crate::runtime::Runtime;
 use crate::stations::{Counted, Own};
 use crate::stop::Stop;
 use crate::threads::Threaded;
-use crate::told::Told;
+use crate::told::{Stopped, Told};
 use nm_base::{PartNo, Sink};
 use nm_files::TraceFiles;
 use nm_frames::ReplicaName;
@@ -189,12 +189,13 @@ pub(crate) fn run_side<S: Sink, G: Gate, R: Net + Wait + Clock + Drop + Copy>(
         peers,
     } = side;
     let index = own.index;
-    let Post { socket, poll } = post;
+    let Post { bound, poll } = post;
     let Peers {
         partitions,
         addresses,
         callers,
     } = peers;
+    let socket = bound.into_socket();
     let served = match TcpTransport::new(*rt, threaded.alloc, poll, socket, addresses) {
         Err(error) => served_of(&error),
         Ok(mut transport) => {
@@ -231,25 +232,26 @@ pub(crate) fn run_side<S: Sink, G: Gate, R: Net + Wait + Clock + Drop + Copy>(
 ///
 /// # Errors
 ///
-/// `Net` where the system refuses a thread: no event was done then, and the replicas that had begun
-/// have ended. `Memory` where memory was refused.
+/// `Net` where the system refuses a thread: no event was done then. `Memory` where memory was
+/// refused. The replicas that had begun were told so, and have ended.
 pub(crate) fn run_threads<S: Sink + Drop + Send, G: Gate + Sync, R: Runtime>(
     rt: &R,
     threaded: &Threaded<'_, G>,
     sides: Vec<Side<'_, S>>,
     dispatcher: Dispatcher<'_>,
-) -> Result<(Vec<SideEnd<S>>, Vec<BookPass<Plain>>), Stop>
+) -> Result<(Vec<SideEnd<S>>, Vec<BookPass<Plain>>), Stopped>
     requires workers { (1 ≤ threaded.now.plan.now.workers) × (threaded.now.plan.now.workers ≤ 64) }
     requires seat { IsSeatOf threaded.now.board.now dispatcher.seat }
     requires owns { AreOwns (names_of threaded.now) (owns_of dispatcher.watched.items) }
     ensures counted { (made : Option Files)
         → All (λ s. AreCounted S.seen made s.holdings.files.files.items) sides.entry.items
         → IfOk result (λ run. All (StillCounts S.seen made) run.0.items) }
+    ensures told { IfErr result (λ stopped. stopped.told.are_all ≡ true) }
 {
     thread::scope(
         thread::scope_env(),
         rt,
-        move |scope| -> Result<(Vec<SideEnd<S>>, Vec<BookPass<Plain>>), Stop>
+        move |scope| -> Result<(Vec<SideEnd<S>>, Vec<BookPass<Plain>>), Stopped>
             requires workers { (1 ≤ threaded.now.plan.now.workers)
                 × (threaded.now.plan.now.workers ≤ 64) }
             requires seat { IsSeatOf threaded.now.board.now dispatcher.seat }
@@ -257,6 +259,7 @@ pub(crate) fn run_threads<S: Sink + Drop + Send, G: Gate + Sync, R: Runtime>(
             ensures counted { (made : Option Files)
                 → All (λ s. AreCounted S.seen made s.holdings.files.files.items) sides.entry.items
                 → IfOk result (λ run. All (StillCounts S.seen made) run.0.items) }
+            ensures told { IfErr result (λ stopped. stopped.told.are_all ≡ true) }
         {
             let mut dispatcher = dispatcher;
             let mut threads = Vec::new(threaded.alloc);
@@ -270,22 +273,26 @@ pub(crate) fn run_threads<S: Sink + Drop + Send, G: Gate + Sync, R: Runtime>(
                     { run_side(rt, threaded, side) },
                 );
                 let Ok(thread) = begun else {
-                    let _ = threaded.fail(rt);
-                    return Err(Stop::Net);
+                    return Err(Stopped::of(Stop::Net, threaded.fail(rt)));
                 };
                 if threads.push(thread).is_err() {
-                    let _ = threaded.fail(rt);
-                    return Err(Stop::Memory);
+                    return Err(Stopped::of(Stop::Memory, threaded.fail(rt)));
                 }
             }
-            let Ok(dispatched) = dispatch(rt, threaded, &mut dispatcher) else {
-                return Err(Stop::Memory);
+            let dispatched = match dispatch(rt, threaded, &mut dispatcher) {
+                Ok(dispatched) => dispatched,
+                Err(told) => return Err(Stopped::of(Stop::Memory, told)),
             };
             let mut ends = Vec::new(threaded.alloc);
             for thread in threads {
-                ends.push(thread.join(rt))?;
+                if ends.push(thread.join(rt)).is_err() {
+                    return Err(Stopped::of(Stop::Memory, threaded.fail(rt)));
+                }
             }
-            Ok((ends, dispatcher.into_passes(dispatched)?))
+            match dispatcher.into_passes(dispatched) {
+                Ok(passes) => Ok((ends, passes)),
+                Err(_) => Err(Stopped::of(Stop::Memory, threaded.fail(rt))),
+            }
         },
     )
 }

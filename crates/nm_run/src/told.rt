@@ -2,6 +2,7 @@
 
 ghost use Rattle.std.specs.Prelude.{◌≡◌, true};
 
+use crate::stop::Stop;
 use crate::threads::AllWoken;
 use std::sync::{OnceLock, OnceToken};
 
@@ -21,5 +22,28 @@ impl Told {
         ensures { result.are_all ≡ true }
     {
         Told { are_all: true }
+    }
+}
+
+/// Why a run does not come to its end, and that its replicas were told so.
+#[derive(Clone, Copy)]
+pub(crate) struct Stopped {
+    stop: Stop,
+    told: Told,
+}
+
+impl Stopped {
+    pub(crate) fn of(stop: Stop, told: Told) -> Self
+        ensures { (result.stop ≡ stop) × (result.told ≡ told) }
+    {
+        Stopped { stop, told }
+    }
+}
+
+impl From<Stopped> for Stop {
+    ghost from_gives = { λ stopped s. s ≡ stopped.stop };
+
+    fn from(stopped: Stopped) -> Self {
+        stopped.stop
     }
 }

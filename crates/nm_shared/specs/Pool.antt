@@ -14,6 +14,11 @@ put_in_places place_of slots [] = slots
 put_in_places place_of slots (report ∷ more) =
     put_in_places place_of (slice_set slots (place_of report) (Some report)) more
 
+-- these were put last
+abbrev pub ArePut : {A : Type 0} → (place_of : A → ℕ) → List A → List (Option A) → Type 0
+ArePut {A} place_of reports slots =
+    (before : List (Option A)) × (slots ≡ put_in_places place_of before reports)
+
 -- each answer is one to the limit of the job at its place
 abbrev pub AreAnswers : List ℕ → List Ran → Type 0
 AreAnswers limits answers =

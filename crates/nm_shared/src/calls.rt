@@ -1,6 +1,6 @@
 //! The calls of a shared book that a pass counts, and what it counts of them.
 
-ghost use Rattle.std.specs.Prelude.{◌≡◌, ◌+◌, ◌≤◌, true};
+ghost use Rattle.std.specs.Prelude.{◌≡◌, ◌+◌, ◌≤◌, IfOk, true};
 ghost use Rattle.nm_book.specs.Book.{BookValue, message_channel};
 ghost use Rattle.nm_book.specs.Accepting.{Takes, message_taken};
 ghost use Rattle.nm_book.specs.Merging.{BookMerges};
@@ -8,6 +8,7 @@ ghost use Rattle.nm_book.specs.Running.{Runs};
 ghost use Rattle.nm_shared.specs.Counted.{Meets, counts_of};
 ghost use Rattle.nm_shared.specs.Known.{messages_known, news, ran};
 ghost use Rattle.nm_shared.specs.Home.{home_of};
+ghost use Rattle.nm_shared.specs.Pool.{IsRunAnswer};
 
 use crate::acts::{Accept, Amounts, Look, Merge, Run};
 use crate::counts::Counts;
@@ -15,7 +16,7 @@ use crate::shared_book::{Pass, SharedBook};
 use nm_base::PartNo;
 use nm_book::{AcceptFault, ChannelMessage, Knowledge, MergeFault, Ran};
 use nm_knowledge::Accepted;
-use std::alloc::Global;
+use std::alloc::{AllocError, Global};
 use std::sync::Wait;
 
 /// What the book of this replica answered to a merge: only `SharedBook::merge` makes it.
@@ -26,6 +27,28 @@ pub struct MergeAnswer {
     pub replica: u8,
     pub answer: Result<(), MergeFault>,
     _private: (),
+}
+
+/// A run of the book of this replica, with a pass of its own: only `SharedBook::run_anew` makes it.
+#[derive(Drop)]
+pub struct OwnRun<C: Counts> {
+    /// The replica's partition, and 0 or 1.
+    pub partition: PartNo,
+    pub replica: u8,
+    pub answer: Ran,
+    pub pass: Pass<C>,
+    _private: (),
+}
+
+/// How many events a run did.
+fn count_of(answer: &Ran) -> u64
+    ensures { result ≡ ran answer.now }
+{
+    match answer {
+        Ran::All(n) => *n,
+        Ran::Limit(n) => *n,
+        Ran::Memory(n) => *n,
+    }
 }
 
 impl<C: Counts> SharedBook<C> {
@@ -65,6 +88,34 @@ impl<C: Counts> SharedBook<C> {
             ≡ C.events_of pass.old.share + ran result }
     {
         self.act(rt, pass, Run { alloc, limit })
+    }
+
+    /// A run as by `run`, with a pass of its own.
+    ///
+    /// # Errors
+    ///
+    /// Where 2^32 passes were made already. No event was done then.
+    pub fn run_anew<R: Wait>(
+        &self,
+        rt: &R,
+        alloc: Global,
+        limit: u64,
+    ) -> Result<OwnRun<C>, AllocError>
+        ensures runs { IfOk result (λ r. IsRunAnswer limit r.answer) }
+        ensures counted { IfOk result (λ r. C.events_of r.pass.share ≡ ran r.answer) }
+        ensures of { IfOk result
+            (λ r. (r.partition ≡ self.now.partition) × (r.replica ≡ self.now.replica)) }
+    {
+        let mut pass = self.pass(rt)?;
+        let answer = self.act(rt, &mut pass, Run { alloc, limit });
+        let _count = count_of(&answer);
+        Ok(OwnRun {
+            partition: self.partition,
+            replica: self.replica,
+            answer,
+            pass,
+            _private: (),
+        })
     }
 
     /// Takes in what another replica of the partition knows, as `Book::merge` does. What it learned

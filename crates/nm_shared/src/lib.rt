@@ -17,7 +17,7 @@ pub mod workers;
 
 pub use act::Act;
 pub use board::{ClockBoard, OwnerSeat, Seat};
-pub use calls::MergeAnswer;
+pub use calls::{MergeAnswer, OwnRun};
 pub use counts::Counts;
 pub use ledgers::{Ledgers, Naming};
 pub use lending::{GivenBack, Lending, Lent, Notified};

@@ -4,13 +4,15 @@ ghost use Rattle.std.specs.Prelude.{◌≡◌, ℕ, ◌<◌, ◌≤◌, length, 
 ghost use Rattle.nm_shared.specs.Known.{ran};
 ghost use Rattle.nm_shared.specs.Pool.{AreAnswers};
 
+mod offers;
 mod report;
 mod work;
 
 use crate::counts::Counts;
 use crate::shared_book::{Pass, SharedBook};
 use nm_book::Ran;
-use report::{put_all, report_of, slots_for};
+use offers::Offers;
+use report::{gathered, report_of, slots_for};
 use std::alloc::{AllocError, Global};
 use std::marker::Brand;
 use std::sync::Wait;
@@ -100,9 +102,9 @@ fn pool_of<C: Counts, J: Jobs + Send + Sync, G: Gate + Sync, R: Threads + Wait +
         → slice_index (map ran r.answers.items) k ≤ slice_index J.limits k)) }
     ensures runs { IfOk result (λ r. AreAnswers J.limits r.answers.items) }
 {
-    let mut slots = slots_for(alloc, jobs.len())?;
+    let slots = slots_for(alloc, jobs.len())?;
     let (to, from) = crossbeam_channel::bounded(alloc, QUEUE)?;
-    let queue = &from;
+    let (queue, offers) = (&from, Offers::of(to));
     let (results, fed) = thread::join(
         rt,
         move ||
@@ -126,12 +128,9 @@ fn pool_of<C: Counts, J: Jobs + Send + Sync, G: Gate + Sync, R: Threads + Wait +
             requires length { length jobs.now ≡ length J.books }
             requires books { J.books ≡ map (λ j. j.book) jobs.now }
             requires limits { J.limits ≡ map (λ j. j.limit) jobs.now }
-        { feed::<C, J, G, R>(rt, alloc, books, jobs, to, gate) },
+        { feed::<C, J, G, R>(rt, alloc, books, jobs, offers, gate) },
     );
-    for result in results? {
-        put_all(&mut slots, result?);
-    }
-    put_all(&mut slots, fed?);
+    let slots = gathered(slots, results?, fed?)?;
     report_of::<C, J, G, R>(rt, alloc, books, jobs, slots, gate)
 }
 

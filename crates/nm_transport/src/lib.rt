@@ -2,6 +2,7 @@
 //! likes. Time passes here in periods.
 #![tactic(auto)]
 
+pub mod bound;
 pub mod limits;
 mod period;
 mod reading;
@@ -10,6 +11,7 @@ pub mod tcp_transport;
 pub mod tcp_wire;
 pub mod transport;
 
+pub use bound::Bound;
 pub use tcp_transport::TcpTransport;
 pub use tcp_wire::TcpWire;
 pub use transport::{Reported, Transport, Waited};

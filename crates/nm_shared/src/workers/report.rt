@@ -3,7 +3,7 @@
 ghost use Rattle.std.specs.Prelude.{◌≡◌, ℕ, ◌<◌, ◌≤◌, length, map, slice_index, vec_len, IfOk, All};
 ghost use Rattle.std.specs.Prelude.{Some, slice_set};
 ghost use Rattle.nm_shared.specs.Known.{ran};
-ghost use Rattle.nm_shared.specs.Pool.{AreAnswers, put_in_places};
+ghost use Rattle.nm_shared.specs.Pool.{AreAnswers, ArePut, put_in_places};
 
 use super::work::{Done, Jobs, run_one};
 use super::{BookPass, Gate, Job, PoolReport};
@@ -36,7 +36,7 @@ fn put<C: Counts, J: Jobs>(slots: &mut Vec<Option<Done<C, J>>>, done: Done<C, J>
 }
 
 /// Puts the jobs that were done into their places.
-pub(super) fn put_all<C: Counts, J: Jobs>(slots: &mut Vec<Option<Done<C, J>>>, all: Vec<Done<C, J>>)
+fn put_all<C: Counts, J: Jobs>(slots: &mut Vec<Option<Done<C, J>>>, all: Vec<Done<C, J>>)
     requires { vec_len slots.old ≡ length J.books }
     ensures length { vec_len slots.new ≡ vec_len slots.old }
     ensures put { slots.new.items ≡ put_in_places (λ d. d.place) slots.old.items all.items }
@@ -44,6 +44,25 @@ pub(super) fn put_all<C: Counts, J: Jobs>(slots: &mut Vec<Option<Done<C, J>>>, a
     for done in all {
         put(slots, done);
     }
+}
+
+/// The jobs that were done, in their places: those of the threads, and those that came back as they
+/// were queued.
+pub(super) fn gathered<C: Counts, J: Jobs>(
+    slots: Vec<Option<Done<C, J>>>,
+    results: Vec<Result<Vec<Done<C, J>>, AllocError>>,
+    fed: Vec<Done<C, J>>,
+) -> Result<Vec<Option<Done<C, J>>>, AllocError>
+    requires { vec_len slots ≡ length J.books }
+    ensures length { IfOk result (λ s. vec_len s ≡ length J.books) }
+    ensures fed { IfOk result (λ s. ArePut (λ d. d.place) fed.items s.items) }
+{
+    let mut slots = slots;
+    for result in results {
+        put_all(&mut slots, result?);
+    }
+    put_all(&mut slots, fed);
+    Ok(slots)
 }
 
 /// The job that was done; if its message was lost, it is done now.
@@ -97,11 +116,10 @@ pub(super) fn report_of<C: Counts, J: Jobs, G: Gate, R: Wait>(
         let slot = slots[place].take();
         let done = done_at(rt, alloc, books, jobs, slot, place, gate)?;
         let Done {
-            place: _,
             book,
             answer,
             pass,
-            of: _,
+            ..
         } = done;
         answers.push(answer)?;
         passes.push(BookPass { book, pass })?;

@@ -1,15 +1,17 @@
 //! What the threads of a pool do.
 
 ghost use Rattle.std.specs.Prelude.{◌≡◌, ℕ, ◌<◌, List, [], length, map, slice_index, IfOk};
-ghost use Rattle.std.specs.Prelude.{All};
+ghost use Rattle.std.specs.Prelude.{All, IsSomeAnd, slice_get};
 ghost use Rattle.nm_shared.specs.Known.{ran};
 ghost use Rattle.nm_shared.specs.Pool.{IsRunAnswer};
 
 use super::{Gate, Job};
-use crate::acts::Run;
+use crate::calls::OwnRun;
 use crate::counts::Counts;
 use crate::shared_book::{Pass, SharedBook};
-use crossbeam_channel::{Receiver, Sender};
+use crate::workers::offers::Offers;
+use crossbeam_channel::Receiver;
+use nm_base::PartNo;
 use nm_book::Ran;
 use std::alloc::{AllocError, Global};
 use std::marker::{Brand, PhantomData};
@@ -31,7 +33,7 @@ impl Jobs for Brand {
 /// What the queue carries: the place of a job.
 #[derive(Drop)]
 pub(super) struct Queued<J: Jobs> {
-    place: usize,
+    pub(super) place: usize,
     of: PhantomData<J>,
     ghost there: { place < length J.books },
 }
@@ -41,6 +43,9 @@ pub(super) struct Queued<J: Jobs> {
 pub(super) struct Done<C: Counts, J: Jobs> {
     pub(super) place: usize,
     pub(super) book: usize,
+    /// The replica of that book: its partition, and 0 or 1.
+    pub(super) partition: PartNo,
+    pub(super) replica: u8,
     pub(super) answer: Ran,
     pub(super) pass: Pass<C>,
     pub(super) of: PhantomData<J>,
@@ -48,17 +53,6 @@ pub(super) struct Done<C: Counts, J: Jobs> {
     ghost book_is: { book ≡ slice_index J.books place },
     ghost runs: { IsRunAnswer (slice_index J.limits place) answer },
     ghost counted: { C.events_of pass.share ≡ ran answer },
-}
-
-/// How many events a run did.
-fn count_of(answer: &Ran) -> u64
-    ensures { result ≡ ran answer.now }
-{
-    match answer {
-        Ran::All(n) => *n,
-        Ran::Limit(n) => *n,
-        Ran::Memory(n) => *n,
-    }
 }
 
 fn to_queue<J: Jobs>(place: usize) -> Queued<J>
@@ -83,36 +77,42 @@ pub(super) fn run_one<C: Counts, J: Jobs, G: Gate, R: Wait>(
     requires named { All (λ j. j.book < length books.now) jobs.now }
     requires books { J.books ≡ map (λ j. j.book) jobs.now }
     requires limits { J.limits ≡ map (λ j. j.limit) jobs.now }
-    ensures { IfOk result (λ d. d.place ≡ place) }
+    ensures place { IfOk result (λ d. d.place ≡ place) }
+
+    // The book of the job ran.
+    ensures own { IfOk result (λ d. IsSomeAnd (slice_get books.now d.book)
+        (λ b. (d.partition ≡ b.partition) × (d.replica ≡ b.replica))) }
 {
     let job = &jobs[place];
-    let book = job.book;
-    let mut pass = books[book].pass(rt)?;
     gate.enter(place);
-    let run = Run {
-        alloc,
-        limit: job.limit,
-    };
-    let answer = books[book].act(rt, &mut pass, run);
+    let run = books[job.book].run_anew(rt, alloc, job.limit);
     gate.leave(place);
-    let _count = count_of(&answer);
+    let OwnRun {
+        partition,
+        replica,
+        answer,
+        pass,
+        ..
+    } = run?;
     Ok(Done {
         place,
-        book,
+        book: job.book,
+        partition,
+        replica,
         answer,
         pass,
         of: PhantomData,
     })
 }
 
-/// Queues each job, and does it where the queue is full: it waits for no other thread, since those
-/// that do the jobs may begin only when it has ended. The queue ends with its sender.
+/// Queues each job, and does it where it comes back, since the queue is full. It waits for no other
+/// thread: those that do the jobs may begin only when it has ended. The queue ends with its sender.
 pub(super) fn feed<C: Counts, J: Jobs, G: Gate, R: Wait>(
     rt: &R,
     alloc: Global,
     books: &[SharedBook<C>],
     jobs: &[Job],
-    to: Sender<Queued<J>>,
+    to: Offers<J>,
     gate: &G,
 ) -> Result<Vec<Done<C, J>>, AllocError>
     requires named { All (λ j. j.book < length books.now) jobs.now }
@@ -122,8 +122,8 @@ pub(super) fn feed<C: Counts, J: Jobs, G: Gate, R: Wait>(
 {
     let mut all = Vec::new(alloc);
     for place in 0..jobs.len() {
-        if to.try_send(rt, to_queue(place)).is_err() {
-            all.push(run_one::<C, J, G, R>(rt, alloc, books, jobs, place, gate)?)?;
+        if let Some(back) = to.offer(rt, to_queue(place)) {
+            all.push(run_one::<C, J, G, R>(rt, alloc, books, jobs, back.place, gate)?)?;
         }
     }
     Ok(all)
