@@ -69,7 +69,7 @@ impl<W: Write> StdSink<W> {
     }
 }
 
-/// How many octets a writer took by its answer, or `None` where it failed: it answered an error, or
+/// How many octets a writer took by its answer, or `None` if it failed: it answered an error, or
 /// took nothing of a list that is not empty.
 fn taken_count(answer: io::Result<usize>) -> Option<usize>
     ensures { MatchResult answer

@@ -116,8 +116,8 @@ impl Book {
     ///
     /// # Errors
     ///
-    /// `NoSuch` where the topology has no such partition, or the replica is neither 0 nor 1.
-    /// `Memory` where memory was refused.
+    /// `NoSuch` if the topology has no such partition, or the replica is neither 0 nor 1. `Memory`
+    /// if memory was refused.
     pub fn new(
         alloc: Global,
         topology: Arc<Topology>,
@@ -251,7 +251,7 @@ impl Book {
     ///
     /// # Errors
     ///
-    /// Where memory was refused.
+    /// If memory was refused.
     pub fn copy_knowledge(&self, alloc: Global) -> Result<Knowledge, AllocError>
         ensures { IfOk result (λ k. k ≡ record {
           digest = self.now.topology.digest;
@@ -268,8 +268,8 @@ impl Book {
     /// # Errors
     ///
     /// `Stranger` where it is the knowledge of another partition or topology. `Channel` names the
-    /// first channel that cannot be joined, and why (`Know::check_merge`). `Memory` where memory
-    /// was refused. A refusal changes nothing.
+    /// first channel that cannot be joined, and why (`Know::check_merge`). `Memory` if memory was
+    /// refused. A refusal changes nothing.
     pub fn merge(&mut self, alloc: Global, other: &Knowledge) -> Result<(), MergeFault>
         ensures { BookMerges self.old self.new other.now result }
     {
@@ -303,10 +303,10 @@ impl Book {
         self.safe
     }
 
-    /// No further message goes out on the channel that arrives before this time, in nanoseconds
-    /// (J. Misra, 1986, section 3): it counts the next event that may cause one, the transmission
-    /// under way, the least time of a transmission and the link's delay. `None` where the channel
-    /// does not go out from here. It takes no memory.
+    /// No further message goes out on the channel that arrives before this time, in nanoseconds (J.
+    /// Misra, 1986, section 3): it counts the next event that may cause one, the transmission under
+    /// way, the least time of a transmission and the link's delay. `None` if the channel does not
+    /// go out from here. It takes no memory.
     pub fn promise(&self, channel: ChanNo) -> Option<Time>
         ensures { result ≡ only_if (is_outgoing self.now channel)
             (promise_on Tight self.now channel) }
@@ -330,8 +330,8 @@ impl Book {
         Some(plain_promise(&self.topology, &self.part, self.safe, channel))
     }
 
-    /// The null message of a channel: how many messages were sent, and the promise. `None` where
-    /// the channel does not go out from here. It takes no memory.
+    /// The null message of a channel: how many messages were sent, and the promise. `None` if the
+    /// channel does not go out from here. It takes no memory.
     pub fn null(&self, channel: ChanNo) -> Option<Null>
         ensures { result ≡ only_if (is_outgoing self.now channel) (null_on Tight self.now channel) }
     {
@@ -342,7 +342,7 @@ impl Book {
         })
     }
 
-    /// The null message of a channel with the old promise. `None` where the channel does not go out
+    /// The null message of a channel with the old promise. `None` if the channel does not go out
     /// from here. It takes no memory.
     pub fn old_null(&self, channel: ChanNo) -> Option<Null>
         ensures { result ≡ only_if (is_outgoing self.now channel) (null_on Plain self.now channel) }
@@ -354,7 +354,7 @@ impl Book {
         })
     }
 
-    /// How many messages were sent on a channel, or `None` where the channel does not go out from
+    /// How many messages were sent on a channel, or `None` if the channel does not go out from
     /// here. It takes no memory.
     pub fn out_len(&self, channel: ChanNo) -> Option<u64>
         ensures { result ≡ only_if (is_outgoing self.now channel)
@@ -367,8 +367,7 @@ impl Book {
     }
 
     /// What was sent on a channel, in the order of the messages' numbers, each packet with the time
-    /// at which it arrives, or `None` where the channel does not go out from here. It takes no
-    /// memory.
+    /// at which it arrives, or `None` if the channel does not go out from here. It takes no memory.
     pub fn sent(&self, channel: ChanNo) -> Option<&[(Time, Packet)]>
         ensures { option_map (λ messages. messages.now) result
             ≡ only_if (is_outgoing self.now channel) (sent_over self.now channel) }
@@ -379,12 +378,12 @@ impl Book {
         Some(self.part.out(channel))
     }
 
-    /// Message `number` of a channel, or `None` where the channel does not go out from here, or the
+    /// Message `number` of a channel, or `None` if the channel does not go out from here, or the
     /// message was not sent yet. The packet's octets are shared.
     ///
     /// # Errors
     ///
-    /// Where memory was refused.
+    /// If memory was refused.
     pub fn data(&self, channel: ChanNo, number: u64) -> Result<Option<Data>, AllocError>
         ensures { IfOk result (λ message. message ≡ option_and_then
             (λ sent. data_from channel number (nth sent number))
@@ -405,7 +404,7 @@ impl Book {
         }))
     }
 
-    /// What is known of a channel, or `None` where it does not come in here. It takes no memory.
+    /// What is known of a channel, or `None` if it does not come in here. It takes no memory.
     pub fn know(&self, channel: ChanNo) -> Option<&Know>
         ensures { option_map (λ k. k.now) result ≡ only_if (is_incoming self.now channel)
             (slice_index_or self.now.knows channel nothing_known) }

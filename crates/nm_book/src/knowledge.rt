@@ -68,7 +68,7 @@ impl Knowledge {
     ///
     /// # Errors
     ///
-    /// Where memory was refused.
+    /// If memory was refused.
     pub(crate) fn new(
         alloc: Global,
         topology: &Topology,

@@ -35,8 +35,8 @@ fresh_book t partition replica = record {
 abbrev pub HasDoneAll : BookValue → Type 0
 HasDoneAll b = IsCount (net_of b.topology) b.partition (knowledge b) b.events
 
--- The book of a replica of partition p, which knows what this file of what is known tells, where
--- that is told, and did all that it may do by that.
+-- The book of a replica of partition p, which knows what this file of what is known tells, if it is
+-- known, and did all that it may do by that.
 pub record IsBookOf (t : TopologyValue) (p replica : ℕ) (known : Option (List ℕ)) (b : BookValue)
     : Type 0 where
   pub topology : b.topology ≡ t
@@ -53,7 +53,7 @@ module _ {B : Type 0} (t : TopologyValue) (left : B → Option (List ℕ)) where
     pub each : (p : ℕ) (files : PartFiles B) (b : BookValue) → slice_get parts p ≡ Some files
         → slice_get books p ≡ Some b → IsBookOf t p files.replica (left files.known) b
 
-  -- the trace files have these texts, each where it is told, and of those that are looked at the
+  -- the trace files have these texts, each if it is known, and of those that are looked at the
   -- headers are read
   abbrev pub HaveTexts : (ℕ → Option (List ℕ)) → List (PartFiles B) → Type 0
   HaveTexts texts parts = All (λ files. AreBegun texts left files.traces) parts

@@ -40,7 +40,7 @@ HasRanAll b (All n) = HasDoneAll b
 HasRanAll b (Limit n) = Unit {0}
 HasRanAll b (NoMemory n) = Unit {0}
 
--- The trace files of partition p, as they were begun, have these texts, each where it is told; its
+-- The trace files of partition p, as they were begun, have these texts, each if it is known; its
 -- book has these records.
 module _ (texts : ℕ → Option (List ℕ)) (t : TopologyValue) (p : ℕ)
     (records : List (Record (List ℕ))) {B : Type 0} (begun : LeastChecked B) where

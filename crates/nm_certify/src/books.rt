@@ -17,7 +17,7 @@ use std::alloc::{AllocError, Global};
 ///
 /// # Errors
 ///
-/// Where memory was refused.
+/// If memory was refused.
 pub(crate) fn certificate_of(
     alloc: Global,
     topology: &Topology,

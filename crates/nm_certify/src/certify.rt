@@ -32,8 +32,8 @@ use std::thread::Threads;
 ///
 /// The first fault in this order. `Known` with the least partition whose file of what is known is
 /// refused. `NotCertified` with the certificate's fault: each book ran to its end, whatever the
-/// trace files have. `Failed` where a trace file could not be read, for then not all were compared.
-/// `Differs` with the least interface whose trace file differs. `Memory` where memory was refused.
+/// trace files have. `Failed` if a trace file could not be read, for then not all were compared.
+/// `Differs` with the least interface whose trace file differs. `Memory` if memory was refused.
 pub fn certify_parts<B: BufRead + Drop + Send, R: Threads + Sync>(
     rt: &R,
     alloc: Global,

@@ -114,7 +114,7 @@ fn begins_table(line: &str) -> bool {
 }
 
 /// The line, from 1, of a key in the table of this number, from 0, of an array; and where the key
-/// begins no line, that at which the table begins. `None` where neither is seen, as in a text with
+/// begins no line, that at which the table begins. `None` if neither is seen, as in a text with
 /// keys that are joined by dots.
 pub fn table_line(text: &str, array: &str, number: usize, key: &str) -> Option<u64> {
     let mut reader = BEGINNING;

@@ -418,8 +418,8 @@ impl<'a> Command<'a> {
     /// TOPO` or `dot TOPO load`, `text TOPO IFACE`, `series TOPO STEP` or `series TOPO STEP flows`,
     /// `packets TOPO SOURCE`, `path TOPO NODE ADDRESS`, `run TOPO DIR WORKERS REPLICAS` or `node
     /// TOPO DIR PARTITION REPLICA ADDRESSES` with or without `keep` behind it, or `certify TOPO
-    /// WORKERS` with one folder or more behind it. No words are `onehex -`. `None` where the words
-    /// are no command.
+    /// WORKERS` with one folder or more behind it. No words are `onehex -`. `None` if the words are
+    /// no command.
     pub fn of(words: &'a [String]) -> Option<Command<'a>>
         ensures value { option_map command_value result
             ≡ command_of (map (λ w. string_bytes w) words.now) }

@@ -30,8 +30,8 @@ pub trait EventList: Sized {
     ///
     /// # Errors
     ///
-    /// `AllocError` where the list could not grow. It has the same events then, and room for as
-    /// many more as it had.
+    /// `AllocError` if the list could not grow. It has the same events then, and room for as many
+    /// more as it had.
     fn reserve(&mut self, count: usize) -> Result<(), AllocError>
         ensures same { pending self.new ≡ pending self.old }
         ensures room { OnOk result (count ≤ room self.new) }

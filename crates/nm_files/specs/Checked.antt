@@ -40,7 +40,7 @@ looked_at files = map (λ file. is_some file) files
 abbrev pub is_looked_at : {B : Type 0} → List (Option (CheckedFile B)) → ℕ → Bool
 is_looked_at files n = get_or (looked_at files) n false
 
--- The texts of the files, each where it is told.
+-- The texts of the files, each if it is known.
 module _ (texts : ℕ → Option (List ℕ)) where
   -- The file of interface n has these octets at its front, and behind them not the next ones: it
   -- differs there, at this octet, which stops at 2 ^ 64 - 1.
@@ -66,7 +66,7 @@ module _ (texts : ℕ → Option (List ℕ)) where
   IsLonger n octets (Refused Failed) = Unit {0}
   IsLonger n octets (Refused (Differs iface octet)) = (iface ≡ n) × GoesOn n octets octet
 
-  -- The octets that are left of a reader, where that is told.
+  -- The octets that are left of a reader, if it is known.
   module _ {B : Type 0} (left : B → Option (List ℕ)) where
     -- these octets of the file of interface n were read, from its begin
     pub record HasRead (n : ℕ) (octets : List ℕ) (file : CheckedFile B) : Type 0 where

@@ -14,7 +14,7 @@ use Rattle.nm_files.specs.TraceFile.{written_at}
 use Rattle.nm_files.specs.declared.trace_files.FileFault.{FileFault}
 
 module _ {S : Type 0} (seen : S → SinkSeen) (made : Option Files) where
-  -- a file holds these octets, where it is told which files were placed, and as many are counted
+  -- a file holds these octets, if it is known which files were placed, and as many are counted
   pub record HoldsOctets (octets : List ℕ) (file : Writer S) : Type 0 where
     pub form : file.form ≡ Octets
     pub taken : (first : Files) → made ≡ Some first → (seen file.sink).taken ≡ Some octets

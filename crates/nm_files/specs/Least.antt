@@ -43,14 +43,14 @@ module _ {B : Type 0} (begun : LeastChecked B) where
   IsOfHeaderOr records d = (begun.differs ≡ Some d)
       ⊎ ((is_looked_at begun.files.files.items d.iface ≡ true) × HasRecord d.iface records)
 
--- The texts of the files, each where it is told.
+-- The texts of the files, each if it is known.
 module _ (texts : ℕ → Option (List ℕ)) {B : Type 0} where
   -- it differs within what is to stand in it after these records
   abbrev pub DiffersWithin : LeastChecked B → List (Record (List ℕ)) → Difference → Type 0
   DiffersWithin begun records d = IsOfHeaderOr begun records d
       × DiffersIn texts d.iface [] (octets_after d.iface records) d.octet
 
--- And the octets that are left of a reader, where that is told.
+-- And the octets that are left of a reader, if it is known.
 module _ (texts : ℕ → Option (List ℕ)) {B : Type 0} (left : B → Option (List ℕ)) where
   -- the headers are read of those that are open: of all, or up to the first whose header differs
   pub record AreBegun (traces : LeastChecked B) : Type 0 where

@@ -202,8 +202,8 @@ impl<B: BufRead> CheckedFile<B> {
     ///
     /// # Errors
     ///
-    /// `Differs` where it has no such header, `Failed` where a read failed, `Memory` where memory
-    /// was refused.
+    /// `Differs` where it has no such header, `Failed` if a read failed, `Memory` if memory was
+    /// refused.
     pub(crate) fn open(iface: IfaceNo, reader: B) -> Result<Self, CheckFault>
     where
         B: Drop,
@@ -224,8 +224,7 @@ impl<B: BufRead> CheckedFile<B> {
     ///
     /// # Errors
     ///
-    /// `Differs` where it does not, `Failed` where a read failed, `Memory` where memory was
-    /// refused.
+    /// `Differs` where it does not, `Failed` if a read failed, `Memory` if memory was refused.
     pub(crate) fn put(&mut self, record: &Record) -> Result<(), CheckFault>
         requires { «record».now.time ≤ MAX_TIME }
         ensures read { (texts : ℕ → Option (List ℕ)) (n : ℕ) (before : List ℕ)
@@ -247,8 +246,7 @@ impl<B: BufRead> CheckedFile<B> {
     ///
     /// # Errors
     ///
-    /// `Differs` where something does, `Failed` where the read failed, `Memory` where memory was
-    /// refused.
+    /// `Differs` where something does, `Failed` if the read failed, `Memory` if memory was refused.
     pub(crate) fn finish(&mut self) -> Result<(), CheckFault>
         ensures whole { (texts : ℕ → Option (List ℕ)) (n : ℕ) (octets : List ℕ)
             → HasRead texts B.remaining n octets self.old

@@ -76,7 +76,7 @@ impl<'a, C: Choice> Folder<'a, C> {
     /// # Errors
     ///
     /// `Refused` with the first that could not be made, or whose header was not written; `Memory`
-    /// where memory was refused. The files are let go, and none gets its name.
+    /// if memory was refused. The files are let go, and none gets its name.
     pub fn open<F: Outputs>(
         &self,
         alloc: Global,
@@ -139,8 +139,8 @@ impl<'a, C: Choice> Folder<'a, C> {
     ///
     /// # Errors
     ///
-    /// `Refused` with the first that could not be closed, and how many octets it has; `Memory`
-    /// where memory was refused. All are let go, and none gets its name.
+    /// `Refused` with the first that could not be closed, and how many octets it has; `Memory` if
+    /// memory was refused. All are let go, and none gets its name.
     pub fn close<F: Outputs>(
         &self,
         alloc: Global,

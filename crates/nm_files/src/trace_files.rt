@@ -141,7 +141,7 @@ impl<S: Sink + Drop> TraceFiles<S> {
     ///
     /// # Errors
     ///
-    /// Where memory was refused. No interface was added then.
+    /// If memory was refused. No interface was added then.
     pub fn skip(&mut self) -> Result<(), AllocError>
         ensures none { OnOk result (self.new.files.items ≡ self.old.files.items ++ None ∷ []) }
         ensures same { IfErr result (λ _. self.new.files.items ≡ self.old.files.items) }
@@ -154,7 +154,7 @@ impl<S: Sink + Drop> TraceFiles<S> {
     ///
     /// # Errors
     ///
-    /// Where memory was refused. The file is let go then, and no interface was added.
+    /// If memory was refused. The file is let go then, and no interface was added.
     pub fn add(&mut self, file: PcapOut<S>) -> Result<(), AllocError>
         ensures added { OnOk result
             (self.new.files.items ≡ self.old.files.items ++ Some file ∷ []) }
@@ -168,8 +168,8 @@ impl<S: Sink + Drop> TraceFiles<S> {
     ///
     /// # Errors
     ///
-    /// `Refused` where the file failed: it has a prefix of the header. `Memory` where memory was
-    /// refused. No interface was added then.
+    /// `Refused` if the file failed: it has a prefix of the header. `Memory` if memory was refused.
+    /// No interface was added then.
     pub fn open(&mut self, iface: IfaceNo, sink: S) -> Result<(), FilesFault>
         ensures begun { OnOk result (HasBegun S.seen sink
             self.old.files.items self.new.files.items) }

@@ -6,7 +6,7 @@ ghost use Rattle.nm_forward.specs.Counter.{counter_name, counter_number};
 /// What a node counts. Each arrival raises the counter of the row that fits it, and what follows
 /// may raise another.
 ///
-/// With each stands its object of the MIBs, where there is one: of a system's traffic in the IP-MIB
+/// With each stands its object of the MIBs, if there is one: of a system's traffic in the IP-MIB
 /// (RFC 4293, ipSystemStatsTable, whose objects start with `ipSystemStats`, as those of
 /// ipIfStatsTable with `ipIfStats`), of ICMP in the same (icmpStatsTable and icmpMsgStatsTable), of
 /// UDP in the UDP-MIB (RFC 4113). No counter is ipSystemStatsInDelivers, what was handed to a

@@ -25,7 +25,7 @@ use std::alloc::Global;
 ///
 /// # Errors
 ///
-/// The packet, where memory was refused. It and the state are as they were.
+/// The packet, if memory was refused. It and the state are as they were.
 #[tactic(auto, unfolding(crate::specs::Reaction::reaction, crate::specs::Reaction::arrived))]
 #[inline(always)]
 pub fn react_in_place(

@@ -146,8 +146,8 @@ impl Port {
     ///
     /// # Errors
     ///
-    /// `AllocError` where the queue could not grow. Nothing changed then, but that there may be
-    /// more room.
+    /// `AllocError` if the queue could not grow. Nothing changed then, but that there may be more
+    /// room.
     #[inline(always)]
     pub fn reserve_one(&mut self) -> Result<(), AllocError>
         ensures same { self.new ≡ record self.old { room = self.new.room } }

@@ -17,8 +17,8 @@ Accepts old new (Err Memory) taken = (taken.answer ≡ model.New) × (new ≡ ol
 Accepts old new (Ok a) taken = (Some taken.answer ≡ answer (Ok a)) × (new ≡ taken.after)
 Accepts old new (Err f) taken = (Some taken.answer ≡ reason f) × (new ≡ taken.after)
 
--- the join where there is no fault, and else the fault, where nothing changed; or messages of
--- the other found no memory
+-- the join if there is no fault, and else the fault, where nothing changed; or messages of the
+-- other found no memory
 abbrev pub Joins : Know (List ℕ) → Know (List ℕ) → Know (List ℕ) → Result Unit KnowFault → Type 0
 Joins old new other (Ok _) = (join_fault same_octets old other ≡ None) × (new ≡ join old other)
 Joins old new other (Err Memory) =

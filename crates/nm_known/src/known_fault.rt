@@ -14,7 +14,7 @@ use std::io::{self, ErrorKind};
 use thiserror::Error;
 
 /// Why what a replica knows is not written to its end: the sink failed, or memory was refused. The
-/// sink took a part of the octets, from the front, and did not fail where memory was refused.
+/// sink took a part of the octets, from the front, and did not fail if memory was refused.
 pub type KnownWriteFault = Fault<SinkFault>;
 
 /// Why a file is not read as what a replica knows.

@@ -74,8 +74,8 @@ fn check_end(reader: &Reader, expected: Expected) -> Result<(), KnownFault>
 ///
 /// `Topology` where the file begins with the Hello of another topology. `Form` where no book of
 /// this replica has such a file: it is cut short or goes on behind its end, say, or it is that of
-/// another replica. `Failed` where a read failed, `Memory` where memory was refused. Each time the
-/// book knows a part of what the file tells, from its front, and may be let go.
+/// another replica. `Failed` if a read failed, `Memory` if memory was refused. Each time the book
+/// knows a part of what the file tells, from its front, and may be let go.
 pub fn read_known<B: BufRead>(alloc: Global, book: &mut Book, reader: B) -> Result<(), KnownFault>
 where
     B: Drop,

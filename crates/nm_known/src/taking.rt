@@ -174,7 +174,7 @@ fn take(book: &mut Book, expected: Expected, frame: Frame) -> Result<Expected, K
 /// # Errors
 ///
 /// `Topology` where the first frame of the file is the Hello of another topology. `Form` where a
-/// frame is out of turn, or the book refuses it. `Memory` where memory was refused. Of the frames
+/// frame is out of turn, or the book refuses it. `Memory` if memory was refused. Of the frames
 /// before it the book has learned.
 pub(crate) fn take_all(
     book: &mut Book,

@@ -148,8 +148,8 @@ fn put_channels<S: Sink>(book: &Book, buffer: &mut Vec<u8>, sink: &mut S) -> Wri
 ///
 /// # Errors
 ///
-/// `Refused` where the sink failed. It had taken a front of the octets then. `Memory` where memory
-/// was refused. The sink had taken a part of them then, from the front, and did not fail.
+/// `Refused` if the sink failed. It had taken a front of the octets then. `Memory` if memory was
+/// refused. The sink had taken a part of them then, from the front, and did not fail.
 pub fn write_known<S: Sink>(alloc: Global, book: &Book, sink: &mut S) -> Result<(), KnownWriteFault>
     ensures octets { Writes (S.seen sink.old) (S.seen sink.new) result (known_octets book.now) }
     ensures file { OnOk result (IsOfReplica book.now book.now) }

@@ -31,7 +31,7 @@ pub fn so_many_rounds_are_enough()
     ensures { (stop lead : ℕ) → 1 ≤ lead → stop ≤ round_count stop lead * lead }
 {}
 
-/// And one where there is no channel: all is safe.
+/// And one if there is no channel: all is safe.
 pub fn a_lone_partition_is_safe<P, N>()
     ensures { (net : Net P N) (p : ℕ) → ((c : ℕ) → comes_in net p c ≡ true → ⊥)
         → (K : Knowledge P) → safe_time net p K ≡ net.stop }

@@ -339,7 +339,7 @@ pub fn quote(alloc: Global, packet: &Ipv4View<'_>) -> Result<Vec<u8>, AllocError
 ///
 /// # Errors
 ///
-/// `AllocError` where memory was refused.
+/// `AllocError` if memory was refused.
 pub fn lower_ttl(alloc: Global, packet: &Ipv4View<'_>) -> Result<Packet, AllocError>
     requires { 1 ≤ (fields_of packet.now).time_to_live }
     ensures value { IfOk result

@@ -186,7 +186,7 @@ fn go_on(
 ///
 /// # Errors
 ///
-/// Where memory was refused.
+/// If memory was refused.
 pub fn walk(
     alloc: Global,
     topology: &Topology,
@@ -218,7 +218,7 @@ pub fn walk(
 ///
 /// # Errors
 ///
-/// Where memory was refused.
+/// If memory was refused.
 pub fn walk_by(
     alloc: Global,
     topology: &Topology,

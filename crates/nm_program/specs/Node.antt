@@ -170,7 +170,7 @@ FailsNode before after asked status =
     × StopsNode before.made after.made status)
 
 -- What each status says. Files are made only once the replica is done, whether it was stalled then
--- or not; what files there are after a failure is not said, nor where memory was refused.
+-- or not; what files there are after a failure is not said, nor if memory was refused.
 module _ {S : Type 0} (before after : Surroundings S) (asked : NodeAsked) where
   abbrev pub EndsNode : Status → Type 0
   EndsNode status =

@@ -74,7 +74,7 @@ fn close_known<F: Outputs>(
 ///
 /// # Errors
 ///
-/// `File` where one could not be made, written whole or given its name; `Memory` where memory was
+/// `File` if one could not be made, written whole or given its name; `Memory` if memory was
 /// refused. Before all are closed none has its name.
 pub(crate) fn make_files<F: Outputs>(
     alloc: Global,

@@ -3,7 +3,7 @@ use Rattle.std.specs.Prelude.{ℕ, ◌-◌, ◌*◌, ◌/◌, ◌<◌, ◌==◌,
 use Rattle.nm_base.specs.Count.{saturated}
 use Rattle.nm_progress.specs.declared.progress.Seen.{Seen}
 
--- a share of a whole, times a factor, rounded down: 0 where there is no whole; it stops at the
+-- a share of a whole, times a factor, rounded down: 0 if there is no whole; it stops at the
 -- greatest of 64 bits
 abbrev pub scaled : (count factor whole : ℕ) → ℕ
 scaled count factor whole = if whole == 0 then 0 else saturated (count * factor / whole)

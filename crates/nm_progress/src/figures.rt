@@ -115,7 +115,7 @@ impl Figures {
     ///
     /// # Errors
     ///
-    /// Where memory was refused.
+    /// If memory was refused.
     pub fn new(alloc: Global) -> Result<Self, AllocError> {
         Ok(Figures {
             all: zeros(alloc, MAX_PARTITIONS * REPLICAS * COUNT)?,

@@ -11,8 +11,8 @@ use std::alloc::AllocError;
 /// How many records a packet makes that passes a link.
 const RECORDS_OF_A_HOP: u64 = 2;
 
-/// `count` times `factor` divided by `whole`, rounded down: 0 where there is no whole, and at most
-/// the greatest `u64`.
+/// `count` times `factor` divided by `whole`, rounded down: 0 if there is no whole, and at most the
+/// greatest `u64`.
 fn scaled(count: u64, factor: u64, whole: u64) -> u64
     ensures { result ≡ scaled count factor whole }
 {
@@ -79,7 +79,7 @@ fn push_partition(text: &mut Vec<u8>, partition: u64) -> Result<(), AllocError>
 ///
 /// # Errors
 ///
-/// Where memory was refused; the text has a part of the line then.
+/// If memory was refused; the text has a part of the line then.
 pub fn push_line(text: &mut Vec<u8>, seen: &Seen, milliseconds: u64) -> Result<(), AllocError>
     ensures { OnOk result
         (text.new.items ≡ text.old.items ++ progress_line seen.now milliseconds) }

@@ -50,7 +50,7 @@ impl Progress {
     ///
     /// # Errors
     ///
-    /// Where memory was refused.
+    /// If memory was refused.
     pub fn with_figures(alloc: Global) -> Result<Self, AllocError> {
         Ok(Progress::of(Some(Figures::new(alloc)?)))
     }

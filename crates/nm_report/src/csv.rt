@@ -237,7 +237,7 @@ fn sources_text(alloc: Global, topology: &Topology, measured: &Measured) -> Made
 ///
 /// # Errors
 ///
-/// Where memory was refused.
+/// If memory was refused.
 pub fn csv_text(alloc: Global, topology: &Topology, measured: &Measured) -> MadeText
     ensures lines { IfOk result (λ text. EndsLine text.items) }
     ensures values { (until : ℕ) (m : IsMeasuredBefore topology.now until measured.now)

@@ -56,7 +56,7 @@ pub(crate) fn traffic_at(measured: &Measured, iface: IfaceNo) -> IfaceTraffic
     measured.traffic(iface).unwrap_or(NO_TRAFFIC)
 }
 
-/// The rank of an interface. `None` where it is idle.
+/// The rank of an interface. `None` if it is idle.
 fn rank_of(measured: &Measured, iface: IfaceNo) -> Option<Rank> {
     let IfaceTraffic { came, went } = traffic_at(measured, iface);
     let dropped = measured.dropped(iface).unwrap_or(0);

@@ -92,7 +92,7 @@ fn push_message(text: &mut Vec<u8>, message: &IcmpView<'_>) -> Appended {
     Ok(())
 }
 
-/// Appends an address, and a port where there is one.
+/// Appends an address, and a port if there is one.
 fn push_place(text: &mut Vec<u8>, address: nm_packet::Address, port: Option<u16>) -> Appended {
     push_address(text, address)?;
     match port {
@@ -191,7 +191,7 @@ fn fault_of(fault: HeaderFault) -> &'static str {
 ///
 /// # Errors
 ///
-/// Where memory was refused. A part of the line may have been appended.
+/// If memory was refused. A part of the line may have been appended.
 pub fn push_packet_line(text: &mut Vec<u8>, record: &Record) -> Appended
     ensures { OnOk result (EndsLine text.new.items) }
 {

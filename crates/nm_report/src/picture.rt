@@ -187,7 +187,7 @@ fn push_way(
 ///
 /// # Errors
 ///
-/// Where memory was refused.
+/// If memory was refused.
 pub fn load_text(alloc: Global, topology: &Topology, measured: &Measured) -> MadeText
     ensures { IfOk result (λ text. EndsLine text.items) }
 {

@@ -57,7 +57,7 @@ fn push_nodes(
 ///
 /// # Errors
 ///
-/// Where memory was refused.
+/// If memory was refused.
 pub fn report_text(alloc: Global, topology: &Topology, measured: &Measured) -> MadeText
     ensures { IfOk result (λ text. EndsLine text.items) }
 {

@@ -230,7 +230,7 @@ fn add_trips(
     }
 }
 
-/// How long packets of sources took, after an empty line, where it is told of any.
+/// How long packets of sources took, after an empty line, if it is known of any.
 pub(crate) fn push_trips(
     alloc: Global,
     text: &mut Vec<u8>,

@@ -92,8 +92,8 @@ fn read(alloc: Global, text: &[u8]) -> Result<Arc<Topology>, ReplayFault>
 ///
 /// # Errors
 ///
-/// `Refused` where the text is refused, with its first fault. `Memory` where memory was refused
-/// before the first step.
+/// `Refused` if the text is refused, with its first fault. `Memory` if memory was refused before
+/// the first step.
 pub fn replay(alloc: Global, text: &[u8], steps: &[WorldStep]) -> Result<WorldReport, ReplayFault>
     ensures report { Reports text.now steps.now result }
     ensures headline { IfOk result (λ report. Headline (arc_value report.topology)

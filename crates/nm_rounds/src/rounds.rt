@@ -119,13 +119,13 @@ fn do_rounds(
 ///
 /// In a round each partition runs all that is safe. If all are done then, that is the last round.
 /// Else the new messages of each channel and its null message, which makes the promise of the
-/// moment, are first gathered of all channels, and only then told. Where there is no channel all is
+/// moment, are first gathered of all channels, and only then told. If there is no channel all is
 /// done in the first round; and always after `stop` divided by the least lookahead of a channel,
 /// rounded up, and one round more. After each round it is noted how far all are.
 ///
 /// # Errors
 ///
-/// Where memory was refused.
+/// If memory was refused.
 pub fn run_rounds_over(
     alloc: Global,
     topology: &Arc<Topology>,
@@ -147,7 +147,7 @@ pub fn run_rounds_over(
 ///
 /// # Errors
 ///
-/// `Refused` where the text is refused, with its first fault. `Memory` where memory was refused.
+/// `Refused` if the text is refused, with its first fault. `Memory` if memory was refused.
 pub fn run_rounds(alloc: Global, text: &[u8], max: u64) -> Result<Rounds, TopoFault>
     requires some { 1 ≤ max }
     requires few { max ≤ MAX_ROUNDS }

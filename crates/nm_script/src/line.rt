@@ -39,7 +39,7 @@ fn step_on(line: &[u8]) -> Option<WorldStep>
     step_of(word, &numbers)
 }
 
-/// What a line says, which stands here without its line feed. `None` where it says nothing that a
+/// What a line says, which stands here without its line feed. `None` if it says nothing that a
 /// script may have.
 pub fn read_line(line: &[u8]) -> Option<Line>
     ensures found { IfSome result (Says line.now) }

@@ -28,8 +28,8 @@ fn take_line(steps: &mut Vec<WorldStep>, line: &[u8], number: u64) -> Result<(),
 ///
 /// # Errors
 ///
-/// `Refused` with the first line that is no such line, or one step too many. `Memory` where memory
-/// was refused.
+/// `Refused` with the first line that is no such line, or one step too many. `Memory` if memory was
+/// refused.
 pub fn read_script(alloc: Global, text: &[u8]) -> Result<Vec<WorldStep>, ScriptFault>
     ensures { Tells text.now result }
 {

@@ -39,7 +39,7 @@ fn push_delays(text: &mut Vec<u8>, source: u32, delays: &Delays) -> Result<(), A
 ///
 /// # Errors
 ///
-/// Where memory was refused.
+/// If memory was refused.
 pub fn delays_text(alloc: Global, topology: &Topology, measured: &Measured) -> MadeText
     ensures { IfOk result (λ text. EndsLine text.items) }
 {

@@ -185,7 +185,7 @@ fn rows_text(
 ///
 /// # Errors
 ///
-/// Where memory was refused.
+/// If memory was refused.
 pub fn packets_text(
     alloc: Global,
     topology: &Topology,

@@ -97,7 +97,7 @@ impl<T: Totals> Series<T> {
     ///
     /// # Errors
     ///
-    /// Where memory was refused.
+    /// If memory was refused.
     pub fn begin(alloc: Global, topology: &Topology, step: u64) -> Result<Self, AllocError>
         ensures series { IfOk result (IsSeries T.had topology.now) }
         ensures begin { IfOk result (λ s. (s.time ≡ 0) × (s.step ≡ step)) }
@@ -113,12 +113,12 @@ impl<T: Totals> Series<T> {
         })
     }
 
-    /// The rows of the next step, or `None` where there is none. Now and then it is noted how far
-    /// the run is.
+    /// The rows of the next step, or `None` if there is none. Now and then it is noted how far the
+    /// run is.
     ///
     /// # Errors
     ///
-    /// Where memory was refused: nothing is said of the series then.
+    /// If memory was refused: nothing is said of the series then.
     pub fn next(
         &mut self,
         alloc: Global,

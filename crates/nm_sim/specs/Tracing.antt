@@ -19,7 +19,7 @@ pub record IsTracing {L : Type 0} (pending : L → FinMap key_cmp (Event (List �
   pub represents : Represents pending t None p (one_list (net_of t) events)
 
 -- what is shown of this trace, of which the first records were let go: those that come next; at the
--- end and where memory was refused nothing, and at the end all were let go
+-- end and if memory was refused nothing, and at the end all were let go
 abbrev pub ShowsAt : List (Record (List ℕ)) → Result Bool AllocError → RecordsValue → Type 0
 ShowsAt trace (Ok true) now =
     now.kept ≡ take (length now.kept) (drop now.keeping.handed trace)

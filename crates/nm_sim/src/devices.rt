@@ -308,7 +308,7 @@ impl Devices {
     ///
     /// # Errors
     ///
-    /// `AllocError` where a queue could not grow. Nothing else changed then.
+    /// `AllocError` if a queue could not grow. Nothing else changed then.
     #[inline(always)]
     pub fn reserve(&mut self) -> Result<(), AllocError>
         ensures same { IsSame self.old self.new }
@@ -438,7 +438,7 @@ impl Devices {
         requires fits { FitsOrigin topology.now origin packet.now }
         requires represented { DevicesRepresentSome topology.now self.old }
 
-        // Ports stay as they are, and where memory is refused all does.
+        // Ports stay as they are, and if memory is refused all does.
         ensures err { OnErr result (self.new ≡ self.old) }
         ensures ports { self.new.ports ≡ self.old.ports }
 
@@ -474,7 +474,7 @@ impl Devices {
         requires place { IsMember (slice_get self.old.ports iface) }
         requires represented { DevicesRepresentSome topology.now self.old }
 
-        // Ports stay as they are, and where memory is refused all does.
+        // Ports stay as they are, and if memory is refused all does.
         ensures err { OnErr result (self.new ≡ self.old) }
         ensures ports { self.new.ports ≡ self.old.ports }
 
@@ -510,7 +510,7 @@ impl Devices {
         requires node { IsMember (slice_get self.old.nodes node) }
         requires represented { DevicesRepresentSome topology.now self.old }
 
-        // Ports stay as they are, and where memory is refused all does.
+        // Ports stay as they are, and if memory is refused all does.
         ensures err { OnErr result (self.new ≡ self.old) }
         ensures back { IfErr result (λ same. same ≡ packet) }
         ensures ports { self.new.ports ≡ self.old.ports }
@@ -547,7 +547,7 @@ impl Devices {
         requires place { IsMember (slice_get self.old.ports iface) }
         requires represented { DevicesRepresentSome topology.now self.old }
 
-        // Ports stay as they are, and where memory is refused all does.
+        // Ports stay as they are, and if memory is refused all does.
         ensures err { OnErr result (self.new ≡ self.old) }
         ensures back { IfErr result (λ same. same ≡ packet) }
         ensures ports { self.new.ports ≡ self.old.ports }
@@ -609,7 +609,7 @@ impl Devices {
         requires number { number < 2 ^ 63 }
         requires represented { DevicesRepresentSome topology.now self.old }
 
-        // Ports stay as they are, and where memory is refused all does.
+        // Ports stay as they are, and if memory is refused all does.
         ensures err { OnErr result (self.new ≡ self.old) }
         ensures ports { self.new.ports ≡ self.old.ports }
 

@@ -124,7 +124,7 @@ impl<L: EventList> Part<L> {
     ///
     /// # Errors
     ///
-    /// `AllocError` where memory was refused.
+    /// `AllocError` if memory was refused.
     pub fn start(
         alloc: Global,
         topology: &Topology,
@@ -146,7 +146,7 @@ impl<L: EventList> Part<L> {
     ///
     /// # Errors
     ///
-    /// `AllocError` where memory was refused.
+    /// `AllocError` if memory was refused.
     pub fn start_with(
         alloc: Global,
         topology: &Topology,
@@ -181,7 +181,7 @@ impl<L: EventList> Part<L> {
     ///
     /// # Errors
     ///
-    /// `AllocError` where the event list could not grow. The part is as it was then.
+    /// `AllocError` if the event list could not grow. The part is as it was then.
     pub fn reserve(&mut self, count: usize) -> Result<(), AllocError>
         // The part stands in the same runs.
         ensures same { OfTheRun L.pending self.old
@@ -241,12 +241,12 @@ impl<L: EventList> Part<L> {
     }
 
     /// Does the event of the least key, if its time is before `before`, which is at most the
-    /// network's `stop`: `Some` of that key, or `None` where nothing before `before` is to come.
+    /// network's `stop`: `Some` of that key, or `None` if nothing before `before` is to come.
     ///
     /// # Errors
     ///
-    /// `AllocError` where an event was to be done, and memory was refused or 2^62 events were done:
-    /// no part of it was done.
+    /// `AllocError` if an event was to be done, and memory was refused or 2^62 events were done: no
+    /// part of it was done.
     pub fn step(
         &mut self,
         alloc: Global,

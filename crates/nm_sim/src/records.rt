@@ -106,7 +106,7 @@ impl Records {
     ///
     /// # Errors
     ///
-    /// `AllocError` where the list could not grow. Nothing else changed then.
+    /// `AllocError` if the list could not grow. Nothing else changed then.
     #[inline(always)]
     pub fn reserve(&mut self) -> Result<(), AllocError>
         ensures same { self.new ≡ record self.old { spare = self.new.spare } }

@@ -72,7 +72,7 @@ impl<L: EventList> Timeline<L> {
     ///
     /// # Errors
     ///
-    /// `AllocError` where the list could not grow. Nothing else changed then.
+    /// `AllocError` if the list could not grow. Nothing else changed then.
     pub fn reserve(&mut self, count: usize) -> Result<(), AllocError>
         ensures events { L.pending self.new.events ≡ L.pending self.old.events }
         ensures sent { self.new.sent ≡ self.old.sent }

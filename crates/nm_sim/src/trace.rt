@@ -66,7 +66,7 @@ fn run(
 ///
 /// # Errors
 ///
-/// `AllocError` where memory was refused, or after more than 2^62 events.
+/// `AllocError` if memory was refused, or after more than 2^62 events.
 pub fn one_list(alloc: Global, topology: &Topology, until: Time) -> Result<Vec<Record>, AllocError>
     ensures { IfOk result (λ r. IsTraceBefore topology.now until r.items) }
 {

@@ -42,7 +42,7 @@ impl Tracer {
     ///
     /// # Errors
     ///
-    /// `AllocError` where memory was refused.
+    /// `AllocError` if memory was refused.
     pub fn start(alloc: Global, topology: &Topology) -> Result<Self, AllocError>
         ensures tracing { IfOk result (λ r. IsTracing pending_of topology.now r) }
         ensures keeping { IfOk result (λ r. r.records.keeping
@@ -56,7 +56,7 @@ impl Tracer {
     ///
     /// # Errors
     ///
-    /// `AllocError` where memory was refused.
+    /// `AllocError` if memory was refused.
     pub fn start_with(
         alloc: Global,
         topology: &Topology,
@@ -76,7 +76,7 @@ impl Tracer {
     ///
     /// # Errors
     ///
-    /// `AllocError` where memory was refused, or after 2^62 events: no event was done, and the call
+    /// `AllocError` if memory was refused, or after 2^62 events: no event was done, and the call
     /// may be made again.
     pub fn go_on(&mut self, alloc: Global, topology: &Topology) -> Result<bool, AllocError>
         requires { IsTracing pending_of topology.now self.old }

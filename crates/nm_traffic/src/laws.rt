@@ -39,7 +39,7 @@ pub fn source_times_rise(topology: &Topology)
 
 /// The packets of a source of each kind, written out: packet n, for n from 0, is n intervals behind
 /// the start, and has no more than its data; an echo request has type 8, code 0, its checksum, the
-/// identifier and n modulo 65,536. Behind the last packet, and from stop on, there is none. Where
+/// identifier and n modulo 65,536. Behind the last packet, and from stop on, there is none. If
 /// there is no data, one octet stands for it, which is 0.
 #[tactic(auto, unfolding(crate::specs::Source::packet_at, crate::specs::Flow::echo_message))]
 pub fn packets_of_each_kind()

@@ -45,7 +45,7 @@ impl Source {
         })
     }
 
-    /// Packet `number`, from 0, and its time; `None` where the source has no such packet, or none
+    /// Packet `number`, from 0, and its time; `None` if the source has no such packet, or none
     /// before the run stops. Nothing is changed: after an `Err` the same call may succeed.
     pub fn next(&self, alloc: Global, number: u64) -> TimedPacket
         ensures { IfOk result (λ p. p ≡ packet_at self.now.stop self.now.traffic number) }

@@ -126,8 +126,8 @@ impl Flow {
         }
     }
 
-    /// Puts the first of these octets on their way: how many, or `None` where the connection
-    /// breaks. Where it breaks at a Bye its writer learns that later.
+    /// Puts the first of these octets on their way: how many, or `None` if the connection breaks.
+    /// Where it breaks at a Bye its writer learns that later.
     pub(crate) fn put(&mut self, now: u64, octets: &[u8]) -> Option<usize> {
         if self.is_held {
             return Some(0);

@@ -249,8 +249,8 @@ fn say(rt: &HostRuntime, text: &str) -> Status {
     }
 }
 
-/// What the program says of itself: where it is asked to by words that are no command, and where
-/// there are no words and nobody but a terminal gives a topology.
+/// What the program says of itself: where it is asked to by words that are no command, and if there
+/// are no words and nobody but a terminal gives a topology.
 fn said_of_itself(rt: &HostRuntime, words: &[String]) -> Option<&'static str>
     ensures words { IfSome result (λ _. (length words.now ≡ 0)
         ⊎ (command_of (map (λ w. string_bytes w) words.now) ≡ None)) }

@@ -58,7 +58,7 @@ impl Noted {
         }
     }
 
-    /// Notes that a file failed. Where memory is refused nothing is noted.
+    /// Notes that a file failed. If memory is refused nothing is noted.
     pub fn file(&self, alloc: Global, name: &str, error: &io::Error) {
         self.file.set(text_of(alloc, name, error).ok());
     }

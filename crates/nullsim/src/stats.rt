@@ -62,7 +62,7 @@ fn table_of(alloc: Global, figures: &Figures) -> Result<Vec<u8>, AllocError> {
     Ok(text)
 }
 
-/// Tells a text. Where there is no memory for it, or nobody takes it, nothing hangs on it.
+/// Tells a text. If there is no memory for it, or nobody takes it, nothing hangs on it.
 fn tell<W: Write>(errors: &mut W, text: Result<Vec<u8>, AllocError>) {
     if let Ok(text) = text {
         let _ = errors.write_all(text.as_slice());

@@ -56,7 +56,7 @@ fn step(
     part.step(alloc, topology, topology.stop())
 }
 
-/// Does the first event of the whole network, again where memory was refused.
+/// Does the first event of the whole network, again if memory was refused.
 fn step_again(
     alloc: Global,
     topology: &Topology,
@@ -116,8 +116,8 @@ fn run(
     holds(rt, "it ends", false);
 }
 
-/// The whole network at its start, of which these records are wanted, asked for again where memory
-/// was refused.
+/// The whole network at its start, of which these records are wanted, asked for again if memory was
+/// refused.
 fn started(
     alloc: Global,
     topology: &Topology,

@@ -187,7 +187,7 @@ fn again(rt: &(impl Abort + AllocGlobal), rows: &[Row], steps: &[WorldStep]) -> 
     Ok(())
 }
 
-/// A replay, and the same once more where memory was refused.
+/// A replay, and the same once more if memory was refused.
 #[test]
 fn a_replay_ends_at_the_step(rt: HostRuntime) -> Result<(), Fail> {
     let rows = late_sister();

@@ -2,7 +2,7 @@
 //! if nothing had been refused: what these tests show where an allocation is refused
 //! (`dev/attack/refuse-growths`).
 //!
-//! What a test only needs is asked for twice, so that it is there even where memory was refused.
+//! What a test only needs is asked for twice, so that it is there even if memory was refused.
 
 use crate::tests::forward::{Bench, DATAGRAM, FORWARDED};
 use crate::tests::same::{eq_number, eq_numbers, eq_octets, holds};
@@ -177,7 +177,7 @@ fn react_once(
     bench.react(rt, Origin::Source(SourceNo::new(number)), packet)
 }
 
-/// The same, asked again where memory was refused: then it had counted nothing.
+/// The same, asked again if memory was refused: then it had counted nothing.
 fn react_at_last(
     rt: &(impl Abort + AllocGlobal),
     bench: &mut Bench,

@@ -52,7 +52,7 @@ fn source_of(rt: &(impl Abort + AllocGlobal), stop: u64, sources: &str, number: 
     Source::new(rt.alloc(), &topology, number).expect(rt, "it succeeds")
 }
 
-/// Rows of a packet's number, and of its time where there is one.
+/// Rows of a packet's number, and of its time if there is one.
 fn come_at(rt: &(impl Abort + AllocGlobal), source: &Source, rows: &[(u64, Option<u64>)]) {
     for (number, want) in rows {
         let packet = source.next(rt.alloc(), *number).expect(rt, "it succeeds");

@@ -41,7 +41,7 @@ const QUIET_READS: usize = 20;
 /// How many octets a slow connection gives singly.
 const SINGLE_OCTETS: usize = 60;
 
-/// What the reads of a slow connection do, or `None` where memory was refused.
+/// What the reads of a slow connection do, or `None` if memory was refused.
 fn slow_reads(alloc: Global, first: usize) -> Option<VecDeque<ScriptedRead>> {
     let mut reads = VecDeque::new(alloc);
     reads.push_back(ScriptedRead::Gives(first)).ok()?;
