@@ -204,7 +204,7 @@ fn reserve_at(port: &mut Option<Port>) -> Result<(), AllocError>
     }
 }
 
-/// A transmission that starts, and where.
+/// A transmission that starts, and at which interface.
 fn transmission_at(iface: IfaceNo, start: Option<Start>) -> Option<(IfaceNo, Start)>
     ensures { result ≡ transmission_at_iface iface start }
 {
@@ -291,7 +291,7 @@ impl Devices {
         }
     }
 
-    /// When the transmission under way at the interface completes; 0 where it is idle, or not here.
+    /// When the transmission under way at the interface completes; 0 if it is idle, or not here.
     pub fn busy(&self, iface: IfaceNo) -> Time
         ensures value { result ≡ completes_at
             (option_and_then (option_and_then (λ w. w.busy)) (slice_get self.now.ports iface)) }
@@ -323,8 +323,8 @@ impl Devices {
         Ok(())
     }
 
-    /// What a node sends is offered to its interface: the transmission that starts, and where, if
-    /// one does.
+    /// Offers what a node sends to its interface: the transmission that starts, and where, if one
+    /// does.
     #[inline(always)]
     pub fn offer(
         &mut self,
@@ -354,7 +354,7 @@ impl Devices {
         }
     }
 
-    /// A packet is offered to an interface: the transmission that starts, and where, if one does.
+    /// Offers a packet to an interface: the transmission that starts, and where, if one does.
     #[inline(always)]
     fn offer_packet(
         &mut self,
@@ -380,7 +380,7 @@ impl Devices {
         transmission_at(iface, start)
     }
 
-    /// The same of a packet of which no record is wanted.
+    /// The same for a packet without a wanted record.
     #[inline(always)]
     fn offer_alone(
         &mut self,
@@ -407,7 +407,7 @@ impl Devices {
         transmission_at(iface, start)
     }
 
-    /// A packet that the port of this interface drops where it is offered now is dropped.
+    /// A packet that the port of this interface would drop now is dropped.
     #[inline(always)]
     fn drop_at(&mut self, topology: &Topology, iface: IfaceNo)
         requires { IsMember (slice_get self.old.ports iface) }
@@ -495,8 +495,8 @@ impl Devices {
         self.react(alloc, topology, node, origin, packet)
     }
 
-    /// What a node does with a packet that arrives, of which no record is wanted. An `Err` changes
-    /// nothing, and gives the packet back.
+    /// What a node does with a packet that arrives and needs no record. An `Err` changes nothing,
+    /// and gives the packet back.
     #[inline(always)]
     fn react_alone(
         &mut self,
@@ -533,8 +533,8 @@ impl Devices {
         react_in_place(alloc, topology, ports, state, &self.wanted, iface, packet)
     }
 
-    /// What the node of an interface does with a packet that arrives there, of which no record is
-    /// wanted. An `Err` changes nothing, and gives the packet back.
+    /// What the node of an interface does with a packet that arrives there and needs no record. An
+    /// `Err` changes nothing, and gives the packet back.
     #[inline(always)]
     pub fn react_in_place(
         &mut self,
@@ -568,7 +568,7 @@ impl Devices {
         self.react_alone(alloc, topology, node, iface, packet)
     }
 
-    /// A transmission is complete, and that of the packet that waits first starts, if one does:
+    /// A transmission is complete, and that of the first waiting packet starts, if there is one:
     /// which, and where.
     #[inline(always)]
     pub fn complete(
@@ -593,8 +593,8 @@ impl Devices {
         transmission_at(iface, start)
     }
 
-    /// What the node of a source does with a packet that the source hands over, and the source's
-    /// next packet. An `Err` changes nothing.
+    /// What the node of a source does with the source's packet, and the source's next packet. An
+    /// `Err` changes nothing.
     pub fn react_to_source(
         &mut self,
         alloc: Global,
@@ -603,7 +603,7 @@ impl Devices {
         number: u64,
         packet: &Packet,
     ) -> Result<Fired, AllocError>
-        // The source is here, and can hand over this packet.
+        // The source is here, and can make this packet.
         requires place { IsMember (slice_get self.old.sources source) }
         requires fits { FitsOrigin topology.now (FromSource source) packet.now }
         requires number { number < 2 ^ 63 }

@@ -39,7 +39,7 @@ use std::alloc::{AllocError, Global};
 use std::marker::Model;
 
 /// What lies ahead: the events to come, and how many packets were put on each interface so far, by
-/// the interface that receives them, whose next arrival has that number.
+/// the interface that receives them; the next arrival there has that number.
 #[derive(Drop)]
 pub struct Timeline<L> {
     events: L,
@@ -181,7 +181,7 @@ impl<L: EventList> Timeline<L> {
     }
 
     /// A packet that an interface here sends is to arrive at the far end of its link: an event to
-    /// come where that is here too, and else a message on its channel.
+    /// come if that is here too, else a message on its channel.
     #[inline(always)]
     fn schedule_arrival(
         &mut self,
@@ -202,7 +202,7 @@ impl<L: EventList> Timeline<L> {
         requires fresh { get (L.pending self.old.events)
             (key_of flight.due.time (Arrive flight.to) flight.due.number) ≡ None }
 
-        // Where the far end is here, the arrival is to come. It takes one place at most.
+        // If the far end is here, the arrival is to come. It takes one place at most.
         ensures events { L.pending self.new.events
             ≡ schedule (here_of topology.now part.now)
             (keyed flight.due.time flight.due.number
