@@ -27,7 +27,7 @@ DiffersAt text octets n = (take n text ≡ take n octets) × (slice_get text n �
 abbrev pub TextDiffers : (text octets : List ℕ) → (octet : ℕ) → Type 0
 TextDiffers text octets octet = (k : ℕ) × (octet ≡ saturated k) × DiffersAt text octets k
 
--- the interface whose file differs, and at which octet, where one does
+-- the interface whose file differs, and at which octet, if one does
 abbrev pub difference : Fault CheckCause → Option (ℕ × ℕ)
 difference Memory = None
 difference (Refused Failed) = None
@@ -54,7 +54,7 @@ module _ (texts : ℕ → Option (List ℕ)) where
   GoesOn n octets octet = IfSome (texts n) (λ text. (octet ≡ saturated (length octets))
       × StartsWith text octets × DiffersAt text octets (length octets))
 
-  -- which is told, or why that is not known
+  -- which is known, or why it is not
   abbrev pub IsUnlike : (n : ℕ) → (before next : List ℕ) → Fault CheckCause → Type 0
   IsUnlike n before next Memory = Unit {0}
   IsUnlike n before next (Refused Failed) = Unit {0}

@@ -5,7 +5,7 @@ use Rattle.std.specs.Prelude.{◌≡◌, ℕ, List, [], ◌∷◌, ◌++◌, map
 abbrev pub Files : Type 0
 Files = List (List ℕ × List ℕ)
 
--- a file took nothing so far, and tells it, if it is known which files were placed
+-- a file took nothing so far, and has that as its octets, if it is known which files were placed
 abbrev pub IsEmpty : Option Files → Option (List ℕ) → Type 0
 IsEmpty made taken = (first : Files) → made ≡ Some first → taken ≡ Some []
 

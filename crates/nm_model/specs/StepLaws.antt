@@ -72,7 +72,7 @@ module _ {P N : Type 0} (net : Net P N) (same : P → P → Bool) (w : World P) 
         Answered taken.answer,
       )
 
-  -- frame i, of channel c, is delivered to replica r of the receiver, which is told what it says
+  -- frame i, of channel c, is delivered to replica r of the receiver
   pub record Delivers (i r c : ℕ) : Type 0 where
     pub message : (n : ℕ) (b : ℕ × P) → nth w.bag i ≡ Some (DataFrame c n b)
         → let p = receiver_of net c in

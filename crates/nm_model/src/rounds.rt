@@ -17,9 +17,9 @@ pub fn there_are_rounds<P, N>()
         → (b : ℕ → ℕ → Replica P) × IsRounds net same kind b }
 {}
 
-/// Where each channel's lookahead is at least `lead`, all is done in the round after `j` of them,
-/// once `j * lead` reaches stop; with either promise. Whenever a partition's safe time is `stop`,
-/// it has its whole trace once it has run (`early`).
+/// If each channel's lookahead is at least `lead`, all is done in the round after `j` of them, once
+/// `j * lead` reaches stop; with either promise. Whenever a partition's safe time is `stop`, it has
+/// its whole trace once it has run (`early`).
 pub fn rounds_bound<P, N>()
     ensures { (net : Net P N) → IsNet net → (same : P → P → Bool) → IsReflexive same
         → (kind : Promising) (b : ℕ → ℕ → Replica P) → IsRounds net same kind b

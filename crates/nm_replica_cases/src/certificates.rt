@@ -2,7 +2,7 @@
 //!
 //! | Command | Does and answers |
 //! |---|---|
-//! | `finish ROUNDS` | makes a replica of each partition, and does so many rounds in which all are told all |
+//! | `finish ROUNDS` | makes a replica of each partition, and does so many rounds in which all learn all |
 //! | `certify B ..` | `certified`, or the fault with its numbers: `topology`, `missing P`, `unfinished P`, `prefix C N`, `clock C`, `promise C` |
 //! | `part B` | `same` if its trace is its partition's part of the trace of the one event list |
 //! | `change OLD / NEW` | `certify` of all replicas against the text with NEW in the place of OLD, and whether the digest is another |

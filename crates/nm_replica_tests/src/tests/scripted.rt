@@ -1,4 +1,4 @@
-//! A transport in memory that does what a script says, and fails at some calls.
+//! A transport in memory with a script, which fails at some calls.
 
 ghost use Rattle.std.specs.Prelude.{◌≡◌, ◌+◌, [], IfSome, Some};
 
@@ -55,7 +55,7 @@ fn slow_reads(alloc: Global, first: usize) -> Option<VecDeque<ScriptedRead>> {
 }
 
 /// A transport whose connections give these octets, one after the other from the last on, and then
-/// nothing. They are the peers' that the replica calls, or of those who call.
+/// nothing. They are of peers that the replica calls, or of callers.
 #[derive(Drop)]
 pub struct Scripted {
     alloc: Global,
@@ -79,7 +79,7 @@ pub struct Scripted {
 }
 
 impl Scripted {
-    /// Connections with these octets, of those who call, or else of peers that are called.
+    /// Connections with these octets, of callers, or else of peers that are called.
     pub fn new(alloc: Global, sources: Vec<Vec<u8>>, called: bool, fails: Fails) -> Self {
         Scripted {
             alloc,
