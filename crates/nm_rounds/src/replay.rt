@@ -82,13 +82,13 @@ fn read(alloc: Global, text: &[u8]) -> Result<Arc<Topology>, ReplayFault>
     Ok(Arc::new(alloc, topology)?)
 }
 
-/// Lets replicas 0 and 1 of each partition of the network do these steps, one after another, from
-/// where none knows anything and no frame was sent.
+/// Replicas 0 and 1 of each partition of the network do these steps, one after another, from where
+/// none knows anything and no frame was sent.
 ///
 /// The report's answers and books are those of the model's world over these steps, up to the ending
 /// (`IsReplay`). So the headline holds of them (`Headline`): what each replica knows, did, sent and
 /// promises is what one event list does in its partition, whatever was lost, repeated, late, out of
-/// order, merged or begun anew.
+/// order, merged or restarted.
 ///
 /// # Errors
 ///

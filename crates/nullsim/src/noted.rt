@@ -1,4 +1,4 @@
-//! What went wrong at the system, for who reads further lines.
+//! What went wrong at the system, for further lines.
 
 use nm_program::Notes;
 use std::alloc::{AllocError, Global};
@@ -40,7 +40,7 @@ pub struct Noted {
     is_closed: Cell<bool>,
 }
 
-/// What is said of a file.
+/// The sentence on a file.
 fn text_of(alloc: Global, name: &str, error: &io::Error) -> Result<String, AllocError> {
     format!(in alloc; "{name}: {error}")
 }
