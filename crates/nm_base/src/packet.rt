@@ -34,7 +34,7 @@ impl Storage {
         }
     }
 
-    /// Writes octets over those from an offset on, where the block is the packet's own.
+    /// Writes octets over those from an offset on, if the block is the packet's own.
     #[inline(always)]
     fn overwrite(&mut self, offset: usize, octets: &[u8]) -> bool
         requires { offset + length octets.now ≤ length (held self.old) }
@@ -162,7 +162,7 @@ impl Packet {
         self.octets.octets()
     }
 
-    /// Writes octets over those from an offset on, where this is the only owner of a block of the
+    /// Writes octets over those from an offset on, if this is the only owner of a block of the
     /// packet's own: whether it is. Else nothing changes.
     #[inline(always)]
     pub fn overwrite(&mut self, offset: usize, octets: &[u8]) -> bool

@@ -46,7 +46,7 @@ pub fn number_of(text: &[u8]) -> Option<u64>
     Some(number)
 }
 
-/// What stands before and behind the first octet of this value. `None` if the text has none.
+/// What is before and after the first octet of this value. `None` if the text has none.
 pub fn split_once(text: &[u8], octet: u8) -> Option<(&[u8], &[u8])>
     ensures { MatchOption result (HasNo octet text.now) (λ parts.
         (text.now ≡ parts.0.now ++ octet ∷ parts.1.now) × HasNo octet parts.0.now) }

@@ -34,7 +34,7 @@ abbrev pub unread : Fault ReadFailed → Fault CertifyCause
 unread Memory = Memory
 unread (Refused failed) = Refused cause.Failed
 
--- a book ran, and did all events before its safe time, where its run says so
+-- a book ran, and did all events before its safe time, if its run says so
 abbrev pub HasRanAll : BookValue → Ran → Type 0
 HasRanAll b (All n) = HasDoneAll b
 HasRanAll b (Limit n) = Unit {0}
@@ -71,7 +71,7 @@ abbrev pub IsCompared : (least : Option Difference) → PartEnd → Type 0
 IsCompared least end = (found : Option Difference) × (end.traces ≡ Ok found)
     × ((n : ℕ) → IsLesser n least → IsLesser n found)
 
--- the least difference of all parts, each of which was compared, is that of one of them
+-- the least difference of all parts, which were all compared, is that of one of them
 abbrev pub IsLeastOf : List PartEnd → Option Difference → Type 0
 IsLeastOf ends least = AllOf (IsCompared least) ends
     × IfSome least (λ d. (end : PartEnd) × Contains ends end × (end.traces ≡ Ok (Some d)))

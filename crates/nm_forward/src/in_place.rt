@@ -21,7 +21,7 @@ use nm_topology::Topology;
 use std::alloc::Global;
 
 /// What the node does with a packet that arrives, as `react`. A packet that is sent on by an
-/// interface of which no record is wanted is lowered where it lies, if nobody else has its octets.
+/// interface without wanted records is lowered where it lies, if nobody else has its octets.
 ///
 /// # Errors
 ///

@@ -15,7 +15,7 @@ use nm_files::{ClosedFiles, Folder, OutputFault, Outputs, TraceFiles, place_all,
 use nm_known::{OfPartition, keep_known};
 use std::alloc::Global;
 
-/// The trace of a book of which nothing was handed out. A trace file can say its times.
+/// The trace of a book of which nothing was handed out. A trace file can hold its times.
 fn trace_of(book: &Book) -> &[Record]
     requires { book.now.handed ≡ 0 }
     ensures value { result.now ≡ (state_of book.now).records }

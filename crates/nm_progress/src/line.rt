@@ -1,4 +1,4 @@
-//! A line that says how far a run is.
+//! A line that shows how far a run is.
 
 ghost use Rattle.std.specs.Prelude.{◌≡◌, ◌++◌, OnOk, Some};
 ghost use Rattle.nm_progress.specs.Line.{last_text, left_text, pace_text, progress_line, scaled};
@@ -53,7 +53,7 @@ fn push_left(text: &mut Vec<u8>, seen: &Seen, milliseconds: u64) -> Result<(), A
     push_text(text, b" s left")
 }
 
-/// Appends the partition that is furthest behind, where the run tells of partitions.
+/// Appends the partition that is furthest behind, if the run notes partitions.
 fn push_last(text: &mut Vec<u8>, seen: &Seen) -> Result<(), AllocError>
     ensures { OnOk result (text.new.items ≡ text.old.items ++ last_text seen.now.last) }
 {
@@ -73,7 +73,7 @@ fn push_partition(text: &mut Vec<u8>, partition: u64) -> Result<(), AllocError>
     push_text(text, b" last")
 }
 
-/// Appends a line that says how far a run is that began so many milliseconds ago, without a line
+/// Appends a line that shows how far a run is that began so many milliseconds ago, without a line
 /// feed: the share of the simulated time that is done, packets over links a second so far, the time
 /// that is left at this pace, and the partition that is furthest behind.
 ///

@@ -116,8 +116,8 @@ impl View {
     }
 }
 
-/// Adds a line where the trace of one event list is not the part's, or that of a part whose events
-/// lie in a heap is not.
+/// Adds a line if the trace of one event list is not the part's, or that of a part with its events
+/// in a heap is not.
 fn push_difference(
     text: &mut String,
     alloc: Global,
