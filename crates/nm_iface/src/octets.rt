@@ -12,7 +12,7 @@ pub struct OctetLimit {
     pub waiting: u32,
 }
 
-/// The limit, where no octets wait.
+/// The limit if no octets wait.
 pub fn none_wait(most: Option<u32>) -> Option<OctetLimit>
     ensures most { most_of result ≡ most }
     ensures counted { HasCounted 0 result }

@@ -90,7 +90,7 @@ impl Know {
     ///
     /// # Errors
     ///
-    /// Where memory for the list was refused.
+    /// If memory for the list was refused.
     pub fn copy(&self, alloc: Global) -> Result<Self, AllocError>
         ensures { IfOk result (λ copy. copy ≡ self.now) }
     {
@@ -101,8 +101,8 @@ impl Know {
         })
     }
 
-    /// What `accept_data` answers where there is memory: `New` where the message is the next one.
-    /// It takes no memory, and changes nothing.
+    /// What `accept_data` answers if there is memory: `New` if the message is the next one. It
+    /// takes no memory, and changes nothing.
     ///
     /// # Errors
     ///
@@ -143,10 +143,10 @@ impl Know {
     ///
     /// # Errors
     ///
-    /// `Gap` where messages before it have not come. `Differs` where another message of this number
-    /// is known. For the next message: `Late` where it is before the clock, `NotRising` where it is
-    /// not after the last message, and `Memory` if the memory for it was refused or 2^50 messages
-    /// are known. A refusal changes nothing.
+    /// `Gap` if messages before it have not come. `Differs` if another message of this number is
+    /// known. For the next message: `Late` if it is before the clock, `NotRising` if it is not
+    /// after the last message, and `Memory` if the memory for it was refused or 2^50 messages are
+    /// known. A refusal changes nothing.
     pub fn accept_data(
         &mut self,
         number: u64,
@@ -185,8 +185,8 @@ impl Know {
     ///
     /// # Errors
     ///
-    /// `Gap` where messages before number `count` have not come. `Contrary` where message `count`
-    /// is known and is before `clock`. A refusal changes nothing.
+    /// `Gap` if messages before number `count` have not come. `Contrary` if message `count` is
+    /// known and is before `clock`. A refusal changes nothing.
     pub fn accept_null(&mut self, count: u64, clock: Time) -> Result<Accepted, KnowFault>
         ensures answer { answer result ≡ Some (accept_null self.old count clock).answer }
         ensures after { self.new ≡ (accept_null self.old count clock).after }
@@ -243,7 +243,7 @@ impl Know {
     ///
     /// # Errors
     ///
-    /// Where memory for messages was refused. There are some that only the other has then.
+    /// If memory for messages was refused. There are some that only the other has then.
     pub fn reserve_merge(&self, other: &Know) -> Result<Gain, AllocError>
         requires { join_fault same_octets self.now other.now ≡ None }
         ensures joins { IfOk result (λ gain. gained self.now gain ≡ join self.now other.now) }

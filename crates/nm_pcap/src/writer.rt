@@ -150,8 +150,7 @@ impl<W: Sink> PcapOut<W> {
         self.write_two(&header, record.packet.octets())
     }
 
-    /// Writes what stands after the last record in the file's form. It is called once, after all
-    /// `put`s.
+    /// Writes what follows the last record in the file's form. It is called once, after all `put`s.
     ///
     /// # Errors
     ///

@@ -11,7 +11,7 @@ use nm_base::split_once;
 use nm_rounds::WorldStep;
 use std::alloc::Global;
 
-/// Adds what a line says to the steps of the lines before it.
+/// Adds the step of a line, if it is one, to the steps of the lines before it.
 fn take_line(steps: &mut Vec<WorldStep>, line: &[u8], number: u64) -> Result<(), ScriptFault>
     requires { length steps.old.items ≤ MAX_SCRIPT_STEPS }
     ensures { AddsStep steps.old.items line.now number result steps.new.items }

@@ -1,4 +1,4 @@
-//! What is told of a network over time, step by step.
+//! A network over time, step by step.
 
 ghost use Rattle.std.specs.Prelude.{◌≡◌, ℕ, ◌-◌, List, IfOk};
 ghost use Rattle.std.specs.Option.{option_map};
@@ -32,8 +32,8 @@ impl Span {
     }
 }
 
-/// What one of a kind had up to a time. The rows of a step say what all of the kind had more at its
-/// end than at its begin.
+/// The counts of one of a kind up to a time. The rows of a step have what was added from its begin
+/// to its end.
 pub trait Totals: Drop {
     // What all of the kind had before a time of the run, by number.
     ghost had: { TopologyValue → ℕ → List Self → Type 0 };
@@ -118,7 +118,7 @@ impl<T: Totals> Series<T> {
     ///
     /// # Errors
     ///
-    /// If memory was refused: nothing is said of the series then.
+    /// If memory was refused: no contract states the series then.
     pub fn next(
         &mut self,
         alloc: Global,

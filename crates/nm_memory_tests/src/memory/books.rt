@@ -34,7 +34,7 @@ fn ran(answer: Ran) -> (&'static str, u64) {
     }
 }
 
-/// A replica, and its twin, which is told, does and merges the same.
+/// A replica, and its twin, which gets, does and merges the same.
 #[derive(Drop)]
 struct Pair {
     book: Book,
@@ -57,7 +57,7 @@ fn same(rt: &impl Abort, what: &str, pair: &Pair) {
     holds(rt, what, are_alike(&pair.book, &pair.twin, CHANNELS));
 }
 
-/// What a replica that is told something answers, asked again if memory was refused.
+/// What a replica answers to something that it gets, asked again if memory was refused.
 fn told_again(book: &mut Book, message: &ChannelMessage) -> (&'static str, u64) {
     let answer = accepted(&book.accept(message));
     if answer.0 == "memory" {
@@ -66,7 +66,7 @@ fn told_again(book: &mut Book, message: &ChannelMessage) -> (&'static str, u64) 
     answer
 }
 
-/// A replica is told something, again if memory was refused: then it is as it was.
+/// A replica gets something, again if memory was refused: then it is as it was.
 fn told(rt: &impl Abort, pair: &mut Pair, message: &ChannelMessage, want: &'static str) {
     let mut answer = accepted(&pair.book.accept(message));
     if answer.0 == "memory" {
@@ -162,8 +162,8 @@ fn catches_up(
     merges_late(rt, topology, &known, other, events)
 }
 
-/// A partition, by whose own number its channel goes, hears that nothing comes before 1,000,000 ns
-/// and does two events: the message that it sent on the other channel.
+/// A partition, with its own number as that of its channel, learns that nothing comes before
+/// 1,000,000 ns and does two events: the message that it sent on the other channel.
 fn sends(
     rt: &(impl Abort + AllocGlobal),
     topology: &Arc<Topology>,
@@ -175,8 +175,8 @@ fn sends(
     message(&pair.book, 1 - sender.min(1))
 }
 
-/// The other partition hears this message and that nothing else comes before 2,000,000 ns, and does
-/// so many events; so does a late sister.
+/// The other partition gets this message and learns that nothing else comes before 2,000,000 ns,
+/// and does so many events; so does a late sister.
 fn hears(
     rt: &(impl Abort + AllocGlobal),
     topology: &Arc<Topology>,

@@ -37,7 +37,7 @@ fn packet_of(rt: &(impl Abort + AllocGlobal), octets: &[u8]) -> Packet {
     packet.expect(rt, "from 1 to 65,535 octets")
 }
 
-/// A text whose fault is the last that is looked for.
+/// A text with the fault that is looked for last.
 const CUT: &str = r#"format = 1
 stop = 1
 mtu = 1500
@@ -48,7 +48,7 @@ link = [ {a = "a0", b = "b0", rate = 1000, delay = 0} ]
 source = [ {kind = "raw", node = "a", via = "a0", packet = [ {at = 0, data = "45"} ]} ]
 "#;
 
-/// A text is refused for this at each of two calls, but at one of them for memory where that is
+/// A text is refused for this at each of two calls, but at one of them for memory if that is
 /// refused once.
 fn is_refused(rt: &(impl Abort + AllocGlobal), text: &str, refusal: Refusal) {
     let want = Some(TopoFault::Refused(refusal));
