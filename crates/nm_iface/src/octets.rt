@@ -5,7 +5,8 @@ ghost use Rattle.nm_base.specs.declared.limits.TheConstants.{MAX_PACKET_OCTETS};
 ghost use Rattle.nm_iface.specs.Octets.{HasCounted, most_of};
 ghost use Rattle.nm_iface.specs.PortValue.{is_within};
 
-/// A limit in octets, and how many octets wait.
+/// A limit in octets, and how many octets wait. They are counted only if they are limited: so the
+/// count fits 32 bits.
 #[derive(Clone, Copy)]
 pub struct OctetLimit {
     pub most: u32,

@@ -25,7 +25,8 @@ use nm_topology::Topology;
 use nm_topology::topology::accepted_topologies_are_in_order;
 use std::alloc::{AllocError, Global};
 
-/// How far a run is is noted once in so many events.
+/// How far a run is is noted once in so many events: a counter that threads share costs as much as
+/// a comparison of the heap.
 const EVENTS_A_NOTE: u64 = 1_024;
 
 /// The records of a trace file: the packets that pass an interface in these directions.

@@ -95,7 +95,8 @@ fn address_of(topology: &Topology, via: IfaceNo) -> Option<Address> {
     Some(topology.ifaces().get(via.index())?.address())
 }
 
-/// Looks at the way back of the replies to echo requests, from the node that they come to.
+/// Looks at the way back of the replies to echo requests, from the node that they come to. A UDP
+/// source awaits no answer.
 fn see_back(
     alloc: Global,
     topology: &Topology,

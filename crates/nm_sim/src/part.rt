@@ -421,8 +421,9 @@ impl<L: EventList> Part<L> {
         self.records.hand_out()
     }
 
-    /// Takes all kept records out of the trace. Those to come are kept in the list that comes in,
-    /// which is empty. It takes no memory, and gives that of the records to the caller.
+    /// Takes all kept records out of the trace: one by one would cost a blank each. Those to come
+    /// are kept in the list that comes in, which is empty. It takes no memory, and gives that of
+    /// the records to the caller.
     pub fn hand_out_all(&mut self, room: Vec<Record>) -> Vec<Record>
         requires empty { room.items ≡ [] }
         requires represents { IsOfARun L.pending self.old }

@@ -39,7 +39,8 @@ use std::alloc::{AllocError, Global};
 use std::marker::Model;
 
 /// What lies ahead: the events to come, and how many packets were put on each interface so far, by
-/// the interface that receives them; the next arrival there has that number.
+/// the interface that receives them; the next arrival there has that number. They are counted for
+/// every interface, within a part too, since the model numbers arrivals by the receiving interface.
 #[derive(Drop)]
 pub struct Timeline<L> {
     events: L,

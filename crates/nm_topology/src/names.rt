@@ -70,7 +70,8 @@ pub fn names_of<T: Named>(alloc: Global, items: &[T]) -> Result<Vec<&str>, Alloc
     Ok(names)
 }
 
-/// Distinct names, each with its number. A clause sees the list of names.
+/// Distinct names, each with its number. They are hashed, so that no search is quadratic. A clause
+/// sees the list of names.
 #[derive(Drop)]
 pub struct Names<'a> {
     set: IndexSet<&'a str>,
