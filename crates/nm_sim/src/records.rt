@@ -85,7 +85,7 @@ fn count_one(totals: &mut [(u64, u64)], iface: IfaceNo, octets: usize)
 }
 
 impl Records {
-    /// No records, for so many interfaces; these will be kept.
+    /// No records, for so many interfaces; those of `wanted` will be kept.
     pub fn new(alloc: Global, ifaces: usize, wanted: Wanted) -> Result<Self, AllocError>
         ensures kept { IfOk result (λ r. r.kept ≡ []) }
         ensures keeping { IfOk result (λ r. r.keeping ≡ record { wanted = wanted; handed = 0 }) }

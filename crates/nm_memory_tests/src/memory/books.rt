@@ -162,8 +162,8 @@ fn catches_up(
     merges_late(rt, topology, &known, other, events)
 }
 
-/// A partition, with its own number as that of its channel, learns that nothing comes before
-/// 1,000,000 ns and does two events: the message that it sent on the other channel.
+/// A partition learns that nothing comes before 1,000,000 ns on its incoming channel, which has its
+/// own number, and does two events: the message that it sent on the other channel.
 fn sends(
     rt: &(impl Abort + AllocGlobal),
     topology: &Arc<Topology>,
