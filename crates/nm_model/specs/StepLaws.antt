@@ -33,8 +33,8 @@ module _ {P N : Type 0} (net : Net P N) (same : P → P → Bool) (w : World P) 
       happens net same w step
       ≡ (put_replica w p r (record { knowledge = x.knowledge; ran = k }), outcome)
 
-  -- a replica, by its partition and number, does at most n further events, where count of all its
-  -- events are safe: it does n, and more are left, or it does all that are safe
+  -- a replica, by its partition and number, does at most n further events; count of all its events
+  -- are safe: it does n, and more are left, or it does all that are safe
   pub record DoesWhatIsSafe (name : ℕ × ℕ) (n count : ℕ) : Type 0 where
     pub limit : let k = (w.replica name.0 name.1).ran + n in k < count
         → HasDone (Run name.0 name.1 n) name.0 name.1 k (Limit n)

@@ -1,5 +1,5 @@
 //! A refused growth is an error after which nothing has changed, and the same call then answers as
-//! if nothing had been refused: what these tests show where an allocation is refused
+//! if nothing had been refused: these tests show it when an allocation is refused
 //! (`dev/attack/refuse-growths`).
 //!
 //! What a test only needs is asked for twice, so that it is there even if memory was refused.
