@@ -71,7 +71,7 @@ def comments():
 
 
 def check_paths(report):
-    """Links, their anchors, paths and targets of make that documents, comments, the Makefile and the heads of scripts name."""
+    """Links and their headings, paths and targets of make that documents, comments, the Makefile and scripts name."""
     known = targets()
     for document in documents():
         for number, line in enumerate(here.read(document).split("\n"), 1):
