@@ -212,13 +212,11 @@ def name_table(tallies):
 
 
 def tables(tallies):
-    """The tables of what was compared, as lines."""
+    """The tables of what was compared, as lines; `name_table` is printed alone."""
     yield from set_table(tallies)
     if any(tally.equal < tally.topologies for tally in tallies):
         yield ""
         yield from reason_table(tallies)
-        yield ""
-        yield from name_table(tallies)
 
 
 def every(paths):

@@ -41,6 +41,21 @@ def is_there(document, path):
     return any(glob.glob(place) for place in places)
 
 
+def headings(path):
+    """The anchors of a document's headings, as a forge makes them."""
+    heads = re.findall(r"^#+ (.*)$", here.read(path), re.M)
+    return {re.sub(r"[^\w -]", "", head.lower()).replace(" ", "-") for head in heads}
+
+
+def has_anchor(document, link):
+    """Whether a link that names a heading of a document names one that is there."""
+    path, _, anchor = link.partition("#")
+    target = os.path.normpath(os.path.join(os.path.dirname(document), path)) if path else document
+    if not anchor or ":" in link or not os.path.isfile(here.path(target)):
+        return True
+    return anchor in headings(target)
+
+
 def targets():
     """The targets of the Makefile."""
     return set(" ".join(re.findall(r"^([a-z][\w/ -]*):", here.read("Makefile"), re.M)).split())
@@ -56,13 +71,15 @@ def comments():
 
 
 def check_paths(report):
-    """Links, paths and targets of make that documents, comments, the Makefile and the heads of scripts name."""
+    """Links and their headings, paths and targets of make that documents, comments, the Makefile and scripts name."""
     known = targets()
     for document in documents():
         for number, line in enumerate(here.read(document).split("\n"), 1):
             for path in LINK.findall(line) + PATH.findall(line):
                 if not PATTERN.search(path):
                     report.note(is_there(document, path), f"{document}:{number}: {path} is not there")
+            for link in LINK.findall(line):
+                report.note(has_anchor(document, link), f"{document}:{number}: there is no heading {link}")
             for target in TARGET.findall(line):
                 report.note(target in known, f"{document}:{number}: there is no target {target}")
     for place, text in comments():

@@ -6,7 +6,7 @@ from dev.facts import definitions, needs, pages
 from dev.lib import here
 from dev.planted import bugs
 
-PROVED, CONTRIBUTING = "docs/PROVED.md", "docs/CONTRIBUTING.md"
+PROVED, PLANTED, CONTRIBUTING = "docs/PROVED.md", "docs/PLANTED.md", "docs/CONTRIBUTING.md"
 
 
 def edits():
@@ -20,7 +20,8 @@ def edits():
 # For each part its document, its name, and what makes it.
 PARTS = (
     (PROVED, "definitions", definitions.counts),
-    (PROVED, "planted", bugs.table),
+    (PLANTED, "planted", bugs.table),
+    (PLANTED, "passed", bugs.passed),
     (CONTRIBUTING, "must-fail", edits),
     ("README.md", "needs", needs.table),
 )

@@ -62,6 +62,18 @@ def table():
     return "\n".join(["|" + " Crate | Listed | Tried | Refused |" * 3, "|" + "---|" * 12, *rows])
 
 
+def passed():
+    """The bugs that are proved, each with the reason or the test that its crate's table has."""
+    rows = ["| Crate | Planted bug | Why it is proved, or which test refuses it |", "|---|---|---|"]
+    for crate in crates():
+        results = results_of(crate)
+        for bug in bugs_of(crate):
+            answer = results.get(bug["bug"], "")
+            if answer.lower().startswith("proved"):
+                rows.append(f"| `{crate}` | {bug['bug']} | {answer[len('proved'):].lstrip(':; ')} |")
+    return "\n".join(rows)
+
+
 def replaced(text, old, new, name):
     """The text with `new` in the place of `old`, which is in it once, or once in the function of this name; or None."""
     if text.count(old) == 1:

@@ -68,7 +68,7 @@ key_cmp-IsAntisymmetric a b e =
     (slice_cmp-IsAntisymmetric nat_cmp-IsAntisymmetric (key_code a)
     (key_code b) e) ∙ key_back a b
 
--- A place as a number, where there are so many interfaces: 2i, 2i + 1, and then the sources.
+-- A place as a number, with so many interfaces: 2i, 2i + 1, and then the sources.
 abbrev pub place_number : ℕ → Place → ℕ
 place_number ifaces (Arrive i) = 2 * i
 place_number ifaces (Complete i) = 2 * i + 1

@@ -4,13 +4,12 @@ use Rattle.std.specs.Io.KnownBytes.{Appends}
 
 -- what is seen of a sink
 pub record SinkSeen : Type 0 where
-  -- the octets that it took so far, where it tells them
+  -- the octets that it took so far, if they are known
   pub taken : Option (List ℕ)
   -- how often it has failed
   pub failures : ℕ
 
--- between two moments a sink took these octets, which stand behind those before, where it tells
--- them
+-- between two moments a sink took these octets, which are behind those before, if they are known
 abbrev pub HasTaken : (old new : SinkSeen) → List ℕ → Type 0
 HasTaken old new octets = Appends old.taken new.taken octets
 

@@ -87,7 +87,7 @@ abbrev pub first_or : {X : Type 0} → X → List X → X
 first_or d [] = d
 first_or d (x ∷ xs) = x
 
--- what the next read and the next write do: what the script says, and past it a piece moves
+-- what the next read and the next write do: the script's step, and past it a piece moves
 abbrev pub next_read : MemoryWire → ScriptedRead
 next_read w = first_or (Gives w.piece) w.reads
 

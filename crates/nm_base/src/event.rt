@@ -5,18 +5,18 @@ ghost use Rattle.nm_base.specs.Event.{event_place};
 
 use crate::{IfaceNo, Packet, Place, SourceNo};
 
-/// An event that is to come: what happens, and where. When, and which of its place's events it is,
-/// say the time and the number of its `Key`.
+/// An event that is to come: what happens, and where. The time and the number of its `Key` say
+/// when, and which of its place's events it is.
 #[derive(Drop)]
 pub enum Event<P = Packet> {
-    /// A packet comes to its node: it arrives at an interface, or a source hands it over.
+    /// A packet comes to its node: it arrives at an interface, or a source makes it.
     Delivery(Origin, P),
     /// An interface completes a transmission.
     Completion(IfaceNo),
 }
 
 impl Event {
-    /// Where it stands in the order of keys.
+    /// Its place in the order of keys.
     pub fn place(&self) -> Place
         ensures { result ≡ event_place self.now }
     {
@@ -33,6 +33,6 @@ impl Event {
 pub enum Origin {
     /// It arrived at this interface of the node.
     Arrival(IfaceNo),
-    /// This source of the node hands it over.
+    /// This source of the node makes it.
     Source(SourceNo),
 }

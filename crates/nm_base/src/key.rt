@@ -9,7 +9,7 @@ ghost use Rattle.nm_base.specs.Key.{index_of, key_cmp, key_cmp_total, place_numb
 use crate::{IfaceNo, SourceNo, Time};
 use std::cmp::Ordering;
 
-/// Where an event stands. At one moment arrivals and completions come by the number of their
+/// The place of an event. At one moment arrivals and completions come by the number of their
 /// interface, an interface's arrival before its completion, and sources come after all interfaces.
 #[derive(Clone, Copy, Debug)]
 pub enum Place {
@@ -17,7 +17,7 @@ pub enum Place {
     Arrive(IfaceNo),
     /// An interface completes a transmission.
     Complete(IfaceNo),
-    /// A source hands over its next packet.
+    /// A source makes its next packet.
     Fire(SourceNo),
 }
 

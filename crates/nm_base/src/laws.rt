@@ -9,8 +9,8 @@ ghost use Rattle.nm_base.specs.declared.limits.TheConstants.{MAX_MTU, MAX_PACKET
 ghost use Rattle.nm_base.specs.Key.{key_cmp, key_numbers, IsPlaceOf};
 
 /// Keys are in a total order: in a network of so many interfaces the lexicographic order of (time,
-/// place, number), where arrivals at interface i stand at place 2i, completions of interface i at
-/// 2i + 1, and source j at 2 * ifaces + j.
+/// place, number), with arrivals at interface i at place 2i, completions of interface i at 2i + 1,
+/// and source j at 2 * ifaces + j.
 pub fn key_order()
     ensures total { IsTotalOrder key_cmp }
     ensures lexicographic { (ifaces : ℕ) (a b : Key) → IsPlaceOf ifaces a.place
@@ -19,7 +19,7 @@ pub fn key_order()
 {}
 
 /// A packet may have as many octets as the total length of an IPv4 header, a number of 16 bits, can
-/// say (RFC 791, section 3.1), and so may what a link carries.
+/// hold (RFC 791, section 3.1), and so may what a link carries.
 pub fn greatest_packet()
     ensures packet { MAX_PACKET_OCTETS + 1 ≡ 2 ^ 16 }
     ensures mtu { MAX_MTU ≡ MAX_PACKET_OCTETS }

@@ -1,11 +1,11 @@
 //! The limits of what a user may ask for and of what a peer may send, each stated once. What is
 //! past a limit is refused, and the refusal names it. How often and how long a loop waits and tries
-//! stands with the loop (`nm_replica::limits`).
+//! is beside the loop (`nm_replica::limits`).
 
 /// The greatest `stop`, 10^15 nanoseconds, which is 11 days and 13 hours. Each record is before it.
 pub const MAX_TIME: u64 = 1_000_000_000_000_000;
 
-/// The greatest number of octets of a packet: what the total length of an IPv4 header can say (RFC
+/// The greatest number of octets of a packet: what the total length of an IPv4 header can hold (RFC
 /// 791, section 3.1).
 pub const MAX_PACKET_OCTETS: usize = 65_535;
 

@@ -63,7 +63,7 @@ impl MemSink {
 impl Sink for MemSink {
     ghost seen = { λ s. record { taken = Some s.octets; failures = s.failures } };
 
-    /// Takes as many octets as there is room for, and fails where there is none.
+    /// Takes as many octets as there is room for, and fails if there is none.
     fn write_some(&mut self, octets: &[u8]) -> Result<usize, SinkFault>
         requires { 0 < length octets.now }
         ensures bounds { IfOk result (λ n. (1 ≤ n) × (n ≤ length octets.now)) }

@@ -1,5 +1,4 @@
-//! A wire in memory, which answers as a script says: what it gives stands in a list, and what it
-//! takes has a budget.
+//! A wire in memory with a script: what it gives is in a list, and what it takes has a budget.
 
 ghost use Rattle.std.specs.Prelude.{◌≡◌, ◌<◌, ◌≤◌, [], IfOk, drop, length};
 ghost use Rattle.nm_base.specs.Wire.{next_read, next_write};
@@ -10,7 +9,7 @@ use std::alloc::{AllocError, Global};
 use std::collections::VecDeque;
 use std::marker::Model;
 
-/// What a read of a wire in memory answers where it gives nothing.
+/// What a read of a wire in memory answers if it gives nothing.
 #[derive(Clone, Copy)]
 pub enum Ending {
     End,
@@ -21,7 +20,7 @@ pub enum Ending {
 /// What a script has one read do.
 #[derive(Clone, Copy)]
 pub enum ScriptedRead {
-    /// It gives so many octets, or as many as are left and the buffer takes. Where that is none, it
+    /// It gives so many octets, or as many as are left and the buffer takes. If that is none, it
     /// answers the wire's ending.
     Gives(usize),
     /// It gives nothing and answers so.
@@ -31,8 +30,8 @@ pub enum ScriptedRead {
 /// What a script has one write do.
 #[derive(Clone, Copy)]
 pub enum ScriptedWrite {
-    /// It takes so many octets, or as many as there are and there is room for. Where that is none,
-    /// it fails.
+    /// It takes so many octets, or as many as there are and there is room for. If that is none, it
+    /// fails.
     Takes(usize),
     /// Nothing is taken now.
     Later,
@@ -40,8 +39,8 @@ pub enum ScriptedWrite {
     Fault,
 }
 
-/// Answers as a script says, in its order. After the script it gives a list in pieces, and takes up
-/// to a budget of octets, after which each write fails. A clause sees `MemoryWire`.
+/// Answers by a script, in its order. After the script it gives a list in pieces, and takes up to a
+/// budget of octets, after which each write fails. A clause sees `MemoryWire`.
 #[derive(Drop)]
 pub struct MemWire {
     /// What the next reads and writes do.
@@ -171,7 +170,7 @@ impl Wire for MemWire {
 
     ghost seen = { memory_seen };
 
-    /// Does what the script says next, and past the script gives a piece.
+    /// Does the next step of the script, and past the script gives a piece.
     fn read_some(&mut self, buffer: &mut [u8]) -> Read
         requires { 0 < length buffer.old }
         ensures reads { ReadDoes (memory_seen self.old) (memory_seen self.new) result buffer.new }
@@ -206,7 +205,7 @@ impl Wire for MemWire {
         Read::Got(count)
     }
 
-    /// Does what the script says next, and past the script takes a piece.
+    /// Does the next step of the script, and past the script takes a piece.
     fn write_some(&mut self, octets: &[u8]) -> Written
         requires { 0 < length octets.now }
         ensures answer { result

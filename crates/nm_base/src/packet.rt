@@ -34,7 +34,7 @@ impl Storage {
         }
     }
 
-    /// Writes octets over those from an offset on, where the block is the packet's own.
+    /// Writes octets over those from an offset on, if the block is the packet's own.
     #[inline(always)]
     fn overwrite(&mut self, offset: usize, octets: &[u8]) -> bool
         requires { offset + length octets.now ≤ length (held self.old) }
@@ -100,11 +100,11 @@ impl Eq for Packet {
 }
 
 impl Packet {
-    /// The packet of these octets, or `None` where they are none or more than 65,535.
+    /// The packet of these octets, or `None` if they are none or more than 65,535.
     ///
     /// # Errors
     ///
-    /// `AllocError` where memory for the count of owners was refused.
+    /// `AllocError` if memory for the count of owners was refused.
     pub fn new(alloc: Global, octets: Bytes) -> Result<Option<Self>, AllocError>
         ensures fits { IfOk result
             (λ p. IsSome p ↔ ((1 ≤ length octets) × (length octets ≤ MAX_PACKET_OCTETS))) }
@@ -120,7 +120,7 @@ impl Packet {
     ///
     /// # Errors
     ///
-    /// `AllocError` where memory for the count of owners was refused.
+    /// `AllocError` if memory for the count of owners was refused.
     pub fn from_octets(alloc: Global, octets: Bytes) -> Result<Self, AllocError>
         requires least { 1 ≤ length octets }
         requires greatest { length octets ≤ MAX_PACKET_OCTETS }
@@ -134,7 +134,7 @@ impl Packet {
     ///
     /// # Errors
     ///
-    /// `AllocError` where memory for the count of owners was refused.
+    /// `AllocError` if memory for the count of owners was refused.
     pub fn from_own(alloc: Global, octets: BytesMut) -> Result<Self, AllocError>
         requires least { 1 ≤ length octets.items }
         requires greatest { length octets.items ≤ MAX_PACKET_OCTETS }
@@ -162,7 +162,7 @@ impl Packet {
         self.octets.octets()
     }
 
-    /// Writes octets over those from an offset on, where this is the only owner of a block of the
+    /// Writes octets over those from an offset on, if this is the only owner of a block of the
     /// packet's own: whether it is. Else nothing changes.
     #[inline(always)]
     pub fn overwrite(&mut self, offset: usize, octets: &[u8]) -> bool

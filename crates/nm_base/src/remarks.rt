@@ -6,7 +6,7 @@ use std::alloc::AllocError;
 /// The most remarks that are written out.
 const MAX_REMARKS: u64 = 20;
 
-/// A text with remarks behind it, of which the first 20 are written out.
+/// A text with remarks behind it; the first 20 are written out.
 #[derive(Drop)]
 pub struct Remarks {
     text: Vec<u8>,

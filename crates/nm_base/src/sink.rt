@@ -1,4 +1,4 @@
-//! Sinks: where octets go. A sink may take a part of what it is given, and may fail.
+//! Sinks: where octets go. A sink may take a part of what it gets, and may fail.
 
 ghost use Rattle.std.specs.Prelude.{◌≡◌, ◌+◌, ◌<◌, ◌≤◌, length, take, is_ok};
 ghost use Rattle.std.specs.Prelude.{if◌then◌else◌, OnErr, OnOk, IfOk};
@@ -23,8 +23,7 @@ pub trait Sink {
     ///
     /// # Errors
     ///
-    /// `SinkFault` where the sink failed. It took nothing then, and its count of failures is one
-    /// more.
+    /// `SinkFault` if the sink failed. It took nothing then, and its count of failures is one more.
     fn write_some(&mut self, octets: &[u8]) -> Result<usize, SinkFault>
         requires { 0 < length octets.now }
         ensures bounds { IfOk result (λ n. (1 ≤ n) × (n ≤ length octets.now)) }
@@ -62,7 +61,7 @@ pub fn write_counted<S: Sink>(sink: &mut S, octets: &[u8]) -> (usize, Result<(),
 ///
 /// # Errors
 ///
-/// `SinkFault` where the sink failed. It had taken a part of the list then, from the front.
+/// `SinkFault` if the sink failed. It had taken a part of the list then, from the front.
 pub fn write_all<S: Sink>(sink: &mut S, octets: &[u8]) -> Result<(), SinkFault>
     ensures ok { OnOk result (WroteAll (S.seen sink.old) (S.seen sink.new) octets.now) }
     ensures err { OnErr result (WrotePrefix (S.seen sink.old) (S.seen sink.new) octets.now) }

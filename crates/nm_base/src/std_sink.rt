@@ -53,11 +53,11 @@ impl<W: Write> StdSink<W> {
         SinkFault
     }
 
-    /// Has the writer hand on what it holds back, as one with a buffer does.
+    /// Has the writer pass on what it holds back, as one with a buffer does.
     ///
     /// # Errors
     ///
-    /// `SinkFault` where the writer failed. The count of failures is one more then.
+    /// `SinkFault` if the writer failed. The count of failures is one more then.
     pub fn flush(&mut self) -> Result<(), SinkFault>
         ensures octets { Keeps (W.contents self.old.writer) (W.contents self.new.writer) }
         ensures faults { self.new.failures ≡ self.old.failures + (if is_ok result then 0 else 1) }
@@ -69,7 +69,7 @@ impl<W: Write> StdSink<W> {
     }
 }
 
-/// How many octets a writer took by its answer, or `None` where it failed: it answered an error, or
+/// How many octets a writer took by its answer, or `None` if it failed: it answered an error, or
 /// took nothing of a list that is not empty.
 fn taken_count(answer: io::Result<usize>) -> Option<usize>
     ensures { MatchResult answer

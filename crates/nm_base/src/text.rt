@@ -10,7 +10,7 @@ use itoa::Buffer;
 use memchr::memchr;
 use std::alloc::AllocError;
 
-/// Appends octets. Where memory is refused, the text is as it was.
+/// Appends octets. If memory is refused, the text is as it was.
 pub fn push_text(text: &mut Vec<u8>, more: &[u8]) -> Result<(), AllocError>
     ensures { text.new.items
         ≡ (if is_ok result then text.old.items ++ more.now else text.old.items) }
@@ -18,8 +18,7 @@ pub fn push_text(text: &mut Vec<u8>, more: &[u8]) -> Result<(), AllocError>
     text.extend_from_slice(more)
 }
 
-/// Appends a number in decimal, without leading zeros. Where memory is refused, the text is as it
-/// was.
+/// Appends a number in decimal, without leading zeros. If memory is refused, the text is as it was.
 pub fn push_number(text: &mut Vec<u8>, number: u64) -> Result<(), AllocError>
     ensures { text.new.items
         ≡ (if is_ok result then text.old.items ++ decimal number else text.old.items) }
@@ -28,8 +27,8 @@ pub fn push_number(text: &mut Vec<u8>, number: u64) -> Result<(), AllocError>
     push_text(text, buffer.format(number).as_bytes())
 }
 
-/// The number that a text writes in decimal, without leading zeros: 0 to `u64::MAX`. `None` where
-/// it is no such text.
+/// The number that a text writes in decimal, without leading zeros: 0 to `u64::MAX`. `None` if it
+/// is no such text.
 pub fn number_of(text: &[u8]) -> Option<u64>
     ensures found { IfSome result (λ n. text.now ≡ decimal n) }
     ensures only { (n : ℕ) → n < 2 ^ 64 → text.now ≡ decimal n → result ≡ Some n }
@@ -47,7 +46,7 @@ pub fn number_of(text: &[u8]) -> Option<u64>
     Some(number)
 }
 
-/// What stands before and behind the first octet of this value. `None` where the text has none.
+/// What is before and after the first octet of this value. `None` if the text has none.
 pub fn split_once(text: &[u8], octet: u8) -> Option<(&[u8], &[u8])>
     ensures { MatchOption result (HasNo octet text.now) (λ parts.
         (text.now ≡ parts.0.now ++ octet ∷ parts.1.now) × HasNo octet parts.0.now) }

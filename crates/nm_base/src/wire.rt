@@ -5,7 +5,7 @@ ghost use Rattle.std.specs.Prelude.{◌≡◌, ◌<◌, length};
 /// What a read of a wire found.
 #[derive(Clone, Copy)]
 pub enum Read {
-    /// So many octets stand at the front of the buffer: at least one, at most its length.
+    /// So many octets are at the front of the buffer: at least one, at most its length.
     Got(usize),
     /// The other side sends no more.
     End,

@@ -74,7 +74,8 @@ fn tell<R: Wait>(
     Ok(taken)
 }
 
-/// So many threads tell one book, or each a book of its own: how many null messages were taken.
+/// So many threads give null messages to one book, or each to a book of its own: how many were
+/// taken.
 pub(crate) fn acts<R: Threads + Wait + Sync>(
     rt: &R,
     alloc: Global,

@@ -14,7 +14,7 @@ impl Chance {
         Chance { state: seed }
     }
 
-    /// The next number, which is below this bound.
+    /// The next number below this bound.
     pub(crate) fn below(&mut self, bound: u64) -> u64
         requires { 1 ≤ bound }
         ensures { result < bound }

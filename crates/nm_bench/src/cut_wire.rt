@@ -27,7 +27,7 @@ struct Cut {
     piece: usize,
 }
 
-/// One end of a connection in memory, which breaks by itself: the other end is not told.
+/// One end of a connection in memory, which breaks by itself: the other end does not learn it.
 #[derive(Drop)]
 pub(crate) struct CutWire {
     from: Way,
@@ -64,7 +64,7 @@ impl CutWire {
     }
 }
 
-/// Both ends of a connection. Each breaks after so many octets as chance says.
+/// Both ends of a connection. Each breaks after a random number of octets.
 pub(crate) fn cut_pipe(
     alloc: Global,
     chance: &mut Chance,

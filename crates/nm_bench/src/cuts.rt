@@ -1,4 +1,4 @@
-//! Two replicas whose connections break at random octets, again and again, until both have said
+//! Two replicas whose connections break at random octets, again and again, until both have sent
 //! Bye; and whether their books are then certified. `dev/check/links` does so with many seeds.
 
 use crate::chance::Chance;
@@ -29,16 +29,16 @@ struct Links {
     one: Link<CutWire>,
 }
 
-/// What a connection came to.
+/// The result of a connection.
 #[derive(Drop)]
 struct Came {
     /// The session of partition 0 after the break.
     session: Option<Session>,
-    /// Whether both sides have said Bye.
+    /// Whether both sides have sent Bye.
     ended: bool,
 }
 
-/// What a seed came to.
+/// The result of a seed.
 #[derive(Drop)]
 struct Outcome {
     connections: u64,
@@ -99,8 +99,8 @@ fn connect(
     })
 }
 
-/// Both sides have turns as chance says, until both have said Bye, or some time after one broke.
-/// Whether both have said Bye.
+/// Both sides have turns by chance, until both have sent Bye, or some time after one broke. Whether
+/// both have sent Bye.
 fn talk<R: Wait>(
     rt: &R,
     alloc: Global,
@@ -157,7 +157,7 @@ fn broken(session: Option<Session>) -> Result<Session, Error> {
     Ok(session)
 }
 
-/// Connections until both sides have said Bye over one: how many.
+/// Connections until both sides have sent Bye over one: how many.
 fn converse<R: Wait>(
     rt: &R,
     alloc: Global,
@@ -176,7 +176,7 @@ fn converse<R: Wait>(
     Ok(MAX_CONNECTIONS)
 }
 
-/// What a seed comes to.
+/// The result of a seed.
 fn outcome_of<R: Wait>(
     rt: &R,
     alloc: Global,
@@ -213,7 +213,7 @@ fn fault_of(alloc: Global, pair: Pair) -> Result<Option<CertFault>, Error> {
 ///
 /// # Errors
 ///
-/// `Other` where a seed is not certified.
+/// `Other` if a seed is not certified.
 pub(crate) fn try_seeds<R: Files + Print + AllocGlobal + Wait>(
     rt: &R,
     path: &str,

@@ -29,7 +29,7 @@ fn written(alloc: Global) -> Result<Vec<u8>, Error> {
     Ok(stream)
 }
 
-/// The octets are read in pieces of this size, and each frame is let go: how many there were.
+/// The octets are read in pieces of this size, and each frame is dropped: how many there were.
 fn read_in(alloc: Global, stream: &[u8], piece: usize) -> Result<u64, Error>
     requires { 1 ≤ piece }
 {

@@ -1,4 +1,4 @@
-//! Two links of one thread: a replica tells another all its messages.
+//! Two links of one thread: a replica sends another all its messages.
 
 use crate::pipes::{PipeWire, pipe};
 use crate::shared::{Replica, replica_of};
@@ -80,7 +80,7 @@ fn network_text(alloc: Global, size: &str) -> Result<String, AllocError> {
     )
 }
 
-/// A replica of partition 0 is done, and tells one of partition 1 its messages, if it is to: how
+/// A replica of partition 0 is done, and sends one of partition 1 its messages, if it is to: how
 /// many that then knows. Packets have 28 octets more than their data.
 pub(crate) fn messages_told<R: Wait>(
     rt: &R,

@@ -22,8 +22,8 @@
 //!   threads 100,000 jobs.
 //!
 //! `streams FILE` reads a file of streams of frames, and shows the frames (`dev/check/frames`).
-//! `cuts FILE FROM COUNT` lets two replicas of a topology with two partitions tell each other all
-//! over links that break at random, with so many seeds, and says how many are not certified
+//! `cuts FILE FROM COUNT` has two replicas of a topology with two partitions send each other all
+//! over links that break at random, with so many seeds, and prints how many are not certified
 //! (`dev/check/links`).
 #![tactic(auto)]
 
@@ -123,7 +123,7 @@ fn task(word: &str) -> Option<Task> {
     }
 }
 
-/// The number that a word says.
+/// The number in a word.
 fn number(word: Option<String>) -> Result<u64, Error> {
     let word = word.ok_or(ErrorKind::InvalidInput)?;
     match word.as_str().parse::<u64>() {

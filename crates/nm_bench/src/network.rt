@@ -24,9 +24,9 @@ pub(crate) enum Task {
     Parts,
     /// The whole network is run to its stop; its records are counted, and kept to the end.
     Kept,
-    /// The same, but each record is let go as it is made.
+    /// The same, but each record is dropped as it is made.
     Flat,
-    /// A replica is told messages, which it takes and which are counted.
+    /// A replica gets messages, which it takes and which are counted.
     Told,
     /// So many threads act on one shared book, or each on a book of its own; what was taken is
     /// counted.
@@ -85,7 +85,7 @@ fn start_twice(alloc: Global, topology: &Topology) -> Result<Vec<Part<HeapList>>
     Ok(parts)
 }
 
-/// Runs the whole network to its stop, and lets each record go once it was shown: how many there
+/// Runs the whole network to its stop, and drops each record once it was shown: how many there
 /// were.
 fn let_go(alloc: Global, topology: &Topology) -> Result<u64, AllocError> {
     let mut tracer = Tracer::start(alloc, topology)?;

@@ -1,4 +1,4 @@
-//! A replica at work: it is told messages of its channels, and runs.
+//! A replica at work: it gets messages of its channels, and runs.
 
 use bytes::Bytes;
 use nm_base::{ChanNo, Packet, PartNo, Time};
@@ -8,7 +8,7 @@ use std::alloc::{AllocError, Global};
 use std::io::{Error, ErrorKind};
 use std::sync::Arc;
 
-/// How many messages a replica is told, at most.
+/// How many messages a replica gets, at most.
 const MESSAGES: u64 = 1_000_000;
 
 /// The channels that come in.
@@ -27,7 +27,7 @@ pub(crate) fn incoming(
     Ok(found)
 }
 
-/// Tells it the message of this number of each channel, and lets it run and hand out its records.
+/// Gives it the message of this number of each channel, and has it run and hand out its records.
 fn tell(
     alloc: Global,
     book: &mut Book,
@@ -69,7 +69,7 @@ fn tell_all(alloc: Global, book: &mut Book, channels: &[ChanNo]) -> Result<u64, 
     Ok(told)
 }
 
-/// Replica 0 of partition 0 is told messages of all channels that come in: how many it took.
+/// Replica 0 of partition 0 gets messages of all incoming channels: how many it took.
 pub(crate) fn replica_told(alloc: Global, topology: Topology) -> Result<u64, Error> {
     let channels = topology.receivers().len() as u32;
     let Ok(shared) = Arc::new(alloc, topology) else {

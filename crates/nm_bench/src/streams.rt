@@ -17,7 +17,7 @@ fn number_at(octets: &[u8], place: usize) -> Option<usize> {
     Some(number)
 }
 
-/// A line that says what a frame is.
+/// The line of a frame.
 fn show(rt: &(impl Print + AllocGlobal), frame: &Frame) -> io::Result<()> {
     match frame {
         Frame::Hello(hello) => {

@@ -16,13 +16,12 @@ use Rattle.nm_book.specs.declared.message.ChannelMessage.TheVariants.{Data as Da
 use Rattle.nm_book.specs.declared.fault.AcceptFault.{AcceptFault}
 use Rattle.nm_book.specs.declared.fault.AcceptFault.TheVariants.{Known, Stranger}
 
--- why nothing was learned of what was told: the model's function says so; or a message that is new
--- found no memory
+-- why nothing was learned: the model's function says so; or a message that is new found no memory
 abbrev pub IsNotLearned : model.Accepted (List ℕ) → KnowFault → Type 0
 IsNotLearned taken Memory = taken.answer ≡ model.New
 IsNotLearned taken f = Some taken.answer ≡ reason f
 
--- of channel c is learned what the model's function says of what was told; or nothing
+-- of channel c the model's function's result is learned; or nothing
 abbrev pub Learns : List (Know (List ℕ)) → List (Know (List ℕ)) → ℕ → model.Accepted (List ℕ)
     → Result Accepted AcceptFault → Type 0
 Learns old new c taken (Ok a) =
@@ -30,7 +29,7 @@ Learns old new c taken (Ok a) =
 Learns old new c taken (Err e) =
     (f : KnowFault) × (e ≡ Known f) × IsNotLearned taken f × (new ≡ old)
 
--- the same where the channel may not come in here: then nothing is
+-- the same if the channel may not come in here: then nothing is
 abbrev pub LearnsIf : Bool → List (Know (List ℕ)) → List (Know (List ℕ)) → ℕ
     → model.Accepted (List ℕ) → Result Accepted AcceptFault → Type 0
 LearnsIf true old new c taken result = Learns old new c taken result
@@ -45,8 +44,8 @@ data_taken knows c n time packet =
 abbrev pub null_taken : List (Know (List ℕ)) → ℕ → ℕ → ℕ → model.Accepted (List ℕ)
 null_taken knows c n time = model.accept_null (slice_index_or knows c nothing_known) n time
 
--- A book takes in what was told of channel c, if that comes in here: nothing but what it knows
--- of it changes.
+-- A book takes in a message or a null message of channel c, if that comes in here: nothing but what
+-- it knows of it changes.
 pub record Takes (old new : BookValue) (c : ℕ) (taken : model.Accepted (List ℕ))
     (result : Result Accepted AcceptFault) : Type 0 where
   pub learns : LearnsIf

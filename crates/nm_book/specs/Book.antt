@@ -76,7 +76,7 @@ abbrev pub data_from : ℕ → ℕ → Option (ℕ × List ℕ) → Option Data
 data_from c n None = None
 data_from c n (Some m) = Some (record { channel = c; number = n; time = m.0; packet = m.1 })
 
--- this, where it is so
+-- this, if it is so
 abbrev pub only_if : {A : Type 0} → Bool → A → Option A
 only_if true x = Some x
 only_if false x = None
@@ -85,7 +85,7 @@ only_if false x = None
 abbrev pub replica_of : BookValue → Replica (List ℕ)
 replica_of b = record { knowledge = knowledge b; ran = b.events }
 
--- of which channel a message or a null message is
+-- the channel of a message or a null message
 abbrev pub message_channel : ChannelMessage → ℕ
 message_channel (DataMessage d) = d.channel
 message_channel (NullMessage n) = n.channel

@@ -11,7 +11,7 @@ use Rattle.nm_sim.specs.Network.{net_of}
 use Rattle.nm_book.specs.Book.{BookValue, knowledge, promise_on, safe_of}
 use Rattle.nm_book.specs.Book.{sent_over, state_of}
 
--- What the laws rely on: a topology is a network of the model, in which each channel has its own
+-- The base of the laws: a topology is a network of the model, in which each channel has its own
 -- interface, and what comes into a partition is a channel.
 pub record IsNetOfChannels (t : TopologyValue) : Type 0 where
   pub network : IsNet (net_of t)

@@ -26,7 +26,7 @@ pub record KnowledgeValue : Type 0 where
   pub partition : ℕ
   pub knows : List (Know (List ℕ))
 
--- what is known of a channel of which this is kept
+-- what is known of a channel, of which this is kept
 abbrev pub kept_of : Option (Know (List ℕ)) → Know (List ℕ)
 kept_of None = nothing_known
 kept_of (Some k) = k
@@ -53,7 +53,7 @@ module _ (t : TopologyValue) (p : ℕ) (knows others : List (Know (List ℕ))) w
   AreJoinable n =
       (c : ℕ) → c < n → is_incoming c ≡ true → join_fault same_octets (known c) (other c) ≡ None
 
-  -- what is known of channel c after a merge: the join, where it comes in
+  -- what is known of channel c after a merge: the join, if it comes in
   abbrev pub joined_at : ℕ → Know (List ℕ)
   joined_at c = if is_incoming c then join (known c) (other c) else known c
 
@@ -110,8 +110,8 @@ module _ (t : TopologyValue) (p : ℕ) (knows others : List (Know (List ℕ))) w
         → IsGainOf (is_incoming t p knows others c) (known t p knows others c)
         (other t p knows others c) g
 
-  -- of the channels below number n that come in all messages of both are known, and the clocks
-  -- are not past those of the joins; nothing else changed
+  -- of the incoming channels below number n all messages of both are known, and the clocks are not
+  -- past those of the joins; nothing else changed
   pub record AreTold (n : ℕ) (after : List (Know (List ℕ))) : Type 0 where
     pub count : length after ≡ length knows
     pub list : (c : ℕ) → c < n → is_incoming t p knows others c ≡ true
@@ -135,7 +135,8 @@ pub record BothKnow : Type 0 where
 abbrev pub both_know : ℕ → (ours theirs : Know (List ℕ)) → BothKnow
 both_know c a b = record { channel = c; ours = a; theirs = b }
 
--- it is the turn of a channel: both know this of it, and the messages of those below it are told
+-- it is the turn of a channel: both know this of it, and the messages of those below it were taken
+-- in
 pub record IsTurnOf (t : TopologyValue) (p : ℕ) (knows others : List (Know (List ℕ)))
     (both : BothKnow) (messages : List Data) : Type 0 where
   pub there : both.channel < length knows
@@ -144,7 +145,7 @@ pub record IsTurnOf (t : TopologyValue) (p : ℕ) (knows others : List (Know (Li
   pub follow : Follow t p knows messages
   pub below : AreTold t p knows others both.channel (told_each knows messages)
 
--- of a channel the first n messages that the other knows are told, where these were known before
+-- of a channel the first n messages that the other knows were taken in, if these were known before
 pub record IsGrown (t : TopologyValue) (p : ℕ) (knows before : List (Know (List ℕ)))
     (both : BothKnow) (n : ℕ) (messages : List Data) : Type 0 where
   pub follow : Follow t p knows messages
@@ -156,7 +157,7 @@ pub record IsGrown (t : TopologyValue) (p : ℕ) (knows before : List (Know (Lis
   pub later : (m : ℕ) (x : ℕ × List ℕ) → n ≤ m → nth both.theirs.list m ≡ Some x
       → now_known.clock ≤ x.0
 
--- all are told that it knows, where the first of these messages were told before
+-- all that it knows was taken in, if the first of these messages were before
 abbrev pub HasAllGrown : TopologyValue → ℕ → List (Know (List ℕ)) → BothKnow
     → (first messages : List Data) → Type 0
 HasAllGrown t p knows both first messages =

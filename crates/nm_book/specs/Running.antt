@@ -11,10 +11,10 @@ use Rattle.nm_book.specs.Book.{BookValue, knowledge}
 use Rattle.nm_book.specs.declared.running.Ran.{Ran}
 use Rattle.nm_book.specs.declared.running.Ran.TheVariants.{All, Limit, Memory}
 
--- A replica of partition p over K had done k events, was asked for at most so many before the
--- safe time, and had done m after: all of them, where nothing is left before the safe time; as
--- many as were asked for, where some are left; or fewer, each of them whole, where some are left
--- and memory was refused.
+-- A replica of partition p over K had done k events, was asked for at most so many before the safe
+-- time, and had done m after: all of them, if nothing is left before the safe time; as many as were
+-- asked for, if some are left; or fewer, each of them whole, if some are left and memory was
+-- refused.
 abbrev pub HasRun : TopologyValue → ℕ → Knowledge (List ℕ) → ℕ → ℕ × ℕ → Ran → Type 0
 HasRun t p K limit done (All n) =
     (done.1 ≡ done.0 + n) × (done.1 ≡ advance (net_of t) p K limit done.0)

@@ -43,9 +43,9 @@ use std::alloc::{AllocError, Global};
 use std::marker::Model;
 use std::sync::Arc;
 
-/// A replica of a partition: what it knows of each channel that comes in, and the part of the
-/// simulation that it did with that. Its state is a function of what it knows and of how many
-/// events it did, whoever told it, how often and in which order.
+/// A replica of a partition: what it knows of each incoming channel, and the part of the simulation
+/// that it did with that. Its state is a function of what it knows and of how many events it did,
+/// whoever sent it, how often and in which order.
 #[derive(Drop)]
 pub struct Book {
     topology: Arc<Topology>,
@@ -116,8 +116,8 @@ impl Book {
     ///
     /// # Errors
     ///
-    /// `NoSuch` where the topology has no such partition, or the replica is neither 0 nor 1.
-    /// `Memory` where memory was refused.
+    /// `NoSuch` if the topology has no such partition, or the replica is neither 0 nor 1. `Memory`
+    /// if memory was refused.
     pub fn new(
         alloc: Global,
         topology: Arc<Topology>,
@@ -176,13 +176,13 @@ impl Book {
         &self.topology
     }
 
-    /// Takes in a message or a null message. Where it is a new message, its arrival is to come.
+    /// Takes in a message or a null message. If it is a new message, its arrival is to come.
     ///
     /// # Errors
     ///
-    /// `Stranger` where the channel does not come in here. `Known` with the fault where what is
-    /// known of the channel refuses it (`Know::accept_data`, `accept_null`), or memory was refused.
-    /// A refusal changes nothing.
+    /// `Stranger` if the channel does not come in here. `Known` with the fault if what is known of
+    /// the channel refuses it (`Know::accept_data`, `accept_null`), or memory was refused. A
+    /// refusal changes nothing.
     pub fn accept(&mut self, message: &ChannelMessage) -> Result<Accepted, AcceptFault>
         ensures { Takes self.old self.new (message_channel message.now)
             (message_taken self.old.knows message.now) result }
@@ -251,7 +251,7 @@ impl Book {
     ///
     /// # Errors
     ///
-    /// Where memory was refused.
+    /// If memory was refused.
     pub fn copy_knowledge(&self, alloc: Global) -> Result<Knowledge, AllocError>
         ensures { IfOk result (λ k. k ≡ record {
           digest = self.now.topology.digest;
@@ -262,14 +262,14 @@ impl Book {
         Knowledge::new(alloc, &self.topology, self.partition, &self.knows)
     }
 
-    /// Takes in what another replica of the partition knows: of each channel that comes in the
-    /// longer list of messages and the greater clock. The arrivals of the new messages are to come.
+    /// Takes in what another replica of the partition knows: of each incoming channel the longer
+    /// list of messages and the greater clock. The arrivals of the new messages are to come.
     ///
     /// # Errors
     ///
-    /// `Stranger` where it is the knowledge of another partition or topology. `Channel` names the
-    /// first channel that cannot be joined, and why (`Know::check_merge`). `Memory` where memory
-    /// was refused. A refusal changes nothing.
+    /// `Stranger` if it is the knowledge of another partition or topology. `Channel` names the
+    /// first channel that cannot be joined, and why (`Know::check_merge`). `Memory` if memory was
+    /// refused. A refusal changes nothing.
     pub fn merge(&mut self, alloc: Global, other: &Knowledge) -> Result<(), MergeFault>
         ensures { BookMerges self.old self.new other.now result }
     {
@@ -296,17 +296,17 @@ impl Book {
     }
 
     /// The safe time (J. Misra, 1986, section 2), in nanoseconds: the least of `stop` and of the
-    /// clocks of the channels that come in. Events before it may be done. It takes no memory.
+    /// clocks of incoming channels. Events before it may be done. It takes no memory.
     pub fn safe(&self) -> Time
         ensures { result ≡ safe_of self.now }
     {
         self.safe
     }
 
-    /// No further message goes out on the channel that arrives before this time, in nanoseconds
-    /// (J. Misra, 1986, section 3): it counts the next event that may cause one, the transmission
-    /// under way, the least time of a transmission and the link's delay. `None` where the channel
-    /// does not go out from here. It takes no memory.
+    /// A time in nanoseconds before which no further message of the channel arrives (J. Misra,
+    /// 1986, section 3): it counts the next event that may cause one, the transmission under way,
+    /// the least time of a transmission and the link's delay. `None` if the channel does not go out
+    /// from here. It takes no memory.
     pub fn promise(&self, channel: ChanNo) -> Option<Time>
         ensures { result ≡ only_if (is_outgoing self.now channel)
             (promise_on Tight self.now channel) }
@@ -317,9 +317,8 @@ impl Book {
         Some(tight_promise(&self.topology, &self.part, self.safe, channel))
     }
 
-    /// As `promise`, but that of transmissions neither the one under way nor the least time is
-    /// counted: it is earlier by that time at least. Sessions of version 1 give it. It takes no
-    /// memory.
+    /// As `promise`, without the transmission under way and the least time of one: it is earlier by
+    /// that time at least. Sessions of version 1 give it. It takes no memory.
     pub fn old_promise(&self, channel: ChanNo) -> Option<Time>
         ensures { result ≡ only_if (is_outgoing self.now channel)
             (promise_on Plain self.now channel) }
@@ -330,8 +329,8 @@ impl Book {
         Some(plain_promise(&self.topology, &self.part, self.safe, channel))
     }
 
-    /// The null message of a channel: how many messages were sent, and the promise. `None` where
-    /// the channel does not go out from here. It takes no memory.
+    /// The null message of a channel: how many messages were sent, and the promise. `None` if the
+    /// channel does not go out from here. It takes no memory.
     pub fn null(&self, channel: ChanNo) -> Option<Null>
         ensures { result ≡ only_if (is_outgoing self.now channel) (null_on Tight self.now channel) }
     {
@@ -342,7 +341,7 @@ impl Book {
         })
     }
 
-    /// The null message of a channel with the old promise. `None` where the channel does not go out
+    /// The null message of a channel with the old promise. `None` if the channel does not go out
     /// from here. It takes no memory.
     pub fn old_null(&self, channel: ChanNo) -> Option<Null>
         ensures { result ≡ only_if (is_outgoing self.now channel) (null_on Plain self.now channel) }
@@ -354,7 +353,7 @@ impl Book {
         })
     }
 
-    /// How many messages were sent on a channel, or `None` where the channel does not go out from
+    /// How many messages were sent on a channel, or `None` if the channel does not go out from
     /// here. It takes no memory.
     pub fn out_len(&self, channel: ChanNo) -> Option<u64>
         ensures { result ≡ only_if (is_outgoing self.now channel)
@@ -366,9 +365,8 @@ impl Book {
         Some(self.part.out(channel).len() as u64)
     }
 
-    /// What was sent on a channel, in the order of the messages' numbers, each packet with the time
-    /// at which it arrives, or `None` where the channel does not go out from here. It takes no
-    /// memory.
+    /// What was sent on a channel, in the order of the messages' numbers, each packet with its time
+    /// of arrival, or `None` if the channel does not go out from here. It takes no memory.
     pub fn sent(&self, channel: ChanNo) -> Option<&[(Time, Packet)]>
         ensures { option_map (λ messages. messages.now) result
             ≡ only_if (is_outgoing self.now channel) (sent_over self.now channel) }
@@ -379,12 +377,12 @@ impl Book {
         Some(self.part.out(channel))
     }
 
-    /// Message `number` of a channel, or `None` where the channel does not go out from here, or the
+    /// Message `number` of a channel, or `None` if the channel does not go out from here, or the
     /// message was not sent yet. The packet's octets are shared.
     ///
     /// # Errors
     ///
-    /// Where memory was refused.
+    /// If memory was refused.
     pub fn data(&self, channel: ChanNo, number: u64) -> Result<Option<Data>, AllocError>
         ensures { IfOk result (λ message. message ≡ option_and_then
             (λ sent. data_from channel number (nth sent number))
@@ -405,7 +403,7 @@ impl Book {
         }))
     }
 
-    /// What is known of a channel, or `None` where it does not come in here. It takes no memory.
+    /// What is known of a channel, or `None` if it does not come in here. It takes no memory.
     pub fn know(&self, channel: ChanNo) -> Option<&Know>
         ensures { option_map (λ k. k.now) result ≡ only_if (is_incoming self.now channel)
             (slice_index_or self.now.knows channel nothing_known) }
@@ -452,8 +450,8 @@ impl Book {
         self.part.hand_out()
     }
 
-    /// Takes all records of the trace out that are kept. Those to come are kept in the list that
-    /// comes in, which is empty. It takes no memory.
+    /// Takes all kept records out of the trace. Those to come are kept in the list that comes in,
+    /// which is empty. It takes no memory.
     pub fn hand_out_all(&mut self, room: Vec<Record>) -> Vec<Record>
         requires { room.items ≡ [] }
         ensures all { result.items ≡ drop self.old.handed (state_of self.old).records }

@@ -1,4 +1,4 @@
-//! What a replica knows, as it is told to another.
+//! What a replica knows, as another one gets it.
 
 ghost use Rattle.std.specs.Prelude.{◌≡◌, IfOk, length, map, slice_index_or};
 ghost use Rattle.nm_model.specs.Knowledge.{nothing_known};
@@ -68,7 +68,7 @@ impl Knowledge {
     ///
     /// # Errors
     ///
-    /// Where memory was refused.
+    /// If memory was refused.
     pub(crate) fn new(
         alloc: Global,
         topology: &Topology,
@@ -102,7 +102,7 @@ impl Knowledge {
             && self.incoming.len() == topology.receivers().len()
     }
 
-    /// What is known of a channel: nothing, where it does not come in.
+    /// What is known of a channel: nothing, if it does not come in.
     pub(crate) fn of(&self, channel: ChanNo) -> &Know
         ensures { result.now ≡ slice_index_or self.now.knows channel nothing_known }
     {

@@ -1,4 +1,4 @@
-//! Laws of replicas, whoever told them what they know.
+//! Laws of replicas, wherever they know from what they know.
 
 ghost use Rattle.std.specs.Prelude.{◌≡◌, ℕ, ◌≤◌, All, Ok, length};
 ghost use Rattle.nm_base.specs.declared.limits.TheConstants.{MAX_TIME};
@@ -41,8 +41,8 @@ fn replica_of(book: &Book)
     let _events = book.events(); // law: they are before the safe time
 }
 
-/// Replicas of one partition that know the same of each channel that comes in and did as many
-/// events are in equal states, and so have equal traces and sent the same, and promise the same.
+/// Replicas of one partition that know the same of each incoming channel and did as many events are
+/// in equal states, and so have equal traces and sent the same, and promise the same.
 pub fn equal_knowledge_gives_equal_replicas(first: &Book, second: &Book)
     ensures { KnowTheSame first.now second.now → first.now.events ≡ second.now.events
         → AreAlike first.now second.now }
@@ -52,8 +52,8 @@ pub fn equal_knowledge_gives_equal_replicas(first: &Book, second: &Book)
 }
 
 /// Over more knowledge a replica is as before with the new messages to come. What it sent and
-/// recorded begins what one sent and recorded that knows more and did as much or more, and that
-/// one's safe time and promises are no earlier.
+/// recorded is a beginning of what a replica sent and recorded that knows more and did as much or
+/// more, and that one's safe time and promises are no earlier.
 pub fn more_knowledge_changes_nothing_done(less: &Book, more: &Book)
     ensures { IsUnderOf less.now more.now → KeepsWhatIsDone less.now more.now }
 {
@@ -72,7 +72,7 @@ pub fn the_old_promise_is_no_later(book: &Book)
     let _topology = book.topology();
 }
 
-/// Each record of a replica's trace has a time that a trace file can say.
+/// A trace file can hold the time of each record of a replica's trace.
 pub fn records_have_times_of_a_file(book: &Book)
     ensures { All (λ r. r.time ≤ MAX_TIME) (state_of book.now).records }
 {

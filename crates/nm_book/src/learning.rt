@@ -41,9 +41,9 @@ fn add_data(knows: &mut Vec<Know>, message: &Data) -> Result<(), AcceptFault>
     Ok(())
 }
 
-/// A message of a channel that comes in: what is known of the channel grows, and its arrival is to
+/// A message of an incoming channel: what is known of the channel grows, and its arrival is to
 /// come. Room for the arrival is made, and the packet is shared, before anything changes, and only
-/// where the message is new.
+/// if the message is new.
 pub(crate) fn take_data(
     topology: &Topology,
     partition: PartNo,
@@ -90,7 +90,7 @@ fn put_message(topology: &Topology, partition: PartNo, part: &mut Part<HeapList>
         × IsNext topology.now partition knows message }
     requires room { 1 ≤ room_in part.old.timeline.events }
 
-    // A book that is told it knows it. It takes one place.
+    // The book that got it knows it. It takes one place.
     ensures book { (knows : List (Knowledge (List ℕ)))
         → IsBook topology.now partition knows part.old
         → IsNext topology.now partition knows message

@@ -1,4 +1,4 @@
-//! What partitions tell each other.
+//! What partitions send each other.
 
 ghost use Rattle.std.specs.Prelude.{◌≡◌};
 ghost use Rattle.nm_book.specs.Book.{message_channel};
@@ -37,7 +37,7 @@ pub enum ChannelMessage {
 pub type ChanMsg = ChannelMessage;
 
 impl ChannelMessage {
-    /// The channel of which it tells.
+    /// The channel of the message.
     pub fn channel(&self) -> ChanNo
         ensures { result ≡ message_channel self.now }
     {

@@ -48,8 +48,8 @@ pub(crate) fn safe_time(topology: &Topology, partition: PartNo, knows: &[Know]) 
     safe
 }
 
-/// The safe time after the clock of a channel rose from this time. It is another one only where
-/// that clock held it back.
+/// The safe time after the clock of a channel rose from this time. It changes only if that clock
+/// held it back.
 pub(crate) fn safe_time_after(
     topology: &Topology,
     partition: PartNo,

@@ -35,8 +35,8 @@ fresh_book t partition replica = record {
 abbrev pub HasDoneAll : BookValue → Type 0
 HasDoneAll b = IsCount (net_of b.topology) b.partition (knowledge b) b.events
 
--- The book of a replica of partition p, which knows what this file of what is known tells, where
--- that is told, and did all that it may do by that.
+-- The book of a replica of partition p, which knows what is in this file of what is known, if that
+-- is known, and did all that it may do by that.
 pub record IsBookOf (t : TopologyValue) (p replica : ℕ) (known : Option (List ℕ)) (b : BookValue)
     : Type 0 where
   pub topology : b.topology ≡ t
@@ -45,7 +45,7 @@ pub record IsBookOf (t : TopologyValue) (p replica : ℕ) (known : Option (List 
   pub told : IfSome known (λ text. text ≡ known_octets b)
   pub ran : HasDoneAll b
 
--- Of files by partitions, of which the octets that are left of a reader are told, or are not.
+-- Files by partitions; the octets that are left of a reader are known, or are not.
 module _ {B : Type 0} (t : TopologyValue) (left : B → Option (List ℕ)) where
   -- one of each partition, in order
   pub record AreBooksOf (parts : List (PartFiles B)) (books : List BookValue) : Type 0 where
@@ -53,7 +53,7 @@ module _ {B : Type 0} (t : TopologyValue) (left : B → Option (List ℕ)) where
     pub each : (p : ℕ) (files : PartFiles B) (b : BookValue) → slice_get parts p ≡ Some files
         → slice_get books p ≡ Some b → IsBookOf t p files.replica (left files.known) b
 
-  -- the trace files have these texts, each where it is told, and of those that are looked at the
+  -- the trace files have these texts, each if it is known, and of those that are looked at the
   -- headers are read
   abbrev pub HaveTexts : (ℕ → Option (List ℕ)) → List (PartFiles B) → Type 0
   HaveTexts texts parts = All (λ files. AreBegun texts left files.traces) parts
@@ -97,10 +97,10 @@ module _ {B : Type 0} (t : TopologyValue) (left : B → Option (List ℕ)) where
   DiffersLeast texts records parts iface octet = DiffersInItsPart texts records parts iface octet
       × ((n : ℕ) → n < iface → n < length t.ifaces → IsTraceFile texts records parts n)
 
-  -- Why files are not certified: what is told of partition p's file of what is known, while each
-  -- partition before it has a book; or what the certificate shows of books that know what these
-  -- files tell; or where the trace file of the least interface that differs from that of the one
-  -- event list does so, once they are certified.
+  -- Why files are not certified: the fault of partition p's file of what is known, while each
+  -- partition before it has a book; or what the certificate shows of books that know what is in
+  -- these files; or, once they are certified, the trace file of the least interface that differs
+  -- from that of the one event list.
   abbrev pub ExplainsFault : List (PartFiles B) → Fault CertifyCause → Type 0
   ExplainsFault parts Memory = Unit {0}
   ExplainsFault parts (Refused Failed) =

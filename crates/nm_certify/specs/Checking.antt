@@ -34,13 +34,13 @@ abbrev pub unread : Fault ReadFailed → Fault CertifyCause
 unread Memory = Memory
 unread (Refused failed) = Refused cause.Failed
 
--- a book ran, and did all events before its safe time, where its run says so
+-- a book ran, and did all events before its safe time, if its run says so
 abbrev pub HasRanAll : BookValue → Ran → Type 0
 HasRanAll b (All n) = HasDoneAll b
 HasRanAll b (Limit n) = Unit {0}
 HasRanAll b (NoMemory n) = Unit {0}
 
--- The trace files of partition p, as they were begun, have these texts, each where it is told; its
+-- The trace files of partition p, as they were begun, have these texts, each if it is known; its
 -- book has these records.
 module _ (texts : ℕ → Option (List ℕ)) (t : TopologyValue) (p : ℕ)
     (records : List (Record (List ℕ))) {B : Type 0} (begun : LeastChecked B) where
@@ -71,7 +71,7 @@ abbrev pub IsCompared : (least : Option Difference) → PartEnd → Type 0
 IsCompared least end = (found : Option Difference) × (end.traces ≡ Ok found)
     × ((n : ℕ) → IsLesser n least → IsLesser n found)
 
--- the least difference of all parts, each of which was compared, is that of one of them
+-- the least difference of all parts, which were all compared, is that of one of them
 abbrev pub IsLeastOf : List PartEnd → Option Difference → Type 0
 IsLeastOf ends least = AllOf (IsCompared least) ends
     × IfSome least (λ d. (end : PartEnd) × Contains ends end × (end.traces ≡ Ok (Some d)))

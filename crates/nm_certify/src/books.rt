@@ -17,7 +17,7 @@ use std::alloc::{AllocError, Global};
 ///
 /// # Errors
 ///
-/// Where memory was refused.
+/// If memory was refused.
 pub(crate) fn certificate_of(
     alloc: Global,
     topology: &Topology,
@@ -32,7 +32,7 @@ pub(crate) fn certificate_of(
     Ok(certify(topology, books.as_slice()))
 }
 
-/// Of two differences that of the lesser interface, the first of which may not be there.
+/// The difference of the lesser interface of two; the first may not be there.
 fn lesser(least: Option<Difference>, found: Difference) -> Difference
     ensures one { (result ≡ found) ⊎ (least ≡ Some result) }
     ensures least { (result.iface ≤ found.iface) × IfSome least (λ d. result.iface ≤ d.iface) }
@@ -47,7 +47,7 @@ fn lesser(least: Option<Difference>, found: Difference) -> Difference
 ///
 /// # Errors
 ///
-/// That of the first part of which a trace file could not be read.
+/// The first part with a trace file that could not be read.
 pub(crate) fn least_difference(ends: &[PartEnd]) -> Compared
     ensures least { IfOk result (IsLeastOf ends.now) }
 {

@@ -22,18 +22,18 @@ use std::io::BufRead;
 use std::sync::Arc;
 use std::thread::Threads;
 
-/// Certifies files of several machines, of which part p of the list is what there is of partition
-/// p: the books that know what the files of what is known tell. The trace files of interfaces that
-/// are looked at in their own partition's part are those of the one event list then, whoever wrote
-/// any of the files. So many partitions are worked on at a time; the records that are kept of each
-/// are those of a few thousand events.
+/// Certifies files of several machines; part p of the list is for partition p: the books that know
+/// what is in the files of what is known. The trace files of interfaces that are looked at in their
+/// own partition's part are those of the one event list then, whoever wrote any of the files. So
+/// many partitions are worked on at a time; the records that are kept of each are those of a few
+/// thousand events.
 ///
 /// # Errors
 ///
 /// The first fault in this order. `Known` with the least partition whose file of what is known is
 /// refused. `NotCertified` with the certificate's fault: each book ran to its end, whatever the
-/// trace files have. `Failed` where a trace file could not be read, for then not all were compared.
-/// `Differs` with the least interface whose trace file differs. `Memory` where memory was refused.
+/// trace files have. `Failed` if a trace file could not be read, for then not all were compared.
+/// `Differs` with the least interface whose trace file differs. `Memory` if memory was refused.
 pub fn certify_parts<B: BufRead + Drop + Send, R: Threads + Sync>(
     rt: &R,
     alloc: Global,
@@ -45,8 +45,8 @@ pub fn certify_parts<B: BufRead + Drop + Send, R: Threads + Sync>(
     requires parts { length parts.items ≤ (arc_value topology.now).partitions }
     requires headers { HeadersAreOwn (arc_value topology.now) B.remaining parts.items }
 
-    // The books are certified, one of each partition; they know what the files of what is known
-    // tell.
+    // The books are certified, one of each partition; they know what is in the files of what is
+    // known.
     ensures certified { IfOk result (λ books. AreCertified (arc_value topology.now) books.items) }
     ensures books { IfOk result
         (λ books. AreBooksOf (arc_value topology.now) B.remaining parts.items books.items) }

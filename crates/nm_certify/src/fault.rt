@@ -28,7 +28,7 @@ pub enum CertifyCause {
     NotCertified(CertFault),
     /// They are, each trace file was compared, and the one of this interface differs at this octet,
     /// counted from 0, which stops at 2^64 - 1, and at none before it: there it has another one, or
-    /// it ends, or it goes on. Of all trace files that differ it is that of the least interface.
+    /// it ends, or it goes on. It is the least interface whose trace file differs.
     #[error("a trace file differs at octet {octet}")]
     Differs {
         iface: IfaceNo,

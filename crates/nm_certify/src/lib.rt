@@ -1,6 +1,6 @@
-//! The certificate of a run on several machines: of each partition the file of what one of its
-//! replicas knew is read into a fresh book, the book is run beside the partition's trace files, and
-//! all books are certified. Then each file is the one event list's, whoever wrote it.
+//! The certificate of a run on several machines. The file of what a replica of each partition knew
+//! is read into a fresh book, the book is run beside the partition's trace files, and all books are
+//! certified. Then each file is the one event list's, whoever wrote it.
 #![tactic(auto)]
 
 mod books;

@@ -25,7 +25,7 @@ pub(crate) struct Job<B> {
     pub(crate) files: PartFiles<B>,
 }
 
-/// What came of a partition: its book at the end of its run, and the least interface whose trace
+/// The result of a partition: its book at the end of its run, and the least interface whose trace
 /// file differs, if one does.
 #[derive(Drop)]
 pub(crate) struct PartEnd {
@@ -33,8 +33,8 @@ pub(crate) struct PartEnd {
     pub(crate) traces: Compared,
 }
 
-/// A book that knows what a file tells. Of a partition or a replica that is not there
-/// nothing is read: `Failed`.
+/// A book that knows what is in a file. For a partition or a replica that is not there nothing is
+/// read: `Failed`.
 fn read_book<B: BufRead + Drop>(
     alloc: Global,
     topology: &Arc<Topology>,

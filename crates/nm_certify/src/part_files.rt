@@ -2,11 +2,11 @@
 
 use nm_files::LeastChecked;
 
-/// What there is of a partition: a file of what one of its replicas knew, and trace files, whose
-/// headers are read, up to the first that differs. Those of its own interfaces are looked at.
+/// The files of a partition: a file of what one of its replicas knew, and trace files, with headers
+/// read up to the first that differs. Those of its own interfaces are looked at.
 #[derive(Drop)]
 pub struct PartFiles<B> {
-    /// Which replica it was: 0 or 1. Of another one nothing is read, and `Failed` is told.
+    /// Which replica it was: 0 or 1. For another one nothing is read, and the answer is `Failed`.
     pub replica: u8,
     pub known: B,
     pub traces: LeastChecked<B>,

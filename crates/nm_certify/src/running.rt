@@ -136,8 +136,7 @@ fn finish_own<B: BufRead + Drop>(
 ///
 /// # Errors
 ///
-/// Where memory was refused to the run. What came of the files is the answer, with an error of
-/// theirs.
+/// If memory was refused to the run. What came of the files is the answer, with an error of theirs.
 pub(crate) fn check_traces<B: BufRead + Drop>(
     alloc: Global,
     topology: &Topology,

@@ -1,11 +1,11 @@
--- The first thing that stands in a list twice.
+-- The first thing that is in a list twice.
 use Rattle.std.specs.Prelude.{◌≡◌, ℕ, ◌+◌, Bool, true, false, ◌&&◌, nat_eq, List, [], take}
 use Rattle.std.specs.Prelude.{Option, Some, None}
 use Rattle.nm_topology.specs.Names.{repeats}
 use Rattle.nm_check.specs.declared.doubles.Double.{Double}
 
--- nothing stands in the list twice; or something does, and nothing does before the second place,
--- while the front that ends there has it twice
+-- nothing is in the list twice; or something is, and nothing is before the second place, while the
+-- front that ends there has it twice
 abbrev pub IsFirstDouble : {X : Type 0} → (X → X → Bool) → List X → Option Double → Type 0
 IsFirstDouble same xs None = repeats same [] xs ≡ false
 IsFirstDouble same xs (Some d) =

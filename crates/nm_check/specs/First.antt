@@ -4,7 +4,7 @@ use Rattle.toml.specs.Data.{Data, Items, get_item, item, no_items}
 use Rattle.nm_topology.specs.declared.fault.Refusal.{Refusal}
 use Rattle.nm_check.specs.declared.first.MemberFault.{MemberFault}
 
--- the member of this number where it is refused, and else what the others give
+-- the member of this number if it is refused, and else what the others give
 abbrev pub or_later : ℕ → Result Unit Refusal → Option MemberFault → Option MemberFault
 or_later n (Ok u) others = others
 or_later n (Err r) others = Some (record { number = n; refusal = r })

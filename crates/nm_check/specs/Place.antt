@@ -1,4 +1,4 @@
--- Where in the tables of a topology text its first fault lies.
+-- The place of a topology text's first fault in its tables.
 use Rattle.std.specs.Prelude.{◌≡◌, ◌⊎◌, false, ℕ, if◌then◌else◌, List, Option, Some, None}
 use Rattle.std.specs.Prelude.{Result, Ok, Err, ◌==◌, ◌&&◌, nat_le, unwrap_or}
 use Rattle.std.specs.Result.{result_ok}
@@ -57,12 +57,12 @@ abbrev pub or_spot : Option FieldFault → Option Spot → Option Spot
 or_spot None others = others
 or_spot (Some f) others = Some (spot.Field f)
 
--- where a table of `source` is refused: at its kind, before all else
+-- the place at which a table of `source` is refused: at its kind, before all else
 abbrev pub source_spot : Head → Members → Option Spot
 source_spot head t =
     or_spot (first_fault head t KIND_OF_SOURCE) (spot_in head (source_fields t) t)
 
--- where a table of an array is refused
+-- the place at which a table of an array is refused
 abbrev pub spot_of : Head → Array → Members → Option Spot
 spot_of head array.Node t = spot_in head NODE_TABLE t
 spot_of head array.Iface t = spot_in head (iface_fields head.format) t
@@ -83,7 +83,7 @@ abbrev pub in_table_at : Array → ℕ → Option Spot → Option FaultPlace
 in_table_at a n None = None
 in_table_at a n (Some s) = Some (place.Table a n s)
 
--- where the member of this number is refused
+-- the place at which the member of this number is refused
 abbrev pub place_at : Head → Array → ℕ → Option Data → Option FaultPlace
 place_at head a n (Some (table t)) = in_table_at a n (spot_of head a t)
 place_at head a n _ = None
@@ -92,7 +92,7 @@ abbrev pub place_of_member : Head → Array → Items → Option MemberFault →
 place_of_member head a ds None = None
 place_of_member head a ds (Some f) = place_at head a f.number (get_item f.number ds)
 
--- where the fault of an array lies, if it lies in a table and not in the array itself
+-- the place of an array's fault, if it is in a table and not in the array itself
 abbrev pub place_in_array : Head → Array → Items → Option FaultPlace
 place_in_array head a ds =
     if all_fit is_table ds && nat_le (count ds) (array_limit a)
@@ -125,7 +125,7 @@ abbrev pub found_by : Head → Members → Option FieldFault → Option Found
 found_by head t None = None
 found_by head t (Some f) = Some (record { head = head; place = place_of head t f })
 
--- where in the arrays of a text with this head a fault lies
+-- the place of a fault in the arrays of a text with this head
 abbrev pub find_in_arrays : Head → Members → Option Found
 find_in_arrays head t = found_by head t (first_fault head t ARRAYS)
 
@@ -139,7 +139,7 @@ find_behind t (Some f) = Some (at_top (spot.Field f))
 abbrev pub top_keys : List (List ℕ)
 top_keys = keys_of TOP_TABLE
 
--- where in its tables a text is refused, in the reading order
+-- the place in its tables at which a text is refused, in the reading order
 abbrev pub find_in : Members → Option Found
 find_in t =
     if all_among top_keys t then find_behind t (first_fault no_head t HEAD)
@@ -163,8 +163,8 @@ pub record IsFirstTable (head : Head) (t : Members) (a : Array) (n : ℕ) (s : S
   pub numbered : get_item n items ≡ Some (table members)
   pub refused : spot_of head a members ≡ Some s
 
--- the place is the first in the reading order: a key that the top table has not; the first field of
--- its head, or of its arrays; or, in the first array that is refused, the first table
+-- the place is the first in the reading order: a key that the top table does not have; the first
+-- field of its head, or of its arrays; or, in the first array that is refused, the first table
 abbrev pub IsFirstPlace : Members → Head → FaultPlace → Type 0
 IsFirstPlace t head (place.Top spot.Unknown) = all_among top_keys t ≡ false
 IsFirstPlace t head (place.Top (spot.Field f)) =

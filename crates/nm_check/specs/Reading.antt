@@ -1,4 +1,4 @@
--- What stands behind a key is refused or not, and the first field of a table that is refused.
+-- The value of a key is refused or not, and the first field of a table that is refused.
 use Rattle.std.specs.Prelude.{List, [], ◌∷◌, if◌then◌else◌, Option, Some, None, Result, Ok, Err}
 use Rattle.toml.specs.Data.{Data, Members}
 use Rattle.nm_base.specs.declared.limits.TheConstants.{MAX_PORTS_OF_NODE}
@@ -43,7 +43,7 @@ tables_of head array.Source v =
     outcome (optional []
     (array_of is_table (array_limit array.Source) (in_table (source_table_of head.mtu))) v)
 
--- what stands behind a key, if anything does, in a text with this head
+-- the value of a key, if there is one, in a text with this head
 abbrev pub read_as : Head → Form → Option Data → Result Unit Refusal
 read_as head (form.Number b) v = outcome (required (number_in b.least b.greatest) v)
 read_as head (form.OptionalNumber b) v = outcome (optional 0 (number_in b.least b.greatest) v)
@@ -79,7 +79,8 @@ abbrev pub at_field : Option FieldFault → Option Spot
 at_field None = None
 at_field (Some f) = Some (spot.Field f)
 
--- where a table of these fields is refused: a key that it has not, and else the first field
+-- the place at which a table of these fields is refused: a key that is none of theirs, and else the
+-- first field
 abbrev pub spot_in : Head → List Field → Members → Option Spot
 spot_in head fields t =
     if all_among (keys_of fields) t then at_field (first_fault head t fields)

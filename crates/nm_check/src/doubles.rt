@@ -1,4 +1,4 @@
-//! The first thing that stands in a list twice.
+//! The first thing that is in a list twice.
 
 ghost use Rattle.std.specs.Prelude.{IfOk};
 ghost use Rattle.nm_check.specs.Doubles.{IsFirstDouble};

@@ -40,7 +40,7 @@ fn push_position(out: &mut Vec<u8>, before: &[u8]) -> Appended {
     )
 }
 
-/// Appends where a text is no TOML document.
+/// Appends at which place a text is no TOML document.
 fn push_toml_fault(alloc: Global, out: &mut Vec<u8>, text: &str) -> Appended {
     let Err(fault) = toml::table_from_str(alloc, text) else {
         return Ok(());
@@ -58,7 +58,7 @@ fn push_toml_fault(alloc: Global, out: &mut Vec<u8>, text: &str) -> Appended {
     )
 }
 
-/// Appends where a text is not UTF-8 or no TOML document.
+/// Appends at which place a text is not UTF-8 or no TOML document.
 fn push_text_fault(alloc: Global, out: &mut Vec<u8>, text: &[u8]) -> Appended {
     match str::from_utf8(text) {
         Ok(text) => push_toml_fault(alloc, out, text),
@@ -82,7 +82,7 @@ fn push_length_fault(out: &mut Vec<u8>, length: usize) -> Appended {
     )
 }
 
-/// A text whose tables were read, which is UTF-8.
+/// A text with its tables read, which is UTF-8.
 fn written(text: &[u8]) -> &str {
     str::from_utf8(text).unwrap_or("")
 }
@@ -109,9 +109,9 @@ fn push_located(
     }
 }
 
-/// What is wrong with a text that `Topology::read` refused, and where, as sentences that are each
-/// ended by a line feed. The first names the first fault in the reading order; where that is in a
-/// table, the first fault of each other table follows, at most 20 in all.
+/// What is wrong with a text that `Topology::read` refused, and where, as sentences that each end
+/// with a line feed. The first names the first fault in the reading order; if that is in a table,
+/// the first fault of each other table follows, at most 20 in all.
 pub fn explain(alloc: Global, text: &[u8], refusal: Refusal) -> Result<Vec<u8>, AllocError>
     requires { topology_of text.now ≡ Err refusal }
     ensures { IfOk result (λ line. EndsLine line.items) }
@@ -122,7 +122,7 @@ pub fn explain(alloc: Global, text: &[u8], refusal: Refusal) -> Result<Vec<u8>, 
     Ok(out)
 }
 
-/// Appends what is wrong with a text that is refused so, and where.
+/// Appends what is wrong with a text after this refusal, and where.
 fn push_sentence(alloc: Global, out: &mut Vec<u8>, text: &[u8], refusal: Refusal) -> Appended {
     let located = locate(alloc, text)?;
     push_located(alloc, out, text, &located, refusal)

@@ -1,8 +1,8 @@
 //! All that is wrong with the tables of a text: the first fault of each table, a line each.
 //!
-//! That the line which stands first names the first fault in the reading order is proved
-//! (`place::find`). The others are found by the same look at one member of an array
-//! (`place::place_of_member`); that all are told is tested.
+//! That the first line names the first fault in the reading order is proved (`place::find`). The
+//! others are found by the same look at one member of an array (`place::place_of_member`); that all
+//! are printed is tested.
 
 use crate::line::{table_line, top_line};
 use crate::pieces::{Appended, Piece, push};
@@ -17,7 +17,7 @@ use nm_topology::parse::head::Head;
 use std::alloc::{AllocError, Global};
 use toml::{Table, Value};
 
-/// The most faults that are told.
+/// The most faults that are printed.
 pub const MAX_FAULTS: usize = 20;
 
 /// Appends a line of the text, if it is known.
@@ -31,7 +31,7 @@ pub fn push_line(out: &mut Vec<u8>, line: Option<u64>) -> Appended {
     }
 }
 
-/// Appends how many faults there are more than were told.
+/// Appends how many faults there are more than were printed.
 pub fn push_more(out: &mut Vec<u8>, count: usize) -> Appended {
     if count <= MAX_FAULTS {
         return Ok(());
@@ -106,7 +106,7 @@ fn is_in(place: &FaultPlace, array: Array, number: usize) -> bool {
     }
 }
 
-/// Appends one fault more, if not too many stand there: how many there are now.
+/// Appends one fault more, if not too many are there: how many there are now.
 fn push_other(
     alloc: Global,
     out: &mut Vec<u8>,
@@ -122,7 +122,7 @@ fn push_other(
     Ok(count.saturating_add(1))
 }
 
-/// Appends the faults of the tables of an array, without the one that was told first.
+/// Appends the faults of the tables of an array, without the one that came first.
 fn push_array(
     alloc: Global,
     out: &mut Vec<u8>,
@@ -148,7 +148,7 @@ fn push_array(
     Ok(count)
 }
 
-/// Appends the first fault of each table, without the one that was told first.
+/// Appends the first fault of each table, without the one that came first.
 fn push_others(
     alloc: Global,
     out: &mut Vec<u8>,

@@ -53,7 +53,7 @@ pub fn has_unknown(table: &Table, fields: &[Field]) -> Result<bool, AllocError>
     }
 }
 
-/// Where a table of these fields is refused.
+/// At which key or field a table of these fields is refused.
 pub fn spot_in(
     alloc: Global,
     head: Head,

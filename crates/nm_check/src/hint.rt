@@ -51,7 +51,7 @@ fn push_name_like(out: &mut Vec<u8>, text: &str) -> Appended {
     }
 }
 
-/// Appends what a name has to be the name of, where an address was given.
+/// Appends what a name has to be the name of, if an address was given.
 fn push_name_due(out: &mut Vec<u8>, key: TableKey, text: &str) -> Appended {
     match key {
         TableKey::Via | TableKey::A | TableKey::B => push(
@@ -139,8 +139,8 @@ fn push_address_like(out: &mut Vec<u8>, text: &str) -> Appended {
     }
 }
 
-/// Appends what would be right in place of a text that is not in the form of its field, where that
-/// can be told.
+/// Appends what would be right in place of a text that is not in the form of its field, if that is
+/// known.
 pub fn push_hint(out: &mut Vec<u8>, wanted: Field, text: &str) -> Appended {
     match wanted.form {
         Form::Name if address_of(text.as_bytes()).is_some() => {

@@ -1,12 +1,11 @@
-//! What is wrong with a topology text and where, and what an accepted one says, in words.
+//! What is wrong with a topology text and where, and what an accepted one has, in words.
 //!
 //! Each kind of table is a list of fields (`nm_topology::keys`): its keys in the order in which
-//! they are read, and what stands behind each. The first field that is refused is where the table's
-//! fault lies, and the first table whose reader refuses it is where the text's fault lies
-//! (`place::find`). That the lists refuse what the readers of `nm_topology` refuse is proved
-//! (`laws`), and that the text is refused for what is refused there (`locate`). The faults of the
-//! whole, as of a link to nothing, are found by tests of their own (`whole`), most of which are
-//! tested and not proved.
+//! they are read, and the value of each. A table's fault is at the first field that is refused, and
+//! the text's fault in the first table that its reader refuses (`place::find`). That the lists
+//! refuse what the readers of `nm_topology` refuse is proved (`laws`), and that the text is refused
+//! for what is refused there (`locate`). The faults of the whole, as of a link to nothing, are
+//! found by tests of their own (`whole`), most of which are tested and not proved.
 #![tactic(auto)]
 
 mod doubles;

@@ -1,7 +1,7 @@
-//! On which line of a topology text a table or a key stands. The kit's TOML keeps no places, so
-//! headers and braces are counted.
+//! The line of a table or a key in a topology text. The kit's TOML keeps no places, so headers and
+//! braces are counted.
 
-/// Where a reader of the lines of a text is.
+/// The state of a reader of the lines of a text.
 #[derive(Clone, Copy)]
 struct Reader {
     /// How many brackets and braces are open.
@@ -22,7 +22,7 @@ const BEGINNING: Reader = Reader {
     tables: 0,
 };
 
-/// The quotation mark behind which a text stands, and whether the next character stands for itself.
+/// The quotation mark that began a text, and whether the next character is taken as it is.
 #[derive(Clone, Copy)]
 struct Quoted {
     mark: u8,
@@ -113,9 +113,9 @@ fn begins_table(line: &str) -> bool {
     line.trim_start().starts_with('[')
 }
 
-/// The line, from 1, of a key in the table of this number, from 0, of an array; and where the key
-/// begins no line, that at which the table begins. `None` where neither is seen, as in a text with
-/// keys that are joined by dots.
+/// The line, from 1, of a key in the table of this number, from 0, of an array; if the key begins
+/// no line, that at which the table begins. `None` if neither is seen, as in a text with keys that
+/// are joined by dots.
 pub fn table_line(text: &str, array: &str, number: usize, key: &str) -> Option<u64> {
     let mut reader = BEGINNING;
     let mut header = None;

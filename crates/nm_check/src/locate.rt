@@ -1,4 +1,4 @@
-//! Where in a topology text its first fault lies, and what it is the fault of.
+//! The place of a topology text's first fault, and what it is the fault of.
 
 ghost use Rattle.std.specs.Prelude.{IfOk};
 ghost use Rattle.toml.specs.View.{table_view};
@@ -12,7 +12,7 @@ use nm_topology::parse::top_table;
 use std::alloc::{AllocError, Global};
 use toml::Table;
 
-/// Where a text is refused, if it is.
+/// The place at which a text is refused, if it is.
 #[derive(Drop)]
 pub enum Located {
     /// It is too long.
@@ -23,7 +23,7 @@ pub enum Located {
     Read(Reading),
 }
 
-/// Where a text that has a top table is refused, if it is.
+/// The place at which a text that has a top table is refused, if it is.
 #[derive(Drop)]
 pub enum Reading {
     /// In its tables.
@@ -32,7 +32,7 @@ pub enum Reading {
     Whole(Document),
 }
 
-/// Where a text with this top table is refused.
+/// The place at which a text with this top table is refused.
 fn locate_in(alloc: Global, table: Table) -> Result<Reading, AllocError>
     ensures { IfOk result (λ reading. IsLocatedIn (table_view table) reading) }
 {
@@ -42,12 +42,12 @@ fn locate_in(alloc: Global, table: Table) -> Result<Reading, AllocError>
     match read_document(alloc, &table) {
         Ok(document) => Ok(Reading::Whole(document)),
         Err(TopoFault::Memory) => Err(AllocError),
-        // The document is refused only where a place was found.
+        // The document is refused only if a place was found.
         Err(TopoFault::Refused(_)) => unreachable!(),
     }
 }
 
-/// Where a text is refused. What is refused of the text is what is refused there.
+/// The place at which a text is refused. What is refused of the text is what is refused there.
 #[tactic(auto, unfolding(nm_topology::specs::Topology::topology_of))]
 pub fn locate(alloc: Global, text: &[u8]) -> Result<Located, AllocError>
     ensures { IfOk result (λ located. IsLocated text.now located) }

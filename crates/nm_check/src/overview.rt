@@ -1,4 +1,4 @@
-//! What an accepted topology says, as lines.
+//! What an accepted topology has, as lines.
 
 use crate::pieces::{Appended, Piece, push};
 use crate::remarks::with_remarks;
@@ -35,7 +35,7 @@ fn packets_before(flow: Flow, stop: Time) -> u64 {
     room.div_ceil(flow.interval.max(1)).min(flow.count as u64)
 }
 
-/// What packets that are handed on as they are add before the end of the simulation.
+/// What packets of a raw source add before the end of the simulation.
 fn with_packets(load: Load, packets: &[RawPacket], stop: Time) -> Load {
     let mut load = load;
     for raw in packets {
@@ -186,7 +186,7 @@ fn push_channels(out: &mut Vec<u8>, topology: &Topology) -> Appended {
 /// The digits of hexadecimal.
 const DIGITS: [u8; 16] = *b"0123456789abcdef";
 
-/// Appends the SHA-256 digest of the text, by which two texts can be told apart.
+/// Appends the SHA-256 digest of the text, which tells two texts apart.
 fn push_digest(out: &mut Vec<u8>, topology: &Topology) -> Appended {
     push(out, &[Piece::Text("digest ")])?;
     for octet in topology.digest() {
@@ -208,8 +208,8 @@ fn push_counts(out: &mut Vec<u8>, topology: &Topology) -> Appended {
     push_digest(out, topology)
 }
 
-/// What an accepted topology says, as lines that are each ended by a line feed: how much of each
-/// thing there is, what the sources send before the end of the simulation, the least lookahead of a
+/// What an accepted topology has, as lines that each end with a line feed: how much of each thing
+/// there is, what the sources send before the end of the simulation, the least lookahead of a
 /// channel, how many rounds there are at most, and the digest of its text; and then at most 20
 /// remarks, a line each, and how many more there are.
 pub fn summary(alloc: Global, topology: &Topology) -> Result<Vec<u8>, AllocError> {

@@ -19,8 +19,8 @@ pub enum Piece<'a> {
     Number(u64),
     /// Four numbers joined by dots.
     Address(Address),
-    /// What stands in a topology text, between double quotes: printable ASCII as it is, a question
-    /// mark for each other octet, and the first 40 octets of a longer one.
+    /// A value of a topology text, between double quotes: printable ASCII as it is, a question mark
+    /// for each other octet, and the first 40 octets of a longer one.
     Quoted(&'a str),
 }
 

@@ -1,4 +1,4 @@
-//! Where in the tables of a topology text its first fault lies.
+//! The place of a topology text's first fault in its tables.
 
 ghost use Rattle.std.specs.Prelude.{◌≡◌, ◌≤◌, Some, IfOk, IfSome};
 ghost use Rattle.std.specs.Result.{result_ok};
@@ -34,7 +34,7 @@ use nm_topology::parse::tables::{IfaceTable, LinkTable, NodeTable, RouteTable};
 use std::alloc::{AllocError, Global};
 use toml::{Table, Value};
 
-/// Where in the tables of a text a fault lies.
+/// The place of a fault in the tables of a text.
 #[derive(Clone, Copy)]
 pub enum FaultPlace {
     /// In the top table itself.
@@ -60,7 +60,7 @@ const NO_HEAD: Head = Head {
     mtu: MIN_MTU as u16,
 };
 
-/// A number of the top table; where it is refused, there is none.
+/// A number of the top table, or none if it is refused.
 fn number_of(table: &Table, key: TableKey, bounds: Bounds) -> Result<Option<u64>, AllocError>
     ensures within { IfOk result (λ found. IfSome found (IsInBounds bounds)) }
     ensures value { IfOk result
@@ -73,7 +73,7 @@ fn number_of(table: &Table, key: TableKey, bounds: Bounds) -> Result<Option<u64>
     }
 }
 
-/// The head of a text; where it is refused, that of no text.
+/// The head of a text; if it is refused, that of no text.
 fn head_of(table: &Table) -> Result<Head, AllocError>
     ensures room { IfOk result (λ head. 28 ≤ head.mtu) }
     ensures value { IfOk result (λ head. head ≡ head_of (table_view table.now)) }
@@ -136,7 +136,7 @@ pub fn fields_of(head: Head, array: Array, table: &Table) -> Result<&'static [Fi
     }
 }
 
-/// Where a table of `source` is refused: at its kind, before all else.
+/// The place at which a table of `source` is refused: at its kind, before all else.
 fn source_spot(alloc: Global, head: Head, table: &Table) -> Result<Option<Spot>, AllocError>
     ensures { IfOk result (λ found. found ≡ source_spot head (table_view table.now)) }
 {
@@ -147,7 +147,7 @@ fn source_spot(alloc: Global, head: Head, table: &Table) -> Result<Option<Spot>,
     spot_in(alloc, head, table, fields)
 }
 
-/// Where a table of an array is refused.
+/// The place at which a table of an array is refused.
 fn spot_of(
     alloc: Global,
     head: Head,
@@ -182,7 +182,7 @@ fn first_table(
     }
 }
 
-/// Where a member of an array is refused, of this number.
+/// The place at which this member of an array is refused.
 pub fn place_of_member(
     alloc: Global,
     head: Head,
@@ -205,7 +205,7 @@ pub fn place_of_member(
     }
 }
 
-/// Where the member of an array that has this number is refused.
+/// The place at which the member of an array with this number is refused.
 fn place_at(
     alloc: Global,
     head: Head,
@@ -222,7 +222,7 @@ fn place_at(
     place_of_member(alloc, head, array, number, &items[number])
 }
 
-/// Where the fault of an array lies, if it lies in a table and not in the array itself.
+/// The place of an array's fault, if it is in a table and not in the array itself.
 #[tactic(auto, using(crate::proofs::Items::count_view))]
 fn place_in_array(
     alloc: Global,
@@ -241,7 +241,7 @@ fn place_in_array(
     }
 }
 
-/// Where the fault of a field of the top table lies, if it lies in a table of an array.
+/// The place of the fault of a field of the top table, if it is in a table of an array.
 fn place_in_field(
     alloc: Global,
     head: Head,
@@ -259,7 +259,7 @@ fn place_in_field(
     }
 }
 
-/// Where the fault of a field of the top table lies.
+/// The place of the fault of a field of the top table.
 fn place_of(
     alloc: Global,
     head: Head,
@@ -274,7 +274,7 @@ fn place_of(
     }
 }
 
-/// Where in the arrays of a text with this head a fault lies, if its arrays are refused.
+/// The place of a fault in the arrays of a text with this head, if its arrays are refused.
 fn find_in_arrays(alloc: Global, head: Head, table: &Table) -> Result<Option<Found>, AllocError>
     requires { 28 ≤ head.mtu }
     ensures room { IfOk result (λ found. IfSome found (λ f. 28 ≤ f.head.mtu)) }
@@ -299,9 +299,9 @@ fn at_top(spot: Spot) -> Found
     }
 }
 
-/// Where in its tables a text is refused, if it is. The document is refused exactly where there is
-/// such a place, and for what is refused there. Where the place is in a table of an array, the
-/// tables before it in the array are read.
+/// The place in its tables at which a text is refused, if it is. The document is refused exactly if
+/// there is such a place, and for what is refused there. If the place is in a table of an array,
+/// the tables before it in the array are read.
 pub fn find(alloc: Global, table: &Table) -> Result<Option<Found>, AllocError>
     ensures room { IfOk result (λ found. IfSome found (λ f. 28 ≤ f.head.mtu)) }
     ensures refused { IfOk result
@@ -324,7 +324,7 @@ fn find_first(alloc: Global, table: &Table) -> Result<Option<Found>, AllocError>
     }
 }
 
-/// Where a text is refused whose top table has only keys that are known.
+/// The place at which a text is refused if its top table has only known keys.
 fn find_behind(alloc: Global, table: &Table) -> Result<Option<Found>, AllocError>
     ensures room { IfOk result (λ found. IfSome found (λ f. 28 ≤ f.head.mtu)) }
     ensures value { IfOk result (λ found. found
@@ -336,7 +336,7 @@ fn find_behind(alloc: Global, table: &Table) -> Result<Option<Found>, AllocError
     }
 }
 
-/// Where a text is refused whose head is read.
+/// The place at which a text is refused if its head is read.
 fn find_with_head(alloc: Global, table: &Table) -> Result<Option<Found>, AllocError>
     ensures room { IfOk result (λ found. IfSome found (λ f. 28 ≤ f.head.mtu)) }
     ensures value { IfOk result (λ found. found

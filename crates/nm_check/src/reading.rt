@@ -1,5 +1,5 @@
-//! Whether what stands behind a key is refused, by the readers of `nm_topology`. What they give is
-//! let go.
+//! Whether the value of a key is refused, by the readers of `nm_topology`. What they give is
+//! dropped.
 
 ghost use Rattle.std.specs.Prelude.{[]};
 ghost use Rattle.nm_base.specs.declared.limits.TheConstants.{MAX_PORTS_OF_NODE};

@@ -26,7 +26,7 @@ fn addresses(alloc: Global, topology: &Topology) -> Result<Vec<u32>, AllocError>
     Ok(addresses)
 }
 
-/// Whether a prefix holds one of these addresses, which stand least first.
+/// Whether a prefix holds one of these addresses, least first.
 fn holds_any(to: Prefix, addresses: &[u32]) -> bool {
     let least = to.address.bits();
     let span = (1u64 << 32u8.saturating_sub(to.length).min(32)) - 1;
@@ -90,8 +90,8 @@ fn push_routes_of(
 /// and the first of them.
 const MAX_ALIKE: usize = 5;
 
-/// Appends the remark of these pieces, or, where there are too many alike, the first one alone,
-/// with how many there are of what.
+/// Appends the remark of these pieces, or, if there are too many alike, the first one alone, with
+/// how many there are of what.
 fn add_alike<'a>(
     alloc: Global,
     remarks: &mut Remarks,
@@ -157,7 +157,7 @@ fn push_routes(
     Ok(())
 }
 
-/// Where a source sends its packets, if it says so.
+/// The destination of a source, if it has one.
 fn destination(source: &Source) -> Option<Address> {
     match &source.traffic {
         Traffic::Cbr(cbr) => Some(cbr.to),

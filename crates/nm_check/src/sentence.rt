@@ -112,7 +112,7 @@ fn is_of_format_two(head: Head, key: &str) -> bool {
     matches!(head.format, Format::One) && is_key_of(&IFACE_TABLE_TWO, key)
 }
 
-/// Why a key is unknown in a table of an array which is one of another kind of table, if it is.
+/// Why a key is unknown in a table of an array, if it is one of another kind of table.
 fn elsewhere(head: Head, array: Array, key: &str) -> Option<&'static str> {
     match array {
         Array::Iface if is_of_format_two(head, key) => Some("; it is one of format 2"),
@@ -127,7 +127,7 @@ fn elsewhere(head: Head, array: Array, key: &str) -> Option<&'static str> {
 }
 
 /// Appends that a table of an array has a key that none of these fields has, and which may have
-/// been meant, where it would stand, or which there are.
+/// been meant, in which table it would be right, or which there are.
 fn push_unknown_in(
     alloc: Global,
     out: &mut Vec<u8>,

@@ -1,4 +1,4 @@
-//! Where in a table a fault lies.
+//! The place of a fault in a table.
 
 use nm_topology::Refusal;
 use nm_topology::keys::field::Field;
@@ -10,7 +10,7 @@ pub struct FieldFault {
     pub refusal: Refusal,
 }
 
-/// Where in a table its fault lies.
+/// The place of its fault in a table.
 #[derive(Clone, Copy)]
 pub enum Spot {
     /// At a key that the table has not.

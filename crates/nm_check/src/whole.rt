@@ -1,4 +1,4 @@
-//! The first test of the whole that a text whose tables are all read does not pass.
+//! The first test of the whole that a text does not pass after all its tables are read.
 //!
 //! That the double names, addresses and routes which are found are the first ones is proved. That
 //! the other tests find what `nm_topology` refuses, and where, is tested by cases and not proved.

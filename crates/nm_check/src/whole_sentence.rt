@@ -81,7 +81,7 @@ fn owner_of<'a>(document: &'a Document, iface: &str) -> &'a str {
     ""
 }
 
-/// Appends a name in parentheses, behind what it is the name of.
+/// Appends a name in parentheses, after the thing that it names.
 fn push_named<'a>(out: &mut Vec<u8>, what: &'a str, name: &'a str) -> Appended {
     push(
         out,
@@ -337,7 +337,7 @@ fn line_of_lack(text: &str, lacking: &Lacking) -> Option<u64> {
     table_line(text, lacking.array.key().text(), lacking.number, key.text())
 }
 
-/// Appends what tables name that is not there, a line each, of which the first line is begun: at
+/// Appends what tables name that is not there, a line each; the first line is begun already. At
 /// most 20, and how many more there are.
 fn push_lacks(
     alloc: Global,
@@ -407,8 +407,8 @@ fn push_fault(
     }
 }
 
-/// Appends what a document is refused for, whose tables are all read. Where no place is found, the
-/// number of the refusal is told: that there always is one is not proved.
+/// Appends what a document is refused for after all its tables are read. If no place is found, it
+/// is the number of the refusal: that there always is a place is not proved.
 pub fn push_whole_fault(
     alloc: Global,
     out: &mut Vec<u8>,

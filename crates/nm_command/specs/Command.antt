@@ -22,24 +22,24 @@ pub data CommandValue : Type 0 where
   -- to write the trace files of interfaces: the topology, the folder, and the names of the
   -- interfaces, or of none for all
   All : List ℕ → List ℕ → List (List ℕ) → CommandValue
-  -- to see whether the trace files of interfaces that are there have their traces: the topology, the
-  -- folder, and the names of the interfaces, or of none for all
+  -- to check whether existing trace files of interfaces have their traces: the topology, the
+  -- folder, and the names of the interfaces, or none for all
   Verify : List ℕ → List ℕ → List (List ℕ) → CommandValue
   -- to run rounds: the topology, and the greatest number of rounds
   Rounds : List ℕ → ℕ → CommandValue
   -- to do steps: the topology, and the script
   Script : List ℕ → List ℕ → CommandValue
-  -- to say where the topology is at fault, or what it has
+  -- to print where the topology is at fault, or what it has
   Check : List ℕ → CommandValue
   -- to show a run of the topology, or the topology: what is shown of it
   Show : List ℕ → View → CommandValue
-  -- to say in words what passed an interface: the topology, and the name of the interface
+  -- to print in words what passed an interface: the topology, and the name of the interface
   Text : List ℕ → List ℕ → CommandValue
-  -- to say what interfaces or sources do over time: the topology, how long a step is, and of what
+  -- to print what interfaces or sources do over time: the topology, how long a step is, and of what
   Series : List ℕ → ℕ → Subject → CommandValue
-  -- to say the ways of packets: the topology, and the number of their source
+  -- to print the ways of packets: the topology, and the number of their source
   Packets : List ℕ → ℕ → CommandValue
-  -- to say the way of a packet: the topology, the name of the node that sends it, and the address
+  -- to print the way of a packet: the topology, the name of the node that sends it, and the address
   Path : List ℕ → List ℕ → List ℕ → CommandValue
   -- to run all partitions: the topology, the folder of their trace files, how many threads run
   -- books, how many replicas each partition has, and whether files of what is known are made too
@@ -120,7 +120,7 @@ of_two word topology =
     else (if bytes_eq word (codes "dot") then Some (Show topology Graph)
     else trace_from topology None (form_of word)))
 
--- `text TOPO IFACE`, `report TOPO csv`, `report TOPO delays` and `dot TOPO load`; of other words
+-- `text TOPO IFACE`, `report TOPO csv`, `report TOPO delays` and `dot TOPO load`; for other words
 -- what else they are
 abbrev pub shown_of : List ℕ → List ℕ → List ℕ → Option CommandValue → Option CommandValue
 shown_of word topology third other =
@@ -138,7 +138,7 @@ shown_of word topology third other =
 abbrev pub series_of : List ℕ → Subject → Option ℕ → Option CommandValue
 series_of topology subject step = option_map (λ n. Series topology n subject) step
 
--- `series TOPO STEP` and `packets TOPO SOURCE`; of other words what else they are
+-- `series TOPO STEP` and `packets TOPO SOURCE`; for other words what else they are
 abbrev pub timed_of : List ℕ → List ℕ → List ℕ → Option CommandValue → Option CommandValue
 timed_of word topology third other =
     if bytes_eq word (codes "series") then
@@ -228,7 +228,7 @@ of_number (word ∷ topology ∷ folder ∷ partition ∷ replica ∷ addresses 
     of_seven word topology folder partition replica addresses last
 of_number (word ∷ topology ∷ folder ∷ partition ∷ replica ∷ addresses ∷ last ∷ more ∷ rest) = None
 
--- `certify TOPO WORKERS` with folders behind it; of other words what else they are
+-- `certify TOPO WORKERS` with folders behind it; for other words what else they are
 abbrev pub certify_or : List (List ℕ) → Option CommandValue → Option CommandValue
 certify_or (word ∷ topology ∷ workers ∷ folders) other =
     if bytes_eq word (codes "certify") then
@@ -236,8 +236,8 @@ certify_or (word ∷ topology ∷ workers ∷ folders) other =
     else other
 certify_or words other = other
 
--- `all TOPO DIR` and `verify TOPO DIR`, with or without names behind them; of other words what else
--- they are
+-- `all TOPO DIR` and `verify TOPO DIR`, with or without names behind them; for other words what
+-- else they are
 abbrev pub files_or : List (List ℕ) → Option CommandValue → Option CommandValue
 files_or (word ∷ topology ∷ folder ∷ ifaces) other =
     if bytes_eq word (codes "all") then Some (All topology folder ifaces)

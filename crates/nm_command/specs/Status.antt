@@ -1,4 +1,4 @@
--- What each ending says.
+-- The line of each ending.
 use Rattle.std.specs.Prelude.{ℕ, List, [], ◌++◌, Result, Ok, Err, codes, decimal}
 use Rattle.nm_topology.specs.Fault.{refusal_number}
 use Rattle.nm_command.specs.declared.status.Status.{Status}

@@ -1,5 +1,5 @@
-//! What the words of a command name. Each input is named by the file that has it, or by `-`, which
-//! is standard input. A clause sees the names as octets.
+//! The arguments of a command. Each input is named by its file, or by `-`, which is standard input.
+//! A clause sees the names as octets.
 
 use crate::view::Subject;
 use crate::ways::Ways;
@@ -35,7 +35,7 @@ pub struct PathArguments<'a> {
     pub topology: &'a str,
     /// The name of the node that sends the packet.
     pub node: &'a str,
-    /// Where it goes: four numbers joined by dots.
+    /// The destination: four numbers joined by dots.
     pub address: &'a str,
 }
 

@@ -26,8 +26,8 @@ use nm_pcap::Form;
 /// The further word of `run` and `node` which has the files of what is known made.
 const KEEP: &str = "keep";
 
-/// What the program is to do. Each input is named by the file that has it, or by `-`, which is
-/// standard input. A clause sees the names as octets.
+/// What the program is to do. Each input is named by its file, or by `-`, which is standard input.
+/// A clause sees the names as octets.
 #[derive(Clone, Copy)]
 pub enum Command<'a> {
     /// To write the trace file of one interface.
@@ -36,21 +36,21 @@ pub enum Command<'a> {
     All(AllArguments<'a>),
     /// To see whether the trace files of interfaces that are there have their traces.
     Verify(AllArguments<'a>),
-    /// To let all partitions run in rounds, and to say what came of it.
+    /// To run all partitions in rounds, and to print the result.
     Rounds {
         /// The input with the topology text.
         topology: &'a str,
         /// The greatest number of rounds: 1 to 1,000,000,000.
         max: u64,
     },
-    /// To do the steps of a script, and to say what each answers and what came of it.
+    /// To do the steps of a script, and to print each answer and the books that they left.
     Script {
         /// The input with the topology text.
         topology: &'a str,
         /// The input with the script.
         steps: &'a str,
     },
-    /// To say where a topology is at fault, or what it has.
+    /// To print where a topology is at fault, or what it has.
     Check {
         /// The input with the topology text.
         topology: &'a str,
@@ -61,21 +61,20 @@ pub enum Command<'a> {
         topology: &'a str,
         view: View,
     },
-    /// To say in words what passed an interface, a line a packet.
+    /// To print in words what passed an interface, a line a packet.
     Text {
         /// The input with the topology text.
         topology: &'a str,
         /// The name of the interface.
         iface: &'a str,
     },
-    /// To say what interfaces or sources do over time.
+    /// To print what interfaces or sources do over time.
     Series(SeriesArguments<'a>),
-    /// To say the ways of the packets of a source.
+    /// To print the ways of the packets of a source.
     Packets(PacketsArguments<'a>),
-    /// To say the way of a packet from a node to an address, a line a hop.
+    /// To print the way of a packet from a node to an address, a line a hop.
     Path(PathArguments<'a>),
-    /// To run all partitions at once, each as one or two replicas, and to certify what they come
-    /// to.
+    /// To run all partitions at once, each as one or two replicas, and to certify them.
     Run(RunArguments<'a>),
     /// To run one replica of a partition, which talks with the others over sockets.
     Node(NodeArguments<'a>),
@@ -181,7 +180,7 @@ fn shown_of<'a>(word: &str, topology: &'a str, third: &'a str) -> Option<Command
     }
 }
 
-/// The command `series` of interfaces or of sources, where its number is such.
+/// The command `series` of interfaces or of sources, if its number is in range.
 fn series_of<'a>(topology: &'a str, step: &str, subject: Subject) -> Option<Command<'a>>
     ensures value { option_map command_value result
         ≡ series_of topology.now subject (asked_number 1 MAX_TIME step.now) }
@@ -255,7 +254,7 @@ fn of_four<'a>(
     }
 }
 
-/// The command `run`, where its two numbers are such.
+/// The command `run`, if its two numbers are in range.
 fn run_of<'a>(
     topology: &'a str,
     folder: &'a str,
@@ -279,7 +278,7 @@ fn run_of<'a>(
     }))
 }
 
-/// The command `node`, where its two numbers are such.
+/// The command `node`, if its two numbers are in range.
 fn node_of<'a>(
     topology: &'a str,
     folder: &'a str,
@@ -325,7 +324,7 @@ fn of_six<'a>(
     }
 }
 
-/// The command `certify`, where its number is such, and there is a folder.
+/// The command `certify`, if its number is in range, and there is a folder.
 fn certify_of<'a>(topology: &'a str, workers: &str, folders: &'a [String]) -> Option<Command<'a>>
     ensures value { option_map command_value result ≡ certify_of topology.now
         (asked_number 1 MAX_WORKERS workers.now) (map (λ f. string_bytes f) folders.now) }
@@ -418,8 +417,8 @@ impl<'a> Command<'a> {
     /// TOPO` or `dot TOPO load`, `text TOPO IFACE`, `series TOPO STEP` or `series TOPO STEP flows`,
     /// `packets TOPO SOURCE`, `path TOPO NODE ADDRESS`, `run TOPO DIR WORKERS REPLICAS` or `node
     /// TOPO DIR PARTITION REPLICA ADDRESSES` with or without `keep` behind it, or `certify TOPO
-    /// WORKERS` with one folder or more behind it. No words are `onehex -`. `None` where the words
-    /// are no command.
+    /// WORKERS` with one folder or more behind it. No words are `onehex -`. `None` if the words are
+    /// no command.
     pub fn of(words: &'a [String]) -> Option<Command<'a>>
         ensures value { option_map command_value result
             ≡ command_of (map (λ w. string_bytes w) words.now) }

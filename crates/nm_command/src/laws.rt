@@ -104,7 +104,7 @@ pub fn statuses_and_lines()
         ≡ codes "nullsim: differs " ++ name.bytes ++ codes " " ++ decimal n ++ codes "\n") }
 {}
 
-/// A number stands in decimal, without leading zeros, and is one of those that may be.
+/// A number is in decimal, without leading zeros, and within its range.
 pub fn numbers_in_words()
     ensures { (asked_number 1 64 (codes "0") ≡ None)
         × (asked_number 1 64 (codes "1") ≡ Some 1)

@@ -14,10 +14,10 @@ use nm_topology::Refusal;
 use nm_topology::parse::forms::MAX_NAME;
 use std::alloc::{AllocError, AllocFailed};
 
-/// The name of an interface, which lies in the value itself.
+/// The name of an interface, which is in the value itself.
 pub type IfaceName = ArrayString<MAX_NAME>;
 
-/// How the program ends: what it says on standard error, and its exit status.
+/// How the program ends: its line on standard error, and its exit status.
 #[derive(Clone, Copy, Debug, PartialEq, Eq)]
 pub enum Status {
     /// All was written.
@@ -26,7 +26,7 @@ pub enum Status {
     Usage,
     /// The topology has no interface of this name, or no interface at all.
     NoInterface,
-    /// This line of a script, counted from 1, says no step.
+    /// This line of a script, counted from 1, is no step.
     ScriptLine(u64),
     /// This step of a script, counted from 0, names what is not there.
     Step(u64),
@@ -38,13 +38,13 @@ pub enum Status {
     File,
     /// Memory was refused.
     Memory,
-    /// What the replicas came to is not certified, for the reason with this number.
+    /// The replicas are not certified, for the reason with this number.
     NotCertified(u8),
     /// Something was left to do when the program gave up.
     Stalled,
-    /// The trace file of this interface that is there differs from its trace at this octet, counted
-    /// from 0, which stops at 2^64 - 1: all before it are the same, and there the file has another
-    /// one, or it ends, or it goes on.
+    /// The existing trace file of this interface differs from its trace at this octet, counted from
+    /// 0, which stops at 2^64 - 1: all before it are the same, and there the file has another one,
+    /// or it ends, or it goes on.
     Differs { iface: IfaceName, octet: u64 },
 }
 
@@ -125,8 +125,7 @@ impl Status {
         }
     }
 
-    /// Says the line for standard error, with its line feed. Who is done says nothing. It takes no
-    /// memory.
+    /// Writes the line for standard error, with its line feed; none for Done. It takes no memory.
     ///
     /// # Errors
     ///

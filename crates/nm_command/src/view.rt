@@ -15,7 +15,7 @@ pub enum View {
     Load,
 }
 
-/// Of what a series tells.
+/// The rows of a series.
 #[derive(Clone, Copy)]
 pub enum Subject {
     /// Of each interface.

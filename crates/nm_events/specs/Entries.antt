@@ -11,7 +11,7 @@ use Rattle.nm_base.specs.Event.{event_place}
 use Rattle.nm_base.specs.Key.{key_cmp, key_cmp_total, key_of}
 use Rattle.nm_events.specs.declared.entry.Entry.{Entry}
 
--- the key of an entry, whose place the event says
+-- the key of an entry, with the place of the event
 abbrev pub entry_key : Entry → Key
 entry_key e = key_of e.time (event_place e.event) e.number
 

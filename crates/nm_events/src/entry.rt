@@ -6,9 +6,9 @@ ghost use Rattle.nm_base.specs.Key.{index_of, place_number};
 
 use nm_base::{Event, Time};
 
-/// An event, and the time and the number of its key, whose place it says itself; and the place's
-/// number in the order of places, so that entries of one time are told apart by two comparisons.
-/// Entries are ordered by their keys.
+/// An event, the time and the number of its key, and its place's number in the order of places: the
+/// event has its place itself, and entries of one time are compared by two numbers. Entries are
+/// ordered by their keys.
 #[derive(Drop)]
 pub(crate) struct Entry {
     pub(crate) time: Time,

@@ -30,8 +30,8 @@ pub trait EventList: Sized {
     ///
     /// # Errors
     ///
-    /// `AllocError` where the list could not grow. It has the same events then, and room for as
-    /// many more as it had.
+    /// `AllocError` if the list could not grow. It has the same events then, and room for as many
+    /// more as it had.
     fn reserve(&mut self, count: usize) -> Result<(), AllocError>
         ensures same { pending self.new ≡ pending self.old }
         ensures room { OnOk result (count ≤ room self.new) }
@@ -54,7 +54,7 @@ pub trait EventList: Sized {
     fn is_due(&self, before: Time) -> bool
         ensures { result ≡ is_before before (least_entry (pending self.now)) };
 
-    /// Takes the event of the least key out: the key's time, its number, and the event, which says
+    /// Takes the event of the least key out: the key's time, its number, and the event, which has
     /// its place. There is room for another then.
     fn take_least(&mut self) -> Option<(Time, u64, Event)>
         ensures least { option_map (λ e. keyed e.0 e.1 e.2) result

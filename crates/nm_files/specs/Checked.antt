@@ -27,7 +27,7 @@ DiffersAt text octets n = (take n text ≡ take n octets) × (slice_get text n �
 abbrev pub TextDiffers : (text octets : List ℕ) → (octet : ℕ) → Type 0
 TextDiffers text octets octet = (k : ℕ) × (octet ≡ saturated k) × DiffersAt text octets k
 
--- the interface whose file differs, and at which octet, where one does
+-- the interface whose file differs, and at which octet, if one does
 abbrev pub difference : Fault CheckCause → Option (ℕ × ℕ)
 difference Memory = None
 difference (Refused Failed) = None
@@ -40,7 +40,7 @@ looked_at files = map (λ file. is_some file) files
 abbrev pub is_looked_at : {B : Type 0} → List (Option (CheckedFile B)) → ℕ → Bool
 is_looked_at files n = get_or (looked_at files) n false
 
--- The texts of the files, each where it is told.
+-- The texts of the files, each if it is known.
 module _ (texts : ℕ → Option (List ℕ)) where
   -- The file of interface n has these octets at its front, and behind them not the next ones: it
   -- differs there, at this octet, which stops at 2 ^ 64 - 1.
@@ -54,7 +54,7 @@ module _ (texts : ℕ → Option (List ℕ)) where
   GoesOn n octets octet = IfSome (texts n) (λ text. (octet ≡ saturated (length octets))
       × StartsWith text octets × DiffersAt text octets (length octets))
 
-  -- which is told, or why that is not known
+  -- which is known, or why it is not
   abbrev pub IsUnlike : (n : ℕ) → (before next : List ℕ) → Fault CheckCause → Type 0
   IsUnlike n before next Memory = Unit {0}
   IsUnlike n before next (Refused Failed) = Unit {0}
@@ -66,7 +66,7 @@ module _ (texts : ℕ → Option (List ℕ)) where
   IsLonger n octets (Refused Failed) = Unit {0}
   IsLonger n octets (Refused (Differs iface octet)) = (iface ≡ n) × GoesOn n octets octet
 
-  -- The octets that are left of a reader, where that is told.
+  -- The octets that are left of a reader, if it is known.
   module _ {B : Type 0} (left : B → Option (List ℕ)) where
     -- these octets of the file of interface n were read, from its begin
     pub record HasRead (n : ℕ) (octets : List ℕ) (file : CheckedFile B) : Type 0 where

@@ -14,13 +14,13 @@ use Rattle.nm_files.specs.TraceFile.{written_at}
 use Rattle.nm_files.specs.declared.trace_files.FileFault.{FileFault}
 
 module _ {S : Type 0} (seen : S → SinkSeen) (made : Option Files) where
-  -- a file holds these octets, where it is told which files were placed, and as many are counted
+  -- a file holds these octets, if it is known which files were placed, and as many are counted
   pub record HoldsOctets (octets : List ℕ) (file : Writer S) : Type 0 where
     pub form : file.form ≡ Octets
     pub taken : (first : Files) → made ≡ Some first → (seen file.sink).taken ≡ Some octets
     pub counted : file.written ≡ saturated (length octets)
 
-  -- where an interface is chosen, its file is there and holds these; else there is none
+  -- if an interface is chosen, its file is there and holds these; else there is none
   abbrev pub HoldsFile : (chosen : Bool) → List ℕ → Option (Writer S) → Type 0
   HoldsFile false octets file = file ≡ None
   HoldsFile true octets None = ⊥
@@ -48,7 +48,7 @@ module _ {S : Type 0} (seen : S → SinkSeen) (sink : S) where
     pub sound : file.failed ≡ false
     pub counted : file.written ≡ saturated (length file_header)
 
-  -- it stands behind the others
+  -- it is behind the others
   pub record HasBegun (old new : List (Option (Writer S))) : Type 0 where
     pub file : Writer S
     pub begun : IsBegun file
@@ -78,9 +78,8 @@ module _ {S : Type 0} (seen : S → SinkSeen) (records : List (Record (List ℕ)
         → slice_get new n ≡ Some p → FileTook n o p
 
 module _ {S : Type 0} (seen : S → SinkSeen) where
-  -- The record was not written: the sink of the file failed, when it had taken a part of what is
-  -- written of the record, from the front; or it had failed before. It took so many octets of
-  -- the file in all.
+  -- The record was not written: the sink of the file failed after it took a part of the record,
+  -- from the front; or it had failed before. It took so many octets of the file in all.
   abbrev pub FileFailed : (r : Record (List ℕ)) → (written : ℕ) → Option (Writer S)
       → Option (Writer S) → Type 0
   FileFailed r n None new = ⊥

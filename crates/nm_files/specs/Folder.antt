@@ -32,14 +32,14 @@ abbrev pub HasOpened : {S : Type 0} → (S → SinkSeen) → Option Files → Bo
 HasOpened {S} seen made chosen old new =
     (file : Option (Writer S)) × (new ≡ old ++ file ∷ []) × HoldsFile seen made chosen file_header file
 
--- where an interface is chosen, its file was closed and is this one; else none was
+-- if an interface is chosen, its file was closed and is this one; else none was
 abbrev pub IsClosedAs : Option Files → Bool → List ℕ × List ℕ → Option (Option (List ℕ × List ℕ))
     → Type 0
 IsClosedAs made false file closed = closed ≡ None
 IsClosedAs made true file None = ⊥
 IsClosedAs made true file (Some closed) = IsWhole made closed file
 
--- what the fault of an output is to trace files, one of which failed so
+-- what the fault of an output is for trace files, one of which failed so
 abbrev pub files_fault : OutputFault → FileFault → Fault FileFault
 files_fault Failed file = Refused file
 files_fault NoMemory file = Memory

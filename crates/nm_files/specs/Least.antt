@@ -1,4 +1,4 @@
--- Trace files that are there, read for the least interface whose file differs.
+-- Existing trace files, read for the least interface whose file differs.
 use Rattle.std.specs.Prelude.{◌≡◌, ◌⊎◌, ℕ, ◌<◌, ◌≤◌, true, Contains, IfSome, List, [], length, take, Option, Some, None, Result, Ok, Err}
 use Rattle.nm_base.specs.declared.fault.Fault.{Fault}
 use Rattle.nm_base.specs.declared.fault.Fault.TheVariants.{Memory, Refused}
@@ -13,7 +13,7 @@ use Rattle.nm_files.specs.declared.checked_file.ReadFailed.{ReadFailed}
 use Rattle.nm_files.specs.declared.least_checked.Difference.{Difference}
 use Rattle.nm_files.specs.declared.least_checked.LeastChecked.{LeastChecked}
 
--- where a file differs, or why that is not known
+-- the file that differs, or why that is not known
 abbrev pub found_difference : Fault CheckCause → Result Difference (Fault ReadFailed)
 found_difference Memory = Err Memory
 found_difference (Refused Failed) = Err (Refused (record {}))
@@ -29,7 +29,7 @@ HasRecord iface records = (r : Record (List ℕ)) × Contains records r × (r.if
 
 -- Of files as they were begun.
 module _ {B : Type 0} (begun : LeastChecked B) where
-  -- so many are open still, and this is the least that differs: none, and all are; or one of which
+  -- so many are open still, and this is the least that differs: none, and all are; or one for which
   -- this holds, and those of lesser interfaces are
   abbrev pub AreOpenBelow : (Difference → Type 0) → List (Option (CheckedFile B))
       → Option Difference → Type 0
@@ -43,14 +43,14 @@ module _ {B : Type 0} (begun : LeastChecked B) where
   IsOfHeaderOr records d = (begun.differs ≡ Some d)
       ⊎ ((is_looked_at begun.files.files.items d.iface ≡ true) × HasRecord d.iface records)
 
--- The texts of the files, each where it is told.
+-- The texts of the files, each if it is known.
 module _ (texts : ℕ → Option (List ℕ)) {B : Type 0} where
-  -- it differs within what is to stand in it after these records
+  -- it differs within its content after these records
   abbrev pub DiffersWithin : LeastChecked B → List (Record (List ℕ)) → Difference → Type 0
   DiffersWithin begun records d = IsOfHeaderOr begun records d
       × DiffersIn texts d.iface [] (octets_after d.iface records) d.octet
 
--- And the octets that are left of a reader, where that is told.
+-- And the octets that are left of a reader, if it is known.
 module _ (texts : ℕ → Option (List ℕ)) {B : Type 0} (left : B → Option (List ℕ)) where
   -- the headers are read of those that are open: of all, or up to the first whose header differs
   pub record AreBegun (traces : LeastChecked B) : Type 0 where

@@ -5,7 +5,7 @@ use Rattle.std.specs.Prelude.{◌≡◌, ℕ, List, [], ◌∷◌, ◌++◌, map
 abbrev pub Files : Type 0
 Files = List (List ℕ × List ℕ)
 
--- a file took nothing so far, and tells it, where it is told which files were placed
+-- a file took nothing so far, and has that as its octets, if it is known which files were placed
 abbrev pub IsEmpty : Option Files → Option (List ℕ) → Type 0
 IsEmpty made taken = (first : Files) → made ≡ Some first → taken ≡ Some []
 
@@ -13,7 +13,7 @@ IsEmpty made taken = (first : Files) → made ≡ Some first → taken ≡ Some 
 abbrev pub IsClosed : List ℕ → Option (List ℕ) → Option (List ℕ × List ℕ) → Type 0
 IsClosed name taken closed = (octets : List ℕ) → taken ≡ Some octets → closed ≡ Some (name, octets)
 
--- behind the files that were placed before come these, where it is told which they are
+-- behind the files that were placed before come these, if it is known which they are
 abbrev pub HasMade : Option Files → Option Files → Files → Type 0
 HasMade before after files = (first : Files) → before ≡ Some first → after ≡ Some (first ++ files)
 
@@ -27,7 +27,7 @@ abbrev pub HasPlaced : Option Files → Option Files → Option (List ℕ × Lis
 HasPlaced before after closed =
     (file : List ℕ × List ℕ) → closed ≡ Some file → HasMade before after (file ∷ [])
 
--- a closed file is this one, where it is told which files were placed
+-- a closed file is this one, if it is known which files were placed
 abbrev pub IsWhole : Option Files → Option (List ℕ × List ℕ) → List ℕ × List ℕ → Type 0
 IsWhole made closed file = (first : Files) → made ≡ Some first → closed ≡ Some file
 

@@ -18,6 +18,6 @@ written_at form iface records = written form (flat_map record_octets (records_at
 abbrev pub trace_file : Form → ℕ → List (Record (List ℕ)) → List ℕ
 trace_file form iface records = written form (pcap (records_at iface records)) ++ ending form
 
--- what stands in it once these records are written as they are
+-- its content once these records are written as they are
 abbrev pub octets_after : ℕ → List (Record (List ℕ)) → List ℕ
 octets_after iface records = file_header ++ written_at Octets iface records

@@ -1,4 +1,4 @@
-//! A trace file that is there, read beside what it is to have.
+//! An existing trace file, read beside what it is to have.
 
 ghost use Rattle.std.specs.IoError.{error_kind};
 ghost use Rattle.std.specs.Prelude.{◌≡◌, ◌≢◌, ℕ, ◌+◌, ◌<◌, ◌≤◌, ◌++◌, IfErr, IfOk, IfSome, List};
@@ -62,7 +62,7 @@ pub fn check_fault(error: &io::Error) -> CheckFault
     }
 }
 
-/// The interface whose file differs, and at which octet, where one does.
+/// The interface whose file differs, and at which octet, if one does.
 pub fn difference(fault: &CheckFault) -> Option<(IfaceNo, u64)>
     ensures { result ≡ difference fault.now }
 {
@@ -103,7 +103,7 @@ fn same_front(one: &[u8], other: &[u8]) -> usize
 }
 
 impl<B> CheckedFile<B> {
-    /// Of this file nothing was read so far.
+    /// Nothing of this file was read so far.
     fn new(iface: IfaceNo, reader: B) -> Self
         ensures { result ≡ record { iface = iface; reader = reader; same = 0; records = 0 } }
     {
@@ -198,12 +198,12 @@ impl<B: BufRead> CheckedFile<B> {
         self.expect(second)
     }
 
-    /// The trace file of this interface, of which the header was read.
+    /// The trace file of this interface, with its header read.
     ///
     /// # Errors
     ///
-    /// `Differs` where it has no such header, `Failed` where a read failed, `Memory` where memory
-    /// was refused.
+    /// `Differs` if it has no such header, `Failed` if a read failed, `Memory` if memory was
+    /// refused.
     pub(crate) fn open(iface: IfaceNo, reader: B) -> Result<Self, CheckFault>
     where
         B: Drop,
@@ -224,8 +224,7 @@ impl<B: BufRead> CheckedFile<B> {
     ///
     /// # Errors
     ///
-    /// `Differs` where it does not, `Failed` where a read failed, `Memory` where memory was
-    /// refused.
+    /// `Differs` if it does not, `Failed` if a read failed, `Memory` if memory was refused.
     pub(crate) fn put(&mut self, record: &Record) -> Result<(), CheckFault>
         requires { «record».now.time ≤ MAX_TIME }
         ensures read { (texts : ℕ → Option (List ℕ)) (n : ℕ) (before : List ℕ)
@@ -247,8 +246,7 @@ impl<B: BufRead> CheckedFile<B> {
     ///
     /// # Errors
     ///
-    /// `Differs` where something does, `Failed` where the read failed, `Memory` where memory was
-    /// refused.
+    /// `Differs` if something does, `Failed` if the read failed, `Memory` if memory was refused.
     pub(crate) fn finish(&mut self) -> Result<(), CheckFault>
         ensures whole { (texts : ℕ → Option (List ℕ)) (n : ℕ) (octets : List ℕ)
             → HasRead texts B.remaining n octets self.old

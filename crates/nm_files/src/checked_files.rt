@@ -36,7 +36,7 @@ impl<B: Drop> CheckedFiles<B> {
     ///
     /// # Errors
     ///
-    /// Where memory was refused: no file more is there then.
+    /// If memory was refused: no file more is there then.
     pub fn skip(&mut self) -> Result<(), AllocError>
         ensures looked { OnOk result (looked_at self.new.files.items
             ≡ looked_at self.old.files.items ++ false ∷ []) }
@@ -70,12 +70,12 @@ impl<B: Drop> CheckedFiles<B> {
 }
 
 impl<B: BufRead + Drop> CheckedFiles<B> {
-    /// The next interface, which has this number, has this file, whose header is read.
+    /// The next interface, which has this number, has this file, with its header read.
     ///
     /// # Errors
     ///
-    /// `Differs` where it has no such header, `Failed` where a read failed, `Memory` where memory
-    /// was refused. No file more is there then.
+    /// `Differs` if it has no such header, `Failed` if a read failed, `Memory` if memory was
+    /// refused. No file more is there then.
     pub fn open(&mut self, iface: IfaceNo, reader: B) -> Result<(), CheckFault>
         requires { iface ≡ length self.old.files.items }
         ensures looked { OnOk result (looked_at self.new.files.items
@@ -98,8 +98,8 @@ impl<B: BufRead + Drop> CheckedFiles<B> {
     ///
     /// # Errors
     ///
-    /// `Differs` where it does not come next there, `Failed` where a read failed, `Memory` where
-    /// memory was refused. Files of lesser interfaces are read on over it then, too.
+    /// `Differs` if it does not come next there, `Failed` if a read failed, `Memory` if memory was
+    /// refused. Files of lesser interfaces are read on over it then, too.
     pub(crate) fn put(&mut self, record: &Record) -> Result<(), CheckFault>
         requires { «record».now.time ≤ MAX_TIME }
         ensures looked { looked_at self.new.files.items ≡ looked_at self.old.files.items }
@@ -132,8 +132,8 @@ impl<B: BufRead + Drop> CheckedFiles<B> {
     ///
     /// # Errors
     ///
-    /// `Differs` where one does not come next in its file, which is the first such; `Failed` where
-    /// a read failed; `Memory` where memory was refused.
+    /// `Differs` if one does not come next in its file, which is the first such; `Failed` if a read
+    /// failed; `Memory` if memory was refused.
     pub fn put_all(&mut self, records: &[Record]) -> Result<(), CheckFault>
         requires { All (λ r. r.time ≤ MAX_TIME) records.now }
         ensures looked { looked_at self.new.files.items ≡ looked_at self.old.files.items }
@@ -157,8 +157,7 @@ impl<B: BufRead + Drop> CheckedFiles<B> {
     ///
     /// # Errors
     ///
-    /// `Differs` where something does, `Failed` where the read failed, `Memory` where memory was
-    /// refused.
+    /// `Differs` if something does, `Failed` if the read failed, `Memory` if memory was refused.
     pub fn finish(&mut self, iface: IfaceNo) -> Result<(), CheckFault>
         ensures looked { looked_at self.new.files.items ≡ looked_at self.old.files.items }
         ensures read { (texts : ℕ → Option (List ℕ)) (records : List (TraceRecord (List ℕ)))

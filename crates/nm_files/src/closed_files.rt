@@ -71,9 +71,9 @@ pub fn place_each<F: Outputs>(outputs: &mut F, closed: Vec<F::Closed>) -> Result
 ///
 /// # Errors
 ///
-/// `Refused` with the one that could not get its name, and how many octets it has; `Memory` where
-/// memory was refused. Those before it have their names, and of the names of the others what had
-/// them stays.
+/// `Refused` with the one that could not get its name, and how many octets it has; `Memory` if
+/// memory was refused. Those before it have their names, and what had the names of the others
+/// stays.
 pub fn place_all<F: Outputs>(
     outputs: &mut F,
     closed: ClosedFiles<F::Closed>,

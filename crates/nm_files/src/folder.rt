@@ -34,7 +34,7 @@ pub trait Choice {
             → result ≡ chooses self.now topology.now iface x };
 }
 
-/// Where the trace files of a network stand, and which interfaces have one there.
+/// The folder of a network's trace files, and which interfaces have one there.
 #[derive(Clone, Copy)]
 pub struct Folder<'a, C> {
     pub topology: &'a Topology,
@@ -75,8 +75,8 @@ impl<'a, C: Choice> Folder<'a, C> {
     ///
     /// # Errors
     ///
-    /// `Refused` with the first that could not be made, or whose header was not written; `Memory`
-    /// where memory was refused. The files are let go, and none gets its name.
+    /// `Refused` with the first that could not be made, or its header not written; `Memory` if
+    /// memory was refused. The files are dropped, and none gets its name.
     pub fn open<F: Outputs>(
         &self,
         alloc: Global,
@@ -139,8 +139,8 @@ impl<'a, C: Choice> Folder<'a, C> {
     ///
     /// # Errors
     ///
-    /// `Refused` with the first that could not be closed, and how many octets it has; `Memory`
-    /// where memory was refused. All are let go, and none gets its name.
+    /// `Refused` with the first that could not be closed, and how many octets it has; `Memory` if
+    /// memory was refused. All are dropped, and none gets its name.
     pub fn close<F: Outputs>(
         &self,
         alloc: Global,

@@ -1,5 +1,5 @@
-//! The trace files of interfaces that are there, read side by side for the least interface whose
-//! file differs.
+//! Existing trace files of interfaces, read side by side for the least interface whose file
+//! differs.
 
 ghost use Rattle.std.specs.Prelude.{◌≡◌, ℕ, ◌≤◌, ◌++◌, ◌∷◌, [], All, List, OnOk, Option, Some};
 ghost use Rattle.std.specs.Prelude.{take};
@@ -23,7 +23,7 @@ pub struct Difference {
     pub octet: u64,
 }
 
-/// Where a file differs, or why that is not known.
+/// The file that differs, or why that is not known.
 pub fn found_difference(fault: &CheckFault) -> Result<Difference, ReadFault>
     ensures { result ≡ found_difference fault.now }
 {
@@ -47,7 +47,7 @@ pub struct LeastChecked<B> {
 }
 
 impl<B: Drop> LeastChecked<B> {
-    /// Files of which the headers are read, up to the first whose header differs, if one does.
+    /// Files with headers read, up to the first whose header differs, if one does.
     pub fn new(files: CheckedFiles<B>, differs: Option<Difference>) -> Self
         ensures { result ≡ record { files = files; differs = differs } }
     {
@@ -61,7 +61,7 @@ impl<B: Drop> LeastChecked<B> {
         self.differs
     }
 
-    /// Keeps a difference of a file that was open so far: it is the least.
+    /// Keeps the difference of a file that was open so far: it is the least.
     fn keep(&mut self, fault: &CheckFault) -> Result<(), ReadFault>
         ensures { OnOk result ((own octet : ℕ) × (fault.now ≡ Refused (Differs own octet))
             × (self.new.files.files.items ≡ take own self.old.files.files.items)
@@ -94,7 +94,7 @@ impl<B: BufRead + Drop> LeastChecked<B> {
     ///
     /// # Errors
     ///
-    /// Where a read failed, or memory was refused. That a file differs is none.
+    /// If a read failed, or memory was refused. That a file differs is no error.
     pub fn put_all(&mut self, records: &[Record]) -> Result<(), ReadFault>
         requires { All (λ r. r.time ≤ MAX_TIME) records.now }
         ensures { (texts : ℕ → Option (List ℕ)) (begun : _)
@@ -114,7 +114,7 @@ impl<B: BufRead + Drop> LeastChecked<B> {
     ///
     /// # Errors
     ///
-    /// Where the read failed, or memory was refused. That something comes is none.
+    /// If the read failed, or memory was refused. That something comes is no error.
     pub fn finish(&mut self, iface: IfaceNo) -> Result<(), ReadFault>
         ensures { (texts : ℕ → Option (List ℕ)) (records : List (TraceRecord (List ℕ)))
             → HaveRead texts B.remaining records self.old.files.files.items

@@ -1,5 +1,4 @@
-//! Trace files: where they go, what they are called, what stands in them, and whether those that
-//! are there have that.
+//! Trace files: their folder, their names, their contents, and whether existing ones have these.
 #![tactic(auto)]
 
 pub mod checked_file;

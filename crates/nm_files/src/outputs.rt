@@ -44,17 +44,17 @@ pub trait Outputs {
     /// A file that was closed, and does not have its name yet. Dropped, it never gets it.
     type Closed: Drop;
 
-    // The files that were placed so far, with their names and octets, where that is told.
+    // The files that were placed so far, with their names and octets, if it is known.
     ghost made: { Self → Option (List (List ℕ × List ℕ)) };
 
-    // The name that a closed file is to have, and its octets, where that is told.
+    // The name that a closed file is to have, and its octets, if it is known.
     ghost closed: { Self.Closed → Option (List ℕ × List ℕ) };
 
     /// Makes an empty file that is to have this name.
     ///
     /// # Errors
     ///
-    /// `Failed` where the system refused it, `Memory` where memory was refused.
+    /// `Failed` if the system refused it, `Memory` if memory was refused.
     fn create(&mut self, name: &str) -> Result<Self::File, OutputFault>
         ensures empty { IfOk result
             (λ file. IsEmpty (made self.old) (Self.File.seen file).taken) }
@@ -64,7 +64,7 @@ pub trait Outputs {
     ///
     /// # Errors
     ///
-    /// `Failed` where the system did not take all, `Memory` where memory was refused.
+    /// `Failed` if the system did not take all, `Memory` if memory was refused.
     fn close(&mut self, name: &str, file: Self::File) -> Result<Self::Closed, OutputFault>
         ensures whole { IfOk result
             (λ c. IsClosed name.now (Self.File.seen file).taken (closed c)) }
@@ -74,8 +74,7 @@ pub trait Outputs {
     ///
     /// # Errors
     ///
-    /// `Failed` where the system refused it, `Memory` where memory was refused: what had the name
-    /// stays.
+    /// `Failed` if the system refused it, `Memory` if memory was refused: what had the name stays.
     fn place(&mut self, file: Self::Closed) -> Result<(), OutputFault>
         ensures placed { OnOk result (HasPlaced (made self.old) (made self.new) (closed file)) }
         ensures kept { IfErr result (λ _. made self.new ≡ made self.old) };

@@ -9,7 +9,7 @@ use nm_base::{Fault, IfaceNo, Record, Sink, SinkFault};
 use nm_pcap::{PcapFault, PcapOut};
 
 /// Why a trace file was not written to its end: its sink failed, or memory was refused. The sink
-/// took a prefix of the file, and did not fail where memory was refused.
+/// took a prefix of the file, and did not fail if memory was refused.
 pub type TraceFault = Fault<SinkFault>;
 
 /// Writes a record if it is at the interface.

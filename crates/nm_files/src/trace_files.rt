@@ -43,7 +43,7 @@ pub struct TraceFiles<S> {
     files: Vec<Option<PcapOut<S>>>,
 }
 
-/// What the fault of an output is to trace files, one of which failed so.
+/// What the fault of an output is for trace files, one of which failed so.
 pub(crate) fn files_fault(fault: OutputFault, file: FileFault) -> FilesFault
     ensures value { result ≡ files_fault fault file }
     ensures kinds { (result ≡ Refused file) ⊎ (result ≡ Memory) }
@@ -54,7 +54,7 @@ pub(crate) fn files_fault(fault: OutputFault, file: FileFault) -> FilesFault
     }
 }
 
-/// What is said of the file of an interface that failed.
+/// The fault of an interface's file.
 fn fault_of<S>(iface: IfaceNo, file: &PcapOut<S>) -> FileFault
     ensures { result ≡ record { iface = iface; written = file.now.written } }
 {
@@ -64,7 +64,7 @@ fn fault_of<S>(iface: IfaceNo, file: &PcapOut<S>) -> FileFault
     }
 }
 
-/// A file whose header is written.
+/// A file with its header written.
 fn begun<S: Sink + Drop>(iface: IfaceNo, sink: S) -> Result<PcapOut<S>, FilesFault>
     ensures begun { IfOk result (IsBegun S.seen sink) }
     ensures told { IfErr result (IsOfIface iface) }
@@ -90,7 +90,7 @@ fn put_in<S: Sink>(
     ensures took { OnOk result
         (FileTook S.seen («record».now ∷ []) iface file.old file.new) }
 
-    // Or its sink failed, now or before, which is said with how much the file has.
+    // Or its sink failed, now or before; then how much the file has is known.
     ensures iface { IfErr result (λ f. f.iface ≡ iface) }
     ensures failed { IfErr result
         (λ f. FileFailed S.seen «record».now f.written file.old file.new) }
@@ -141,7 +141,7 @@ impl<S: Sink + Drop> TraceFiles<S> {
     ///
     /// # Errors
     ///
-    /// Where memory was refused. No interface was added then.
+    /// If memory was refused. No interface was added then.
     pub fn skip(&mut self) -> Result<(), AllocError>
         ensures none { OnOk result (self.new.files.items ≡ self.old.files.items ++ None ∷ []) }
         ensures same { IfErr result (λ _. self.new.files.items ≡ self.old.files.items) }
@@ -154,7 +154,7 @@ impl<S: Sink + Drop> TraceFiles<S> {
     ///
     /// # Errors
     ///
-    /// Where memory was refused. The file is let go then, and no interface was added.
+    /// If memory was refused. The file is dropped then, and no interface was added.
     pub fn add(&mut self, file: PcapOut<S>) -> Result<(), AllocError>
         ensures added { OnOk result
             (self.new.files.items ≡ self.old.files.items ++ Some file ∷ []) }
@@ -164,12 +164,12 @@ impl<S: Sink + Drop> TraceFiles<S> {
         Ok(())
     }
 
-    /// The next interface has a file over this sink, whose header is written.
+    /// The next interface has a file over this sink, with its header written.
     ///
     /// # Errors
     ///
-    /// `Refused` where the file failed: it has a prefix of the header. `Memory` where memory was
-    /// refused. No interface was added then.
+    /// `Refused` if the file failed: it has a prefix of the header. `Memory` if memory was refused.
+    /// No interface was added then.
     pub fn open(&mut self, iface: IfaceNo, sink: S) -> Result<(), FilesFault>
         ensures begun { OnOk result (HasBegun S.seen sink
             self.old.files.items self.new.files.items) }
@@ -186,7 +186,7 @@ impl<S: Sink> TraceFiles<S> {
     ///
     /// # Errors
     ///
-    /// Where that file failed, now or before. It has a prefix of what it was to have, and is not
+    /// If that file failed, now or before. It has a prefix of what it was to have, and is not
     /// written on.
     pub fn put(&mut self, record: &Record) -> Result<(), FileFault>
         requires { «record».now.time ≤ MAX_TIME }
@@ -206,7 +206,7 @@ impl<S: Sink> TraceFiles<S> {
     ///
     /// # Errors
     ///
-    /// Where a file failed, now or before: it has a prefix of what it was to have, and no file is
+    /// If a file failed, now or before: it has a prefix of what it was to have, and no file is
     /// written on.
     pub fn put_all(&mut self, records: &[Record]) -> Result<(), FileFault>
         requires { All (λ r. r.time ≤ MAX_TIME) records.now }

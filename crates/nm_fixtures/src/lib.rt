@@ -1,5 +1,5 @@
-//! Texts that several crates of tests go over, each once: four networks, which are those of the
-//! same names in `examples/` (`dev/check/docs` compares them), and what stands in frames.
+//! Texts that several crates of tests use, each once: four networks, which are those of the same
+//! names in `examples/` (`dev/check/docs` compares them), and values in frames.
 #![tactic(auto)]
 
 /// Two hosts, one link, one UDP packet.
@@ -31,7 +31,7 @@ source = [
   {kind = "cbr", node = "a", to = "10.0.0.2", sport = 1000, dport = 9, size = 72, start = 0, interval = 1000000, count = 1} ]
 "#;
 
-/// Two hosts, a and b, on both sides of a router. The first link lies inside partition 0, so that
+/// Two hosts, a and b, on both sides of a router. The first link is inside partition 0, so that
 /// channel 0 comes in at interface 2 and channel 1 at interface 3.
 pub const SHIFT: &str = r#"format = 1
 stop = 20000000

@@ -36,7 +36,7 @@ pub data Body : Type 0 where
   Whole : List ℕ → Body
 
 -- a packet that is to be originated, from the address of the interface by which it leaves unless it
--- says another
+-- has its own
 pub record Draft : Type 0 where
   pub source : Option ℕ
   pub destination : ℕ
@@ -79,7 +79,7 @@ FitsPacket (Datagram ports payload) = length payload ≤ MAX_PACKET_DATA
 FitsPacket (Message kind rest payload) = length payload ≤ MAX_PACKET_DATA
 FitsPacket (Whole octets) = length octets ≤ MAX_PAYLOAD
 
--- the address of an interface, 0 where it isn't there
+-- the address of an interface, 0 if it isn't there
 abbrev pub iface_address : List IfaceValue → ℕ → ℕ
 iface_address ifaces via = option_map_or (λ i. i.address) (slice_get ifaces via) 0
 
@@ -124,8 +124,8 @@ error_about p kind = record {
   body = Message kind (0 ∷ 0 ∷ 0 ∷ 0 ∷ []) (quote_of p);
 }
 
--- the reply to an echo request: from where it was sent to, with its identifier, sequence number and
--- data (RFC 792)
+-- the reply to an echo request: from the address to which that was sent, with its identifier,
+-- sequence number and data (RFC 792)
 abbrev pub reply_to : Header → List ℕ → Draft
 reply_to h request = record {
   source = Some h.destination;
@@ -143,7 +143,7 @@ module _ (ifaces : List IfaceValue) (table : NodeConfiguration) (identification 
       let source : ℕ = unwrap_or out.source (iface_address ifaces via) in
       Originates via (packet_written (originated_header identification out source) out.body)
 
-  -- never to an address of the node itself, and only where a route leads (own)
+  -- never to an address of the node itself, and only along a route (own)
   unfoldable pub originate : Draft → Consequence
   originate out = if is_own table out.destination then Counts ToSelf
       else originate_by out (route_of table.routes out.destination)
@@ -159,7 +159,7 @@ module _ (ifaces : List IfaceValue) (table : NodeConfiguration) (identification 
 
   -- What follows a row for the packet p. Errors: network unreachable (RFC 1812, section 5.2.7.1),
   -- time exceeded (RFC 1812, section 5.3.1), port and protocol unreachable (RFC 792). A packet that
-  -- is sent on has a time to live one lower and a checksum computed anew (RFC 791, section 3.2).
+  -- is sent on has a time to live one lower and a new checksum (RFC 791, section 3.2).
   abbrev pub consequence_of : List ℕ → Row → Consequence
   consequence_of p BadHeader = Nothing
   consequence_of p BadDestination = Nothing

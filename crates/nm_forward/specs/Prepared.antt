@@ -16,7 +16,7 @@ consequence (prepared.Counts c) = Counts c
 consequence (prepared.Sends via twin) = Sends via twin.packet
 consequence (prepared.Originates via twin) = Originates via twin.packet
 
--- what a source hands over goes as it is, and is counted as such; or a packet with it is originated
+-- what a source gives goes as it is, and is counted as such; or a packet with it is originated
 abbrev pub handed_on : Handed → NodeStateValue → Reacted
 handed_on (handed.AsItIs via twin) n = concluded (Sends via twin.packet) (state_counted Raw n)
 handed_on (handed.InPacket p) n = concluded (consequence p) n

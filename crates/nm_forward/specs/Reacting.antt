@@ -14,8 +14,7 @@ abbrev pub sent_of : Option (ℕ × Twin) → Option (ℕ × List ℕ)
 sent_of None = None
 sent_of (Some s) = Some (s.0, s.1.packet)
 
--- what a reaction sends, at a node with these ports, is this; or its port drops this where it is
--- offered now
+-- what a reaction sends, at a node with these ports, is this; or its port would drop it now
 abbrev pub IsSent : List (Option PortValue) → Reaction → Option (ℕ × List ℕ) → Type 0
 IsSent ports sent.Nothing s = s ≡ None
 IsSent ports (sent.Send via twin) s = s ≡ Some (via, twin.packet)

@@ -1,4 +1,4 @@
--- What a node does with a packet that arrives, or that one of its sources hands over.
+-- What a node does with a packet that arrives, or that one of its sources makes.
 use Rattle.std.specs.Prelude.{ℕ, ◌==◌, ◌≤◌, if◌then◌else◌, List, [], length, Option, Some, None, slice_get}
 use Rattle.nm_base.specs.declared.event.Origin.{Origin}
 use Rattle.nm_base.specs.declared.event.Origin.TheVariants.{Arrival, Source as FromSource}
@@ -27,7 +27,7 @@ followed ifaces table n p row = concluded (consequence_of ifaces table n.identif
 unfoldable pub arrived : List IfaceValue → NodeConfiguration → NodeStateValue → List ℕ → Reacted
 arrived ifaces table n x = followed ifaces table n (cut_of x) (arrival_row table x)
 
--- the packet of a `cbr` source: its data, and where it has none not the octet that stands for them
+-- the packet of a `cbr` source: its data, but without data not the octet in their place
 abbrev pub datagram_of : CbrTraffic → List ℕ → Draft
 datagram_of c x = record {
   source = None;
@@ -37,7 +37,7 @@ datagram_of c x = record {
       (if c.flow.size == 0 then [] else x);
 }
 
--- the packet of an `echo` source, which hands over a whole ICMP message
+-- the packet of an `echo` source, from a whole ICMP message
 abbrev pub request_of : EchoTraffic → List ℕ → Draft
 request_of e x = record {
   source = None;
@@ -46,8 +46,8 @@ request_of e x = record {
   body = Whole x;
 }
 
--- A source of the node hands over a packet. The octets of a `raw` source go by its interface as
--- they are.
+-- A source of the node makes a packet. The octets of a `raw` source go by its interface as they
+-- are.
 abbrev pub handed : List IfaceValue → NodeConfiguration → NodeStateValue → Traffic → List ℕ
     → Reacted
 handed ifaces table n (Cbr c) x =
@@ -56,7 +56,7 @@ handed ifaces table n (Echo e) x =
     concluded (originate ifaces table n.identification (request_of e x)) n
 handed ifaces table n (Raw r) x = concluded (Sends r.via x) (state_counted count.Raw n)
 
--- only a source of the node hands over anything to it
+-- only a source of the node gives anything to it
 abbrev pub handed_by : TopologyValue → ℕ → NodeStateValue → Option Source → List ℕ → Reacted
 handed_by t v n None x = (n, None)
 handed_by t v n (Some s) x =
@@ -68,7 +68,7 @@ unfoldable pub reaction : TopologyValue → ℕ → NodeStateValue → Origin �
 reaction t v n (Arrival i) x = arrived t.ifaces (table_of t v) n x
 reaction t v n (FromSource j) x = handed_by t v n (slice_get t.sources j) x
 
--- what a source hands over fits a packet, with the headers that it gets
+-- what a source gives fits a packet, with the headers that it gets
 abbrev pub FitsHeaders : Traffic → List ℕ → Type 0
 FitsHeaders (Cbr c) x = length x ≤ MAX_PACKET_DATA
 FitsHeaders (Echo e) x = length x ≤ MAX_PAYLOAD

@@ -30,13 +30,13 @@ longest_below (suc n) routes address =
 abbrev pub longest_route : List Route → ℕ → Option Route
 longest_route routes address = longest_below 33 routes address
 
--- one of the routes, whose prefix holds the address and is the longest that does
+-- one of the routes; its prefix holds the address and is the longest that does
 pub record IsLongest (routes : List Route) (address : ℕ) (r : Route) : Type 0 where
   pub listed : Contains routes r
   pub holds : Holds address r
   pub longest : All (λ q. Holds address q → q.to.length ≤ r.to.length) routes
 
--- the route to an address, if there is one: there is one where any prefix holds the address
+-- the route to an address, if there is one: there is one if any prefix holds the address
 abbrev pub IsRouteTo : List Route → ℕ → Option Route → Type 0
 IsRouteTo routes address (Some r) = IsLongest routes address r
 IsRouteTo routes address None = All (λ q. ¬ Holds address q) routes
@@ -53,12 +53,12 @@ prefix_key n address = record { length = n; network = network n address }
 abbrev pub same_key : PrefixKey → PrefixKey → Bool
 same_key a b = (a.length == b.length) && (a.network == b.network)
 
--- where a prefix leads, by its key
+-- the interface of a prefix, by its key
 abbrev pub Vias : Type 0
 Vias = HashMap PrefixKey ℕ (BuildHasherDefault FoldHasher)
 
--- how routes are laid out: whether a prefix has so many bits, and where the first route to a prefix
--- leads
+-- how routes are laid out: whether a prefix has so many bits, and the interface of the first route
+-- to a prefix
 pub record IsLaidOut (routes : List Route) (occurs : List Bool) (vias : Vias) : Type 0 where
   pub lengths : (n address : ℕ) → n < 33 → slice_index_or occurs n false ≡ false
       → find (leads n address) routes ≡ None

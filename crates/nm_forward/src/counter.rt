@@ -6,10 +6,10 @@ ghost use Rattle.nm_forward.specs.Counter.{counter_name, counter_number};
 /// What a node counts. Each arrival raises the counter of the row that fits it, and what follows
 /// may raise another.
 ///
-/// With each stands its object of the MIBs, where there is one: of a system's traffic in the IP-MIB
+/// With each stands its object of the MIBs, if there is one: of a system's traffic in the IP-MIB
 /// (RFC 4293, ipSystemStatsTable, whose objects start with `ipSystemStats`, as those of
 /// ipIfStatsTable with `ipIfStats`), of ICMP in the same (icmpStatsTable and icmpMsgStatsTable), of
-/// UDP in the UDP-MIB (RFC 4113). No counter is ipSystemStatsInDelivers, what was handed to a
+/// UDP in the UDP-MIB (RFC 4113). No counter is ipSystemStatsInDelivers, what was given to a
 /// protocol: it is the sum of [`IcmpBad`](Counter::IcmpBad), [`Echo`](Counter::Echo),
 /// [`Icmp`](Counter::Icmp), [`UdpBad`](Counter::UdpBad), [`Udp`](Counter::Udp) and
 /// [`Port`](Counter::Port). Nor is one ipSystemStatsOutRequests, what protocols asked to send: it
@@ -40,7 +40,7 @@ pub enum Counter {
     IcmpBad,
     /// An echo request came for this node: icmpMsgStatsInPkts of type 8.
     Echo,
-    /// Another ICMP message came for this node: icmpMsgStatsInPkts of all else.
+    /// Another ICMP message came for this node: icmpMsgStatsInPkts of all other types.
     Icmp,
     /// The UDP test failed (RFC 768): udpInErrors.
     UdpBad,
@@ -54,12 +54,12 @@ pub enum Counter {
     Quiet,
     /// A packet was to be originated to an address of the node itself: no object.
     ToSelf,
-    /// A packet was to be originated to where no route leads: ipSystemStatsOutNoRoutes.
+    /// A packet was to be originated but had no route: ipSystemStatsOutNoRoutes.
     NoRoute,
     /// A packet was originated: ipSystemStatsOutTransmits, but for what was sent on and what
     /// [`Raw`](Counter::Raw) counts.
     Originated,
-    /// A source's octets were handed to an interface as they are: no object.
+    /// A source's octets went to an interface as they are: no object.
     Raw,
 }
 

@@ -21,11 +21,11 @@ use nm_topology::Topology;
 use std::alloc::Global;
 
 /// What the node does with a packet that arrives, as `react`. A packet that is sent on by an
-/// interface of which no record is wanted is lowered where it lies, if nobody else has its octets.
+/// interface without wanted records is lowered where it lies, if nobody else has its octets.
 ///
 /// # Errors
 ///
-/// The packet, where memory was refused. It and the state are as they were.
+/// The packet, if memory was refused. It and the state are as they were.
 #[tactic(auto, unfolding(crate::specs::Reaction::reaction, crate::specs::Reaction::arrived))]
 #[inline(always)]
 pub fn react_in_place(

@@ -16,7 +16,7 @@ use nm_topology::Topology;
 use nm_topology::topology::accepted_topologies_are_in_order;
 
 /// The route to an address is one of the routes, and its prefix holds the address and is the
-/// longest that does. There is one where any prefix holds the address.
+/// longest that does. There is one if any prefix holds the address.
 pub fn routes_are_longest()
     ensures { (routes : List Route) (address : ℕ)
         → IsRouteTo routes address (longest_route routes address) }
@@ -37,8 +37,8 @@ pub fn a_node_sends_by_its_own_interfaces(topology: &Topology)
     accepted_topologies_are_in_order(topology); // law: routes and sources lead by own interfaces
 }
 
-/// What a node sends is a packet where what comes to it is one, and a source hands over what fits:
-/// it has 1 to 65,535 octets.
+/// What a node sends is a packet if what comes to it is one, and the data of a source fit: it has 1
+/// to 65,535 octets.
 pub fn a_sent_packet_fits()
     ensures { (t : TopologyValue) (v : ℕ) (n : NodeStateValue) (o : Origin) (x : List ℕ)
         (s : ℕ × List ℕ) → 1 ≤ length x → length x ≤ MAX_PACKET_OCTETS → FitsOrigin t o x

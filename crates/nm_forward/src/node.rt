@@ -5,8 +5,8 @@ ghost use Rattle.nm_forward.specs.State.{Knows};
 use crate::state::NodeState;
 use nm_topology::Topology;
 
-/// The state of a node, and the topology that says of the node what its state knows. Nothing
-/// changes while they are looked at.
+/// The state of a node, and the topology that it comes from. Nothing changes while they are looked
+/// at.
 #[derive(Clone, Copy)]
 pub(crate) struct NodeView<'a> {
     pub topology: &'a Topology,

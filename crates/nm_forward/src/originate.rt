@@ -36,8 +36,8 @@ fn write(alloc: Global, header: &Ipv4Header, body: &Body<'_>) -> Result<Packet, 
     }
 }
 
-/// Prepares to originate a packet: not to an address of the node itself, and only where a route
-/// leads. It leaves by the route's interface.
+/// Prepares to originate a packet: not to an address of the node itself, and only along a route. It
+/// leaves by the route's interface.
 #[tactic(auto, unfolding(crate::specs::Originate::originate))]
 pub fn originate(
     alloc: Global,

@@ -1,4 +1,4 @@
-//! What is to be sent, and what a node is about to do.
+//! A packet to be sent, and what a node is about to do.
 
 ghost use Rattle.std.specs.Prelude.{◌≡◌};
 ghost use Rattle.nm_forward.specs.Prepared.{body_of};
@@ -20,7 +20,7 @@ pub enum Prepared {
     Originates(IfaceNo, Twin),
 }
 
-/// What follows a packet that a source hands over, with its memory taken.
+/// What follows a source's packet, with its memory taken.
 #[derive(Drop)]
 pub enum Handed {
     /// It goes by this interface as it is.

@@ -33,25 +33,25 @@ use nm_topology::Topology;
 use nm_topology::traffic::{Cbr, Traffic};
 use std::alloc::{AllocError, Global};
 
-/// The error where no route leads to the network (RFC 1812, section 5.2.7.1).
+/// The error without a route to the network (RFC 1812, section 5.2.7.1).
 const NO_NETWORK: MessageKind = MessageKind {
     message_type: DESTINATION_UNREACHABLE,
     code: NETWORK_UNREACHABLE,
 };
 
-/// The error where the protocol is unknown (RFC 792, page 4).
+/// The error for an unknown protocol (RFC 792, page 4).
 const NO_PROTOCOL: MessageKind = MessageKind {
     message_type: DESTINATION_UNREACHABLE,
     code: PROTOCOL_UNREACHABLE,
 };
 
-/// The error where nothing listens at the port (RFC 792, page 4).
+/// The error for a port at which nothing listens (RFC 792, page 4).
 const NO_PORT: MessageKind = MessageKind {
     message_type: DESTINATION_UNREACHABLE,
     code: PORT_UNREACHABLE,
 };
 
-/// The error where the time to live is over (RFC 1812, section 5.3.1).
+/// The error for a time to live that is over (RFC 1812, section 5.3.1).
 const EXPIRED: MessageKind = MessageKind {
     message_type: TIME_EXCEEDED,
     code: IN_TRANSIT,
@@ -70,19 +70,19 @@ pub enum Reaction {
     Pass(IfaceNo, Packet),
 }
 
-/// What the node does with a packet from this origin, as docs/RULES.md says. A packet that arrives
-/// is looked at row by row; what a source hands over is originated, or goes by the source's
-/// interface as it is. The octets of a packet that is sent on are copied once, and not at all where
-/// its port would drop it now. `ports` are those of the interfaces by their numbers, as far as they
-/// are here: they decide nothing else.
+/// What the node does with a packet from this origin, by docs/RULES.md. A packet that arrives is
+/// looked at row by row; the data of a source are originated, or go by the source's interface as
+/// they are. The octets of a packet that is sent on are copied once, and not at all if its port
+/// would drop it now. `ports` are those of the interfaces by their numbers, as far as they are
+/// here: they decide nothing else.
 ///
-/// The state is that of a node of this topology. A `cbr` source hands over its data, or one octet,
-/// which is not sent, where it has none; an `echo` source its whole ICMP message; a `raw` source a
-/// packet. They have to fit a packet: 65,507 octets of data, 65,515 of a message.
+/// The state is that of a node of this topology. A `cbr` source gives its data, or one octet, which
+/// is not sent, if it has none; an `echo` source its whole ICMP message; a `raw` source a packet.
+/// They have to fit a packet: 65,507 octets of data, 65,515 of a message.
 ///
 /// # Errors
 ///
-/// Where memory for the packet was refused. The state is as it was.
+/// If memory for the packet was refused. The state is as it was.
 #[tactic(auto, unfolding(crate::specs::Reaction::reaction))]
 #[inline(always)]
 pub fn react(
@@ -174,8 +174,8 @@ pub(crate) fn follow(
     Ok(reaction_of(sent))
 }
 
-/// The interface by which a packet of so many octets would be sent on, where its port would drop
-/// it now.
+/// The interface by which a packet of so many octets would be sent on, if its port would drop it
+/// now.
 #[inline(always)]
 fn refused_at(ports: &[Option<Port>], row: &Row<'_>, octets: usize) -> Option<IfaceNo>
     requires { octets ≤ MAX_PACKET_OCTETS }
@@ -225,7 +225,7 @@ fn prepare_consequence(
     }
 }
 
-/// Counts what was prepared, and hands over what is sent.
+/// Counts what was prepared, and gives what is sent.
 #[inline(always)]
 fn carry_out(state: &mut NodeState, prepared: Prepared) -> Option<(IfaceNo, Twin)>
     ensures { (state.new, sent_of result) ≡ concluded (consequence prepared) state.old }
@@ -244,8 +244,7 @@ fn carry_out(state: &mut NodeState, prepared: Prepared) -> Option<(IfaceNo, Twin
     }
 }
 
-/// What the node does with a packet that a source hands over. It takes none from a source of
-/// another node.
+/// What the node does with the packet of a source. It takes none from a source of another node.
 #[tactic(auto, unfolding(crate::specs::Reaction::reaction))]
 fn hand_over(
     alloc: Global,
@@ -304,7 +303,7 @@ fn accept_from_source(
     }
 }
 
-/// Counts what a source handed over, and hands over what is sent.
+/// Counts what a source gave, and gives what is sent.
 fn count_handed(state: &mut NodeState, handed: Handed) -> Option<(IfaceNo, Twin)>
     ensures { (state.new, sent_of result) ≡ handed_on handed state.old }
 {
@@ -317,7 +316,7 @@ fn count_handed(state: &mut NodeState, handed: Handed) -> Option<(IfaceNo, Twin)
     }
 }
 
-/// The datagram of a `cbr` source that hands over these data.
+/// The datagram of a `cbr` source with these data.
 fn datagram_body<'a>(cbr: &Cbr, packet: &'a Packet) -> Body<'a>
     requires { length packet.now ≤ MAX_PACKET_DATA }
     ensures value { body_of result ≡ (datagram_of cbr.now packet.now).body }

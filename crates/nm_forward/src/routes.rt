@@ -32,7 +32,7 @@ pub struct Routes {
     routes: Vec<Route>,
     /// Whether a prefix has so many bits.
     occurs: [bool; LENGTHS],
-    /// Where the first route to a prefix leads, by the prefix's key.
+    /// The interface of the first route to a prefix, by the prefix's key.
     vias: HashMap<PrefixKey, IfaceNo>,
 }
 
@@ -108,8 +108,8 @@ impl Routes {
         })
     }
 
-    /// The interface to which the route leads whose prefix is the longest that holds the address
-    /// (RFC 1812, section 5.2.4.3). It takes no memory.
+    /// The interface of the route with the longest prefix that holds the address (RFC 1812, section
+    /// 5.2.4.3). It takes no memory.
     pub fn look(&self, address: Address) -> Option<IfaceNo>
         ensures { result ≡ route_of self.now address }
     {

@@ -53,7 +53,7 @@ impl NodeState {
     ///
     /// # Errors
     ///
-    /// Where memory for its tables was refused.
+    /// If memory for its tables was refused.
     #[tactic(auto, unfolding(crate::specs::State::table_of))]
     pub fn new(alloc: Global, topology: &Topology, node: NodeNo) -> Result<Self, AllocError>
         requires { node < length topology.now.nodes }

@@ -37,7 +37,7 @@ frame_body Bye = BYE ∷ []
 abbrev pub frame_octets : Frame → List ℕ
 frame_octets f = to_be_bytes w32 (length (frame_body f)) ++ frame_body f
 
--- each field fits its octets: any version, partition, replica and channel may stand in a frame
+-- each field fits its octets: a frame may have any version, partition, replica and channel
 abbrev pub IsFrame : Frame → Type 0
 IsFrame (Hello h) =
     (h.version < 2 ^ 16) × (h.partition < 2 ^ 32) × (h.replica < 256)

@@ -14,8 +14,8 @@ pub data SessionStep : Type 0 where
   Gave : Frame → SessionStep
   Broke : SessionStep
 
--- Step by step: each frame taken is one that the session takes, each frame given is what it owes of
--- some book, which others may have changed since the step before.
+-- Step by step: each frame taken is one that the session takes, each frame given is one that it
+-- owes of some book, which others may have changed since the step before.
 abbrev pub Lives : SessionValue → List SessionStep → SessionValue → Type 0
 Lives s [] t = t ≡ s
 Lives s (Took f ∷ r) t = (m : SessionValue) × (taken s f ≡ Ok m) × Lives m r t
@@ -45,9 +45,9 @@ IsDue c due (Data d) = d.channel ≡ c → due ≡ Some d.number
 IsDue c due (Null n) = Unit {0}
 IsDue c due Bye = Unit {0}
 
--- Each message given on channel c has the number that the last Have on it stated, or the one after
--- that of the message given before: no number is left out, and none comes twice. None is due before
--- the first Have, and after a break.
+-- Each message given on channel c has the number of the last Have on it, or the one after that of
+-- the message given before: no number is left out, and none comes twice. None is due before the
+-- first Have, and after a break.
 abbrev pub AreConsecutive : ℕ → Option ℕ → List SessionStep → Type 0
 AreConsecutive c due [] = Unit {0}
 AreConsecutive c due (Took f ∷ r) = AreConsecutive c (due_taken c due f) r
@@ -61,12 +61,12 @@ due_after c due (Took f ∷ r) = due_after c (due_taken c due f) r
 due_after c due (Gave f ∷ r) = due_after c (due_given c due f) r
 due_after c due (Broke ∷ r) = due_after c None r
 
--- the cursor of channel c, where that is one of these
+-- the cursor of channel c, if that is one of these
 abbrev pub HasCursor : ℕ → Option ℕ → List ChannelOut → Type 0
 HasCursor c due os = AllByRecursion (λ o. o.channel ≡ c → o.cursor ≡ due) os
 
 -- The messages that a session gives on channel c over these steps have their numbers in order: from
--- the start of a session on; and from the cursor of one that has lived already, which then stands
+-- the start of a session on; and from the cursor of one that has lived already, which is then
 -- behind them.
 pub record AreNumbered (c : ℕ) (steps : List SessionStep) (last : SessionValue) : Type 0 where
   pub first : (t : TopologyValue) (me replica peer : ℕ)

@@ -35,7 +35,7 @@ have_owed b (i ∷ is) =
     if i.have_given || not (is_incoming b i.channel) then have_owed b is
     else Some (have_frame i.channel (held_on b i.channel))
 
--- whether the last null message said this
+-- whether the last null message had these fields
 abbrev pub is_last : Option NullMessage → NullMessage → Bool
 is_last None null = false
 is_last (Some last) null = (last.count == null.count) && (last.clock == null.clock)
@@ -71,7 +71,7 @@ is_told b kind o =
     is_outgoing b o.channel && is_cursor o.cursor (length (sent_over b o.channel))
     && is_last o.last_null (null_on kind b o.channel)
 
--- Bye, once the book is done and all was told
+-- Bye, once the book is done and all was sent
 abbrev pub bye_owed : BookValue → Promising → List ChannelOut → Option Frame
 bye_owed b kind os =
     if is_done (net_of b.topology) b.partition (replica_of b) && list_all (λ o. is_told b kind o) os

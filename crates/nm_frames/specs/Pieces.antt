@@ -10,7 +10,7 @@ use Rattle.nm_frames.specs.Reader.{ReaderValue, Feeds}
 abbrev pub new_reader : ReaderValue
 new_reader = record { rest = []; failed = false }
 
--- whether a piece has come: one for which memory was refused is fed again
+-- whether a piece has come: one is fed again if memory was refused for it
 abbrev pub has_come : Result Unit FrameFault → Bool
 has_come (Ok _) = true
 has_come (Err BadLength) = true

@@ -24,7 +24,7 @@ rest_octets rest = rest.cut ++ rest.open.items
 abbrev pub IsOfStream : FrameFault → Type 0
 IsOfStream e = (e ≡ BadLength) ⊎ (e ≡ BadKind) ⊎ (e ≡ BadBody)
 
--- these octets stand at a place of a block
+-- these octets are at a place of a block
 abbrev pub StandsAt : List ℕ → ℕ → List ℕ → Type 0
 StandsAt block at octets =
     (at + length octets ≤ length block) × (take (length octets) (drop at block) ≡ octets)
@@ -41,21 +41,21 @@ FindsWhole octets (Ok None) = (fault_shown octets ≡ None) × IsShort octets
 FindsWhole octets (Ok (Some size)) = IsWhole octets size × (1 ≤ size)
 FindsWhole octets (Err e) = IsOfStream e × (fault_shown octets ≡ Some e)
 
--- what octets at the place of a frame came to
+-- what octets at the place of a frame give
 abbrev pub FindsFrame : List ℕ → Result (Option (Frame × List ℕ)) FrameFault → Type 0
 FindsFrame octets (Ok None) = (fault_shown octets ≡ None) × IsShort octets
 FindsFrame octets (Ok (Some found)) = IsFrame found.0 × (octets ≡ frame_octets found.0 ++ found.1)
 FindsFrame octets (Err e) =
     (IsOfStream e × (fault_shown octets ≡ Some e)) ⊎ (e ≡ Memory)
 
--- The same of a call's answer, whose rest is lent.
+-- The same of a call's answer, with its rest lent.
 abbrev pub Found : {B : Type 0} → (B → List ℕ) → List ℕ → Result (Option (Frame × B)) FrameFault
     → Type 0
 Found now octets (Ok None) = FindsFrame octets (Ok None)
 Found now octets (Ok (Some found)) = FindsFrame octets (Ok (Some (found.0, now found.1)))
 Found now octets (Err e) = FindsFrame octets (Err e)
 
--- these frames stand before the rest and were added to a list
+-- these frames are before the rest and were added to a list
 pub record Cuts (octets rest : List ℕ) (before after : List Frame) : Type 0 where
   pub frames : List Frame
   pub added : after ≡ before ++ frames
@@ -87,9 +87,9 @@ shows_fault (Err BadBody) = true
 shows_fault (Err Failed) = true
 shows_fault (Err Memory) = false
 
--- What is left of a block once its frames were cut off and added to a list: the rest of it, where
--- it shows no fault; nothing, where it does; and the octets that were held before, where memory
--- was refused, and then no frame was added.
+-- What is left of a block once its frames were cut off and added to a list: its rest, if that shows
+-- no fault; nothing, if it does; and the octets that were held before, if memory was refused, and
+-- then no frame was added.
 abbrev pub LeavesOf : List ℕ → ℕ → List Frame → List Frame → List ℕ → Result Unit FrameFault
     → Type 0
 LeavesOf block held before after left (Ok _) =

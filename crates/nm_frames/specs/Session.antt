@@ -73,7 +73,7 @@ abbrev pub session_version : Option Version → Option Version → Version
 session_version None taken = next_version taken Two
 session_version (Some v) taken = next_version taken v
 
--- which replica a peer is whose Hello, if it was taken, told its number
+-- which replica a peer is, by the number in its Hello, if that was taken
 abbrev pub named_by : ℕ → Option ℕ → Option ReplicaName
 named_by partition None = None
 named_by partition (Some replica) = Some (record { partition = partition; replica = replica })
@@ -132,7 +132,7 @@ taken s f =
     else if is_there s.hello_taken then taken_later s f
     else taken_first s f
 
--- what a frame was for
+-- the use of a frame
 abbrev pub purpose : Frame → Taken
 purpose (Hello h) = Greeted
 purpose (Have h) = Cursor
@@ -142,7 +142,7 @@ purpose Bye = Ended
 
 -- ---- what a break forgets
 
--- the version that is offered then: the other one where a Hello was given and none taken
+-- the version that is offered then: the other one if a Hello was given and none taken
 abbrev pub offered_after : Option Version → Option Version → Version → Version
 offered_after None taken v = v
 offered_after (Some w) None v = other_version w

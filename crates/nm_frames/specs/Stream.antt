@@ -29,7 +29,7 @@ has_magic fields =
     && (slice_index fields 2 == slice_index MAGIC 2)
     && (slice_index fields 3 == slice_index MAGIC 3)
 
--- whether a body of so many octets fits its kind, where these are the fields
+-- whether a body of so many octets fits its kind, with these fields
 abbrev pub fits_kind : ℕ → ℕ → List ℕ → Bool
 fits_kind kind size fields =
     if kind == HELLO then (size == HELLO_OCTETS) && has_magic fields
@@ -38,7 +38,7 @@ fits_kind kind size fields =
     else if kind == NULL then size == NULL_OCTETS
     else size == BYE_OCTETS
 
--- the fault that octets at the place of a frame show: None where they show none so far
+-- the fault that octets at the place of a frame show: None if they show none so far
 abbrev pub fault_shown : List ℕ → Option FrameFault
 fault_shown octets =
     if nat_lt (length octets) LENGTH_OCTETS then None

@@ -1,4 +1,4 @@
--- What a peer was told, in the words of the book and not of the rules by which a session goes.
+-- What was sent to a peer, in the words of the book and not of the rules by which a session goes.
 use Rattle.std.specs.Prelude.{◌≡◌, ◌⊎◌, ℕ, ◌<◌, true, false, length, Option, Some, None}
 use Rattle.std.specs.List.{AllByRecursion}
 use Rattle.nm_model.specs.Certificate.{is_done}
@@ -15,39 +15,39 @@ use Rattle.nm_frames.specs.Session.{SessionValue, is_there}
 abbrev pub HasAsked : BookValue → ChannelIn → Type 0
 HasAsked b i = is_incoming b i.channel ≡ true → i.have_given ≡ true
 
--- the last null message said the same
+-- the last null message had the same fields
 abbrev pub HasSaid : Option NullMessage → NullMessage → Type 0
 HasSaid last null =
     (said : NullMessage) × (last ≡ Some said) × (said.count ≡ null.count)
     × (said.clock ≡ null.clock)
 
 -- All messages of this channel were given, and the promise of the moment, to a peer that held n of
--- them; one that says that it holds more waits.
+-- them; a peer whose count is greater waits.
 abbrev pub HasToldFrom : BookValue → Promising → ChannelOut → ℕ → Type 0
 HasToldFrom b kind o n =
     (length (sent_over b o.channel) < n)
     ⊎ ((n ≡ length (sent_over b o.channel)) × HasSaid o.last_null (null_on kind b o.channel))
 
--- the same once the peer has said what it holds
+-- the same once the peer's count has come
 abbrev pub HasTold : BookValue → Promising → ChannelOut → Type 0
 HasTold b kind o =
     is_outgoing b o.channel ≡ true → (n : ℕ) → o.cursor ≡ Some n → HasToldFrom b kind o n
 
--- the peer has said what it holds, and all was told
+-- the peer's count has come, and all was sent
 pub record IsAllTold (b : BookValue) (kind : Promising) (o : ChannelOut) : Type 0 where
   pub goes_out : is_outgoing b o.channel ≡ true
   pub all : o.cursor ≡ Some (length (sent_over b o.channel))
   pub promise : HasSaid o.last_null (null_on kind b o.channel)
 
--- all that a session is to tell of a book
+-- all that a session is to send of a book
 module _ (s : SessionValue) (b : BookValue) where
-  -- what there is to tell is told
+  -- what there is to send is sent
   pub record IsSilent : Type 0 where
-    -- it has greeted its peer
+    -- it has sent Hello
     pub greeted : is_there s.hello_given ≡ true
     -- has asked for each channel that comes in
     pub asked : AllByRecursion (HasAsked b) s.incoming
-    -- and has told all of each channel for which the peer has asked, its last promise too
+    -- and has sent all of each channel for which the peer has asked, its last promise too
     pub told : AllByRecursion (HasTold b (promising_of s)) s.outgoing
     -- the book has something left to do, or the peer has not asked for some channel
     pub goes_on : is_done (net_of b.topology) b.partition (replica_of b) ≡ true
@@ -61,14 +61,14 @@ module _ (s : SessionValue) (b : BookValue) where
     pub done : is_done (net_of b.topology) b.partition (replica_of b) ≡ true
     -- each channel was asked for
     pub asked : AllByRecursion (HasAsked b) s.incoming
-    -- and told, its last promise too
+    -- and sent, its last promise too
     pub told : AllByRecursion (IsAllTold b (promising_of s)) s.outgoing
 
 -- the peer holds n messages of this channel, and no null message: all from there on is owed
 abbrev pub IsOwedFrom : ℕ → ℕ → ChannelOut → Type 0
 IsOwedFrom c n o = o.channel ≡ c → (o.cursor ≡ Some n) × (o.last_null ≡ None)
 
--- nothing was said of this channel yet
+-- nothing of this channel was sent yet
 abbrev pub IsUnasked : ChannelIn → Type 0
 IsUnasked i = i.have_given ≡ false
 

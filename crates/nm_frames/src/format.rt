@@ -1,9 +1,9 @@
-//! The kinds of frames, where their fields stand, and how many octets they have, each named once.
+//! The kinds of frames, the places of their fields, and their lengths in octets, each named once.
 //!
 //! A frame is the length of its body and the body, and that is a kind and the kind's fields. All
 //! numbers are big-endian. [`laws`](crate::laws) says which kinds and how many octets these are.
 
-/// The kinds of frames, as a body's first octet says them. No frame has another one.
+/// The kinds of frames, as the first octet of a body. No frame has another one.
 pub mod kind {
     /// Who speaks.
     pub const HELLO: u8 = 1;
@@ -21,7 +21,7 @@ pub mod kind {
     pub const BYE: u8 = 5;
 }
 
-/// Where the fields of a frame stand, in octets from the front of its body.
+/// The places of a frame's fields, in octets from the front of its body.
 pub mod field {
     pub const KIND: usize = 0;
 
@@ -43,17 +43,17 @@ pub mod field {
     /// Of Have, Data and Null.
     pub const CHANNEL: usize = 1;
 
-    /// Of Have and Null how many messages, of Data the number of the message.
+    /// Of Have and Null the number of messages, of Data the number of the message.
     pub const COUNT: usize = 5;
 
-    /// Of Data when the packet arrives, of Null the clock.
+    /// Of Data the time at which the packet arrives, of Null the clock.
     pub const TIME: usize = 13;
 
     /// Of Data, up to its end.
     pub const PACKET: usize = 21;
 }
 
-/// The magic octets of a Hello, by which a stranger is told apart.
+/// The magic octets of a Hello, which show a stranger.
 pub const MAGIC: [u8; 4] = *b"NMS1";
 
 /// The octets of a length, which does not count itself.

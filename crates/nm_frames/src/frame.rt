@@ -1,4 +1,4 @@
-//! Frames: what the two ends of a connection tell each other.
+//! Frames: what the two ends of a connection send each other.
 
 use crate::format::DIGEST_OCTETS;
 use nm_base::{ChanNo, PartNo};
@@ -21,7 +21,7 @@ pub struct Have {
     pub count: u64,
 }
 
-/// What one end of a connection tells the other.
+/// What one end of a connection sends the other.
 #[derive(Drop)]
 pub enum Frame {
     Hello(Hello),

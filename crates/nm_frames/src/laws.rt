@@ -41,7 +41,7 @@ pub fn one_stream()
 {}
 
 /// A fault is decided by its octet and no earlier one: octets that end before it show none. It
-/// stays whatever octets follow.
+/// stays, whatever octets follow.
 pub fn faults_show_at_their_octet()
     ensures decided { (octets : List ℕ) (e : FrameFault) → fault_shown octets ≡ Some e
         → (k : ℕ) → fault_shown (take k octets)
@@ -51,7 +51,7 @@ pub fn faults_show_at_their_octet()
 {}
 
 /// After any pieces, whatever the answers, the frames are those of the stream that came. The reader
-/// has failed exactly where the stream's rest shows a fault.
+/// has failed exactly if the stream's rest shows a fault.
 pub fn any_pieces_are_the_stream()
     ensures { (pieces : List (List ℕ × Result Unit FrameFault)) (reader : ReaderValue)
         (frames : List Frame) → FeedsAll new_reader [] pieces reader frames
@@ -66,23 +66,23 @@ pub fn cuts_do_not_matter()
         → (fs ≡ gs) × (one ≡ other) }
 {}
 
-/// A session that owes nothing, and has not said Bye, has greeted its peer, has asked for each
-/// channel that comes in, and has told all of each channel for which the peer has asked, its last
-/// promise too; and the book has something left to do, or the peer has not asked for some channel.
-/// So what is there to tell is told.
+/// A session that owes nothing, and has not sent Bye, has sent Hello, has asked for each incoming
+/// channel, and has sent all of each channel for which the peer has asked, its last promise too;
+/// and the book has something left to do, or the peer has not asked for some channel. So all that
+/// there is to send is sent.
 pub fn a_silent_session_has_told_all()
     ensures { (s : SessionValue) (b : BookValue) → owed s b ≡ None → s.bye_given ≡ false
         → IsSilent s b }
 {}
 
 /// Bye comes last, and once: nothing is left for the book to do, and each channel was asked for and
-/// told, its last promise too.
+/// sent, its last promise too.
 pub fn bye_comes_last()
     ensures { (s : SessionValue) (b : BookValue) → owed s b ≡ Some Bye → MayLeave s b }
 {}
 
 /// After a Have all that follows is owed, and the promise too, whatever was given before. After a
-/// break nothing counts as said, and the session greets anew.
+/// break nothing counts as sent, and the session begins at Hello again.
 pub fn what_was_lost_is_owed_again()
     ensures asked { (s t : SessionValue) (h : HaveValue) → taken s (Have h) ≡ Ok t
         → AllByRecursion (IsOwedFrom h.channel h.count) t.outgoing }
@@ -92,8 +92,8 @@ pub fn what_was_lost_is_owed_again()
 {}
 
 /// Over any frames taken and given, and breaks, each message that a session gives on a channel has
-/// the number that the peer's last Have stated, or the one after that of the message given before.
-/// A session that has lived already goes on from its cursor.
+/// the number of the peer's last Have, or the one after that of the message given before. A session
+/// that has lived already goes on from its cursor.
 pub fn messages_are_consecutive()
     ensures { (channel : ℕ) (steps : List SessionStep) (last : SessionValue)
         → AreNumbered channel steps last }
@@ -113,7 +113,7 @@ pub fn magic_octets()
     ensures { format.MAGIC ≡ 0x4e ∷ 0x4d ∷ 0x53 ∷ 0x31 ∷ [] }
 {}
 
-/// How many octets the length of a frame has, a digest, and the bodies of the kinds, as numbers: of
+/// As numbers: how many octets the length of a frame has, a digest, and the bodies of the kinds; of
 /// a message's body, those before its packet.
 pub fn frame_sizes()
     ensures length { format.LENGTH_OCTETS ≡ 4 }
@@ -133,8 +133,8 @@ pub fn greatest_frame()
     ensures frame { limits.MAX_FRAME_OCTETS ≡ format.LENGTH_OCTETS + limits.MAX_BODY_OCTETS }
 {}
 
-/// The octets of frames, written out: the length of what follows it, the kind, and the fields,
-/// whose greatest octets come first.
+/// The octets of frames, written out: the length of what follows it, the kind, and the fields, with
+/// the greatest octets first.
 pub fn octets_of_frames()
     ensures hello { frame_octets (hello_frame 2 3 1 (replicate 32 9))
         ≡ 0 ∷ 0 ∷ 0 ∷ 44 ∷ 1 ∷ 78 ∷ 77 ∷ 83 ∷ 49 ∷ 0 ∷ 2 ∷ 0 ∷ 0 ∷ 0 ∷ 3 ∷ 1
@@ -151,7 +151,7 @@ pub fn octets_of_frames()
 {}
 
 /// What a session takes, on one that is written out. The first frame is a Hello of version 1 or 2,
-/// of the same topology, of replica 0 or 1 of the peer; and no later one is a Hello. A Have is of a
+/// of the same topology, of replica 0 or 1 of the peer; no later one is a Hello. A Have is of a
 /// channel that goes to the peer, a message of one that comes from it. After Bye nothing is taken.
 pub fn what_a_session_takes()
     ensures first { (taken session (hello_frame 1 0 0 digest) ≡ Ok (greeted One))
@@ -180,9 +180,8 @@ pub fn what_a_session_takes()
         × (taken (record s { bye_taken = true }) f ≡ Err fault.Order) }
 {}
 
-/// In which version a session greets, on one that is written out: in version 2 at first, and in 1
-/// to a peer that greeted in 1. After a break to which no Hello of the peer had come it offers the
-/// other version, and else version 2 again.
+/// The version of a session's Hello, on one that is written out: 2 at first, and 1 to a peer whose
+/// Hello had 1. After a break before the peer's Hello it is the other version, and else 2 again.
 pub fn what_a_session_offers()
     ensures first { (b : BookValue) → (owed session b ≡ Some (own_hello 2))
         × (owed (greeted Two) b ≡ Some (own_hello 2))

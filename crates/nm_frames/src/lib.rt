@@ -1,4 +1,4 @@
-//! Frames: what replicas of two partitions tell each other over a connection, octet by octet, and
+//! Frames: what replicas of two partitions send each other over a connection, octet by octet, and
 //! what a connection owes next.
 #![tactic(auto)]
 

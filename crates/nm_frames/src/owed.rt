@@ -45,7 +45,7 @@ fn null_of(book: &Book, version: Version, channel: ChanNo) -> Option<Null>
     }
 }
 
-/// Whether the last null message said the same.
+/// Whether the last null message had the same fields.
 fn is_last(last: &Option<Null>, null: &Null) -> bool
     ensures { result ≡ is_last last.now null.now }
 {

@@ -95,8 +95,8 @@ fn hello_of(body: &[u8]) -> Hello
     }
 }
 
-/// The message of these octets after its length, which stand at this place of a block. Its packet
-/// is cut off the block, with no copy.
+/// The message of these octets after its length, at this place of a block. Its packet is cut off
+/// the block, with no copy.
 fn data_of(alloc: Global, block: &Bytes, at: usize, body: &[u8]) -> Result<Data, AllocError>
     // The body has the length of a Data frame, and its place.
     requires size { (DATA_HEADER_OCTETS < length body.now) × (length body.now ≤ MAX_BODY_OCTETS) }
@@ -125,7 +125,7 @@ fn data_of(alloc: Global, block: &Bytes, at: usize, body: &[u8]) -> Result<Data,
     })
 }
 
-/// The frame of these octets after its length, which stand at this place of a block.
+/// The frame of these octets after its length, at this place of a block.
 fn frame_of(alloc: Global, block: &Bytes, at: usize, body: &[u8]) -> Result<Frame, AllocError>
     requires place { StandsAt block.now at body.now }
     requires fits { length block.now < 2 ^ 64 }
@@ -153,7 +153,7 @@ fn frame_of(alloc: Global, block: &Bytes, at: usize, body: &[u8]) -> Result<Fram
     }
 }
 
-/// How many octets after its length the frame at the front of these has, or `None` where they are
+/// How many octets after its length the frame at the front of these has, or `None` if they are
 /// short.
 ///
 /// # Errors
@@ -185,12 +185,12 @@ pub(crate) fn whole_frame(octets: &[u8]) -> Result<Option<usize>, FrameFault>
     Ok(Some(size))
 }
 
-/// The frame at this place of a block and the place after it, or `None` where the octets from there
-/// on are short.
+/// The frame at this place of a block and the place after it, or `None` if the octets from there on
+/// are short.
 ///
 /// # Errors
 ///
-/// The fault that the octets show, or `Memory` where the packet's was refused.
+/// The fault that the octets show, or `Memory` if the packet's was refused.
 pub(crate) fn next_frame(
     alloc: Global,
     block: &Bytes,

@@ -72,8 +72,8 @@ fn cut(alloc: Global, block: &Bytes, frames: &mut Vec<Frame>) -> Result<usize, F
     Ok(at)
 }
 
-/// Cuts all frames off a block and puts them into a list. What is left of the block, of which the
-/// first octets were held before.
+/// Cuts all frames off a block and puts them into a list. Gives what is left of the block, which
+/// begins with the octets held before.
 fn cut_block(
     alloc: Global,
     block: Bytes,

@@ -39,7 +39,7 @@ impl Rest {
     ///
     /// # Errors
     ///
-    /// `AllocError` where memory was refused. The octets are as before.
+    /// `AllocError` if memory was refused. The octets are as before.
     pub(crate) fn add(&mut self, alloc: Global, piece: &[u8]) -> Result<(), AllocError>
         ensures whole { OnOk result (self.new.open.items ≡ rest_octets self.old ++ piece.now) }
         ensures moved { OnOk result (self.new.cut ≡ []) }
@@ -62,7 +62,7 @@ impl Rest {
     ///
     /// # Errors
     ///
-    /// `AllocError` where memory for the count of owners was refused. So many octets are kept then,
+    /// `AllocError` if memory for the count of owners was refused. So many octets are kept then,
     /// those that were there before a piece was added.
     pub(crate) fn freeze(&mut self, alloc: Global, held: usize) -> Result<Bytes, AllocError>
         ensures block { IfOk result (λ block. block ≡ self.old.open.items) }

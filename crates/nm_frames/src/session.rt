@@ -38,7 +38,7 @@ pub struct Session {
     outgoing: Vec<ChannelOut>,
     hello_given: Option<Version>,
     hello_taken: Option<Version>,
-    /// The replica that the peer's Hello told.
+    /// The replica in the peer's Hello.
     peer_replica: Option<u8>,
     /// The version of the next Hello, if the peer's does not lower it.
     offered: Version,
@@ -83,7 +83,7 @@ impl Session {
     ///
     /// # Errors
     ///
-    /// Where memory was refused.
+    /// If memory was refused.
     pub fn new(
         alloc: Global,
         topology: &Topology,
@@ -140,7 +140,7 @@ impl Session {
         }
     }
 
-    /// Whether the peer will say no more.
+    /// Whether the peer has sent Bye.
     pub fn bye_taken(&self) -> bool
         ensures { result ≡ self.now.bye_taken }
     {
@@ -226,7 +226,7 @@ impl Session {
     ///
     /// # Errors
     ///
-    /// Where memory for a message was refused. The session is unchanged then.
+    /// If memory for a message was refused. The session is unchanged then.
     pub fn next_out(&mut self, book: &Book) -> Result<Option<Frame>, AllocError>
         ensures owed { IfOk result (λ f. f ≡ owed self.old book.now) }
         ensures given { IfOk result (λ f. self.new ≡ given_maybe self.old f) }
@@ -243,8 +243,8 @@ impl Session {
     ///
     /// # Errors
     ///
-    /// `Order` where the first frame is no Hello, at a second Hello and after Bye. Of a Hello the
-    /// first of `Version`, `Topology` and `Peer`. `Channel` where a channel does not run in that
+    /// `Order` if the first frame is no Hello, at a second Hello and after Bye. Of a Hello the
+    /// first of `Version`, `Topology` and `Peer`. `Channel` if a channel does not run in that
     /// direction. The session is unchanged then.
     pub fn take(&mut self, frame: Frame) -> Result<Taken, SessionFault>
         ensures taken { MatchResult result (λ t. taken self.old frame ≡ Ok self.new)

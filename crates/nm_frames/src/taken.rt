@@ -1,16 +1,16 @@
-//! What a frame that a session took was for.
+//! The use of a frame that a session took.
 
 use nm_book::message::ChannelMessage;
 
-/// What a frame was for.
+/// The use of a frame.
 #[derive(Drop)]
 pub enum Taken {
-    /// The peer has said who it is.
+    /// It says who the peer is.
     Greeted,
-    /// The peer has said how many messages of a channel it holds.
+    /// It says how many messages of a channel the peer holds.
     Cursor,
-    /// What the peer tells of a channel, for the book to accept.
+    /// It is for the book, which accepts it on a channel.
     ForBook(ChannelMessage),
-    /// The peer will say no more.
+    /// The peer sends no more.
     Ended,
 }

@@ -139,7 +139,7 @@ fn write_null(channel: ChanNo, count: u64, clock: Time, out: &mut Vec<u8>) -> Re
 ///
 /// # Errors
 ///
-/// Where memory was refused. The list is unchanged then.
+/// If memory was refused. The list is unchanged then.
 pub fn write_frame(frame: &Frame, out: &mut Vec<u8>) -> Result<(), AllocError>
     ensures ok { OnOk result (out.new.items ≡ out.old.items ++ frame_octets frame.now) }
     ensures fits { IsFrame frame.now }

@@ -27,7 +27,7 @@ transmission_in (Started s) = Some s
 transmission_in Queued = None
 transmission_in (Dropped t) = None
 
--- the packet that is handed back
+-- the packet that is given back
 abbrev pub handed_back : Offered → Option Twin
 handed_back (Started s) = None
 handed_back Queued = None

@@ -46,7 +46,7 @@ with_port p after room = record p {
   room = room;
 }
 
--- port i of these drops the packet where it is offered: it is busy, and there is no room behind it
+-- port i of these would drop the packet now: it is busy, and there is no room behind it
 abbrev pub IsRefusedAt : List (Option PortValue) → ℕ → List ℕ → Type 0
 IsRefusedAt ports i packet = (p : PortValue) × (slice_get ports i ≡ Some (Some p))
     × (is_refused (has_room p.limit) packet p.busy ≡ true)

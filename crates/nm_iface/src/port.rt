@@ -106,9 +106,9 @@ impl Model for Port {
 }
 
 impl Port {
-    /// An idle port behind which so many packets may wait, with so many octets where these are
-    /// limited too, over a link with this rate in bits per second and this delay in nanoseconds. It
-    /// takes no memory.
+    /// An idle port with room for so many packets behind the one under way, and for so many octets
+    /// if these are limited too, over a link with this rate in bits per second and this delay in
+    /// nanoseconds. It takes no memory.
     pub fn new(alloc: Global, limit: u16, octet_limit: Option<u32>, rate: u64, delay: u64) -> Self
         // The rate and the delay are within their limits.
         requires least { 1 ≤ rate }
@@ -151,8 +151,8 @@ impl Port {
     ///
     /// # Errors
     ///
-    /// `AllocError` where the queue could not grow. Nothing changed then, but that there may be
-    /// more room.
+    /// `AllocError` if the queue could not grow. Nothing changed then, but that there may be more
+    /// room.
     #[inline(always)]
     pub fn reserve_one(&mut self) -> Result<(), AllocError>
         ensures same { self.new ≡ record self.old { room = self.new.room } }
@@ -164,8 +164,8 @@ impl Port {
 
     /// A packet is offered.
     ///
-    /// An idle port starts it. Behind a busy one it waits where fewer packets than the limit wait,
-    /// and their octets and its own are at most the limit in octets, if there is one; else it is
+    /// An idle port starts it. Behind a busy one it waits if fewer packets than the limit wait, and
+    /// their octets and its own are at most the limit in octets, if there is one; else it is
     /// dropped. It takes no memory.
     #[inline(always)]
     pub fn offer(&mut self, now: Time, twin: Twin) -> Offered
@@ -183,7 +183,7 @@ impl Port {
         ensures start { IfSome (transmission_in result)
             (IsTransmission self.old.rate self.old.delay now twin.packet) }
 
-        // A packet that is dropped is handed back. At most one place is taken.
+        // A packet that is dropped is given back. At most one place is taken.
         ensures back { handed_back result
             ≡ if is_refused (has_room self.old.limit) twin.packet self.old.busy
             then Some twin else None }
@@ -204,8 +204,8 @@ impl Port {
         Offered::Dropped(twin)
     }
 
-    /// A packet is offered of which no record is to be kept, as by `offer`: the transmission that
-    /// starts, if one does. It takes no memory.
+    /// A packet without a record is offered, as by `offer`: the transmission that starts, if one
+    /// does. It takes no memory.
     #[inline(always)]
     pub fn offer_alone(&mut self, now: Time, packet: Packet) -> Option<Start>
         // What the port transmits is not recorded. The time is within its limit, and there is

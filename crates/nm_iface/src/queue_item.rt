@@ -5,7 +5,7 @@ ghost use Rattle.std.proofs.Props.{props};
 
 use nm_base::{Packet, Twin};
 
-/// A packet that waits or is transmitted, and its copy, where it is to be recorded.
+/// A packet that waits or is transmitted, and its copy, if it is to be recorded.
 #[derive(Drop)]
 pub struct QueueItem {
     pub packet: Packet,
@@ -26,7 +26,7 @@ impl QueueItem {
         }
     }
 
-    /// A packet of which no record is to be kept.
+    /// A packet without a record.
     #[inline(always)]
     pub fn alone(packet: Packet) -> Self
         ensures { result.packet ≡ packet }

@@ -17,15 +17,15 @@ Accepts old new (Err Memory) taken = (taken.answer ≡ model.New) × (new ≡ ol
 Accepts old new (Ok a) taken = (Some taken.answer ≡ answer (Ok a)) × (new ≡ taken.after)
 Accepts old new (Err f) taken = (Some taken.answer ≡ reason f) × (new ≡ taken.after)
 
--- the join where there is no fault, and else the fault, where nothing changed; or messages of
--- the other found no memory
+-- the join if there is no fault, and else the fault, and nothing changed; or messages of the other
+-- found no memory
 abbrev pub Joins : Know (List ℕ) → Know (List ℕ) → Know (List ℕ) → Result Unit KnowFault → Type 0
 Joins old new other (Ok _) = (join_fault same_octets old other ≡ None) × (new ≡ join old other)
 Joins old new other (Err Memory) =
     (join_fault same_octets old other ≡ None) × (length old.list < length other.list) × (new ≡ old)
 Joins old new other (Err f) = (join_fault same_octets old other ≡ reason f) × (new ≡ old)
 
--- whether two can be joined, and else the model's fault, which memory is not
+-- whether two can be joined, and else the model's fault; that is never memory
 abbrev pub Finds : Know (List ℕ) → Know (List ℕ) → Result Unit KnowFault → Type 0
 Finds a b (Ok _) = join_fault same_octets a b ≡ None
 Finds a b (Err f) = (is_some (reason f) ≡ true) × (join_fault same_octets a b ≡ reason f)

@@ -1,4 +1,4 @@
-//! How knowledge answers to what it is told.
+//! The answers of knowledge to messages and null messages.
 
 ghost use Rattle.std.specs.Prelude.{◌≡◌};
 ghost use Rattle.nm_knowledge.specs.Answers.{know_fault_number};
@@ -18,7 +18,7 @@ pub enum Accepted {
     Raised,
 }
 
-/// Why knowledge refused what it was told. It is unchanged then.
+/// Why knowledge refused a message or a null message. It is unchanged then.
 #[derive(Clone, Copy, Debug, PartialEq, Eq, Error)]
 pub enum KnowFault {
     /// A message or a null message past the next one: some before it have not come. So many have.
@@ -36,8 +36,8 @@ pub enum KnowFault {
     /// The memory for one more message was refused, or 2^50 messages are known.
     #[error("out of memory for messages")]
     Memory,
-    /// A null message whose clock is after the known message of this number, which it says comes at
-    /// or after its clock.
+    /// A null message whose clock is after the known message of this number, which it promises not
+    /// before its clock.
     #[error("a null message contradicts message {count}")]
     Contrary { count: u64 },
 }

@@ -5,8 +5,8 @@ use nm_base::Time;
 use std::marker::Model;
 
 /// What knowledge gains by a merge, with all its memory: `Know::reserve_merge` makes it, and
-/// `Know::take` takes it. A clause sees the list of (time, packet) that stands in place of the one
-/// that is known, if there is one, and the clock.
+/// `Know::take` takes it. A clause sees the list of (time, packet) that replaces the known one, if
+/// there is one, and the clock.
 #[derive(Drop)]
 pub struct Gain {
     pub(crate) messages: Option<Messages>,

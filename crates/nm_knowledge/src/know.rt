@@ -78,7 +78,7 @@ impl Know {
         self.clock
     }
 
-    /// The message of this number and its time of arrival, or `None` where it is not known.
+    /// The message of this number and its time of arrival, or `None` if it is not known.
     pub fn message(&self, number: u64) -> Option<(Time, &Packet)>
         ensures { option_map (λ m. (m.0, m.1.now)) result ≡ nth self.now.list number }
     {
@@ -90,7 +90,7 @@ impl Know {
     ///
     /// # Errors
     ///
-    /// Where memory for the list was refused.
+    /// If memory for the list was refused.
     pub fn copy(&self, alloc: Global) -> Result<Self, AllocError>
         ensures { IfOk result (λ copy. copy ≡ self.now) }
     {
@@ -101,8 +101,8 @@ impl Know {
         })
     }
 
-    /// What `accept_data` answers where there is memory: `New` where the message is the next one.
-    /// It takes no memory, and changes nothing.
+    /// What `accept_data` answers if there is memory: `New` if the message is the next one. It
+    /// takes no memory, and changes nothing.
     ///
     /// # Errors
     ///
@@ -143,10 +143,10 @@ impl Know {
     ///
     /// # Errors
     ///
-    /// `Gap` where messages before it have not come. `Differs` where another message of this number
-    /// is known. For the next message: `Late` where it is before the clock, `NotRising` where it is
-    /// not after the last message, and `Memory` where the memory for it was refused or 2^50
-    /// messages are known. A refusal changes nothing.
+    /// `Gap` if messages before it have not come. `Differs` if another message of this number is
+    /// known. For the next message: `Late` if it is before the clock, `NotRising` if it is not
+    /// after the last message, and `Memory` if the memory for it was refused or 2^50 messages are
+    /// known. A refusal changes nothing.
     pub fn accept_data(
         &mut self,
         number: u64,
@@ -185,8 +185,8 @@ impl Know {
     ///
     /// # Errors
     ///
-    /// `Gap` where messages before number `count` have not come. `Contrary` where message `count`
-    /// is known and is before `clock`. A refusal changes nothing.
+    /// `Gap` if messages before number `count` have not come. `Contrary` if message `count` is
+    /// known and is before `clock`. A refusal changes nothing.
     pub fn accept_null(&mut self, count: u64, clock: Time) -> Result<Accepted, KnowFault>
         ensures answer { answer result ≡ Some (accept_null self.old count clock).answer }
         ensures after { self.new ≡ (accept_null self.old count clock).after }
@@ -214,9 +214,9 @@ impl Know {
     ///
     /// # Errors
     ///
-    /// `Differs` names the first number at which both have a message and these differ. Where there
-    /// is none, `Late` names the clock of one that is after the first message that the other has
-    /// past its end.
+    /// `Differs` names the first number at which both have a message and these differ. If there is
+    /// none, `Late` names the clock of one that is after the first message that the other has past
+    /// its end.
     pub fn check_merge(&self, other: &Know) -> Result<(), KnowFault>
         ensures { Finds self.now other.now result }
     {
@@ -243,7 +243,7 @@ impl Know {
     ///
     /// # Errors
     ///
-    /// Where memory for messages was refused. There are some that only the other has then.
+    /// If memory for messages was refused. There are some that only the other has then.
     pub fn reserve_merge(&self, other: &Know) -> Result<Gain, AllocError>
         requires { join_fault same_octets self.now other.now ≡ None }
         ensures joins { IfOk result (λ gain. gained self.now gain ≡ join self.now other.now) }
@@ -284,12 +284,12 @@ impl Know {
     ///
     /// # Errors
     ///
-    /// Those of `check_merge`, or `Memory` where memory was refused. A refusal changes nothing.
+    /// Those of `check_merge`, or `Memory` if memory was refused. A refusal changes nothing.
     pub fn merge(&mut self, other: &Know) -> Result<(), KnowFault>
         ensures joins { Joins self.old self.new other.now result }
         ensures merges { Merges self.old self.new other.now result }
     {
-        // Where there is no fault, and only there, the two are compatible.
+        // If there is no fault, and only there, the two are compatible.
         what_is_known(self);
         what_is_known(other);
         packets_are_told_apart();

@@ -11,18 +11,18 @@ ghost use Rattle.nm_knowledge.specs.Order.{Tidings, AreAccepted, accept_all};
 use crate::know::Know;
 /// The laws of the model's knowledge: what a message and a null message add to it; that a join of
 /// two is the least that both are under, the same in any order and however often; and that two are
-/// not joined exactly where they contradict each other.
+/// not joined exactly if they contradict each other.
 pub use nm_model::knowledge::{accept_laws, join_faults_are_right, join_laws, under_laws};
 
-/// Packets are the same exactly where their octets are.
+/// Packets are the same exactly if their octets are.
 pub fn packets_are_told_apart()
     ensures same { IsReflexive same_octets }
     ensures apart { TellsApart same_octets }
 {}
 
 /// The order in which messages and null messages are accepted does not matter, nor how often each
-/// is: two lists of the same ones, each of which is accepted all along, leave the same knowledge. A
-/// refusal changes nothing, so what was refused may stand between them.
+/// is: two lists of the same ones, all accepted all along, leave the same knowledge. A refusal
+/// changes nothing, so a refused one may be between them.
 pub fn order_does_not_matter<P>()
     ensures { (same : P → P → Bool) → TellsApart same → (a : Knowledge P) → IsKnow a
         → (k l : List (Tidings P))

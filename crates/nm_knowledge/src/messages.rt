@@ -23,7 +23,8 @@ const BLOCK_LEN: usize = 256;
 #[derive(Drop)]
 pub(crate) struct Messages {
     full: Vec<Arc<Vec<(Time, Packet)>>>,
-    /// The messages behind the full blocks, at most as many as a block has.
+    /// The messages behind the full blocks, at most as many as a block has. It is no `Arc`: by its
+    /// type no copy can share it.
     last: Vec<(Time, Packet)>,
 }
 

@@ -14,7 +14,7 @@ use Rattle.nm_frames.specs.Version.{version_number}
 use Rattle.nm_known.specs.declared.known_fault.KnownCause.{KnownCause}
 use Rattle.nm_known.specs.declared.known_fault.KnownCause.TheVariants.{Topology, Form, Failed}
 
--- whose knowledge it is
+-- which replica's knowledge it is
 abbrev pub replica_hello : BookValue → Frame
 replica_hello b = hello_frame (version_number Two) b.partition b.replica b.topology.digest
 
@@ -31,7 +31,7 @@ channel_frames c k = message_frames c 0 k.list ++ null_frame c (length k.list) k
 abbrev pub channel_known : BookValue → ℕ → Know (List ℕ)
 channel_known b c = slice_index_or b.knows c nothing_known
 
--- which is told where it comes in
+-- which is in the file if it comes in
 abbrev pub told_of : BookValue → ℕ → List Frame
 told_of b c = if is_incoming b c then channel_frames c (channel_known b c) else []
 
@@ -83,7 +83,7 @@ TellsOnly b text = (other : BookValue) → IsOfReplica b other → text ≡ know
 abbrev pub IsNoFile : BookValue → List ℕ → Type 0
 IsNoFile b text = (other : BookValue) → IsOfReplica b other → text ≢ known_octets other
 
--- what a fault says of a text that was read, where the text is told
+-- the meaning of a fault for a text that was read, if the text is known
 abbrev pub ExplainsText : BookValue → Option (List ℕ) → Fault KnownCause → Type 0
 ExplainsText b text Memory = Unit {0}
 ExplainsText b text (Refused Form) = IfSome text (IsNoFile b)

@@ -40,8 +40,8 @@ IsAfter b n (ExpectsChannel c) =
     (n ≤ c) × (c < length b.topology.receivers) × (is_incoming b c ≡ true) × ComesNone b n c
 IsAfter b n ExpectsEnd = ComesNone b n (length b.topology.receivers)
 
--- These frames stand at the front of the file of what the book knows by now, and this comes next:
--- of a channel its further messages and its null message.
+-- These frames are at the front of the file of what the book knows by now, and this comes next: of
+-- a channel its further messages and its null message.
 abbrev pub AreFront : BookValue → Expected → List Frame → Type 0
 AreFront b ExpectsHello frames = (frames ≡ []) × KnowsNoneFrom b 0
 AreFront b (ExpectsChannel c) frames =
@@ -50,7 +50,7 @@ AreFront b (ExpectsChannel c) frames =
 AreFront b ExpectsEnd frames = frames ≡ known_frames b
 
 -- Another book's file goes on with these frames, amid those of channel c: with the messages that
--- are not known here, the null message, and what is told of later channels.
+-- are not known here, the null message, and the frames of later channels.
 pub record IsAmid (b other : BookValue) (c : ℕ) (rest : List Frame) : Type 0 where
   pub comes : is_incoming b c ≡ true
   pub under : IsUnder (channel_known b c) (channel_known other c)
@@ -66,8 +66,8 @@ Continues b other ExpectsHello rest = rest ≡ known_frames other
 Continues b other (ExpectsChannel c) rest = IsAmid b other c rest
 Continues b other ExpectsEnd rest = rest ≡ []
 
--- So far these frames were taken. Where they stand at the front of another book's file, that is
--- known how it goes on.
+-- So far these frames were taken. If they are at the front of another book's file, it is known how
+-- that goes on.
 pub record HasHeard (b : BookValue) (next : Expected) (frames : List Frame) : Type 0 where
   pub count : length b.knows ≡ length b.topology.receivers
   pub front : AreFront b next frames
@@ -122,7 +122,7 @@ BeginsOther b (Data d ∷ frames) = ⊥
 BeginsOther b (Null n ∷ frames) = ⊥
 BeginsOther b (Bye ∷ frames) = ⊥
 
--- these frames stand at the front of no file of the replica
+-- these frames are at the front of no file of the replica
 abbrev pub IsNoFront : BookValue → List Frame → Type 0
 IsNoFront b frames = (other : BookValue) → IsOfReplica b other → (rest : List Frame)
     → known_frames other ≢ frames ++ rest
@@ -157,7 +157,7 @@ pub record IsReadUpTo (text : List ℕ) (b : BookValue) (next : Expected) (reade
   pub each : AllByRecursion IsFrame frames
   pub parts : text ≡ stream_octets frames ++ (reader.rest ++ left)
 
--- the same where the text is told
+-- the same if the text is known
 abbrev pub IsReadTo : Option (List ℕ) → BookValue → Expected → ReaderValue → Option (List ℕ)
     → Type 0
 IsReadTo text b next reader after =

@@ -16,7 +16,7 @@ use std::alloc::{AllocError, Global};
 ///
 /// # Errors
 ///
-/// Where memory was refused.
+/// If memory was refused.
 pub fn known_name(
     alloc: Global,
     folder: &str,
@@ -62,8 +62,8 @@ fn close_known<F: Outputs>(
 ///
 /// # Errors
 ///
-/// `Failed` where it could not be made, written whole or closed, `Memory` where memory was refused.
-/// It never gets its name then.
+/// `Failed` if it could not be made, written whole or closed, `Memory` if memory was refused. It
+/// never gets its name then.
 pub fn keep_known<F: Outputs>(
     alloc: Global,
     folder: &str,

@@ -14,19 +14,19 @@ use std::io::{self, ErrorKind};
 use thiserror::Error;
 
 /// Why what a replica knows is not written to its end: the sink failed, or memory was refused. The
-/// sink took a part of the octets, from the front, and did not fail where memory was refused.
+/// sink took a part of the octets, from the front, and did not fail if memory was refused.
 pub type KnownWriteFault = Fault<SinkFault>;
 
 /// Why a file is not read as what a replica knows.
 #[derive(Clone, Copy, Debug, PartialEq, Eq, Error)]
 pub enum KnownCause {
-    /// It was written over another topology: its Hello tells another digest.
+    /// It was written over another topology: its Hello has another digest.
     #[error("a file of what is known of another topology")]
     Topology,
-    /// No book of this replica has such a file: it has other octets than frames, or the Hello of
+    /// No book of this replica has such a file: it has octets that are no frames, or the Hello of
     /// another partition, replica or version, or a frame out of turn, or a message that cannot be
     /// the next of its channel, or a clock before the last message, or it ends too soon, or goes on
-    /// behind its end.
+    /// after its end.
     #[error("no file of what this replica knows")]
     Form,
     /// A read failed.

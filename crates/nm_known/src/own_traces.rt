@@ -1,4 +1,4 @@
-//! The trace files that stand beside a file of what a replica knows: those of its partition.
+//! The trace files beside a file of what a replica knows: those of its partition.
 
 use nm_base::{IfaceNo, PartNo};
 use nm_book::channels::partition_of;

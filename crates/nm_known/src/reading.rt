@@ -68,14 +68,14 @@ fn check_end(reader: &Reader, expected: Expected) -> Result<(), KnownFault>
 }
 
 /// Reads what a replica knows from its file, as `write_known` wrote it, into a book that knows
-/// nothing yet. Then the book knows just what the file tells, and nothing else of it has changed.
+/// nothing yet. Then the book knows just what is in the file, and nothing else of it has changed.
 ///
 /// # Errors
 ///
-/// `Topology` where the file begins with the Hello of another topology. `Form` where no book of
-/// this replica has such a file: it is cut short or goes on behind its end, say, or it is that of
-/// another replica. `Failed` where a read failed, `Memory` where memory was refused. Each time the
-/// book knows a part of what the file tells, from its front, and may be let go.
+/// `Topology` if the file begins with the Hello of another topology. `Form` if no book of this
+/// replica has such a file: it is cut short or goes on after its end, say, or it is that of another
+/// replica. `Failed` if a read failed, `Memory` if memory was refused. Each time the book knows a
+/// part of the file, from its front, and may be dropped.
 pub fn read_known<B: BufRead>(alloc: Global, book: &mut Book, reader: B) -> Result<(), KnownFault>
 where
     B: Drop,

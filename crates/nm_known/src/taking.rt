@@ -24,8 +24,8 @@ pub(crate) enum Expected {
     End,
 }
 
-/// What comes next once all channels below this number were told: the next one that comes in, if
-/// there is one.
+/// What comes next after all channels below this number: the next one that comes in, if there is
+/// one.
 fn next_channel(book: &Book, below: usize) -> Expected
     ensures { IsAfter book.now below result }
 {
@@ -69,7 +69,7 @@ fn take_first(book: &Book, frame: &Frame) -> Result<Expected, KnownFault>
     Ok(next_channel(book, 0))
 }
 
-/// Whether this is the number of the next message of the channel that is told now.
+/// Whether this is the number of the next message of the present channel.
 fn is_next(book: &Book, told: ChanNo, channel: ChanNo, number: u64) -> bool
     ensures { result ≡ (is_incoming book.now told && (channel == told)
         && (number == length (channel_known book.now told).list)) }
@@ -103,7 +103,7 @@ fn tell(book: &mut Book, message: &ChannelMessage) -> Result<(), KnownFault>
     }
 }
 
-/// Takes a message of the channel that is told now. It is to be the next one.
+/// Takes a message of the present channel. It is to be the next one.
 fn take_data(book: &mut Book, channel: ChanNo, message: Data) -> Result<Expected, KnownFault>
     ensures heard { (told : List FrameValue) → HasHeard book.old (Expected.Channel channel) told
         → IfOk result (λ next. HasHeard book.new next (told ++ FrameValue.Data message ∷ [])) }
@@ -118,7 +118,7 @@ fn take_data(book: &mut Book, channel: ChanNo, message: Data) -> Result<Expected
     Ok(Expected::Channel(channel))
 }
 
-/// Takes the null message of the channel that is told now. It is to tell how many messages came,
+/// Takes the null message of the present channel. It is to have the number of messages that came,
 /// and the clock that the channel has then.
 fn take_null(book: &mut Book, channel: ChanNo, null: &Null) -> Result<Expected, KnownFault>
     ensures heard { (told : List FrameValue) → HasHeard book.old (Expected.Channel channel) told
@@ -137,7 +137,7 @@ fn take_null(book: &mut Book, channel: ChanNo, null: &Null) -> Result<Expected, 
     Ok(next_channel(book, channel.index() + 1))
 }
 
-/// Takes a frame of the channel that is told now.
+/// Takes a frame of the present channel.
 fn take_of(book: &mut Book, channel: ChanNo, frame: Frame) -> Result<Expected, KnownFault>
     ensures heard { (told : List FrameValue) → HasHeard book.old (Expected.Channel channel) told
         → IfOk result (λ next. HasHeard book.new next (told ++ frame ∷ [])) }
@@ -173,9 +173,9 @@ fn take(book: &mut Book, expected: Expected, frame: Frame) -> Result<Expected, K
 ///
 /// # Errors
 ///
-/// `Topology` where the first frame of the file is the Hello of another topology. `Form` where a
-/// frame is out of turn, or the book refuses it. `Memory` where memory was refused. Of the frames
-/// before it the book has learned.
+/// `Topology` if the first frame of the file is the Hello of another topology. `Form` if a frame is
+/// out of turn, or the book refuses it. `Memory` if memory was refused. Of the frames before it the
+/// book has learned.
 pub(crate) fn take_all(
     book: &mut Book,
     expected: Expected,

@@ -34,7 +34,7 @@ fn put<S: Sink>(frame: &Frame, buffer: &mut Vec<u8>, sink: &mut S) -> Written
     }
 }
 
-/// Writes whose knowledge it is.
+/// Writes which replica's knowledge it is.
 fn put_hello<S: Sink>(book: &Book, buffer: &mut Vec<u8>, sink: &mut S) -> Written
     ensures octets { Writes (S.seen sink.old) (S.seen sink.new) result
         (frame_octets (replica_hello book.now)) }
@@ -142,14 +142,14 @@ fn put_channels<S: Sink>(book: &Book, buffer: &mut Vec<u8>, sink: &mut S) -> Wri
     Ok(())
 }
 
-/// Writes what a replica knows: as frames of version 2 its Hello, and of each channel that comes
-/// in, by the channels' numbers, all messages and one null message, which tells how many they are
-/// and the channel clock in nanoseconds.
+/// Writes what a replica knows: as frames of version 2 its Hello, and of each incoming channel, by
+/// the channels' numbers, all messages and one null message, with their number and the channel
+/// clock in nanoseconds.
 ///
 /// # Errors
 ///
-/// `Refused` where the sink failed. It had taken a front of the octets then. `Memory` where memory
-/// was refused. The sink had taken a part of them then, from the front, and did not fail.
+/// `Refused` if the sink failed. It had taken a front of the octets then. `Memory` if memory was
+/// refused. The sink had taken a part of them then, from the front, and did not fail.
 pub fn write_known<S: Sink>(alloc: Global, book: &Book, sink: &mut S) -> Result<(), KnownWriteFault>
     ensures octets { Writes (S.seen sink.old) (S.seen sink.new) result (known_octets book.now) }
     ensures file { OnOk result (IsOfReplica book.now book.now) }

@@ -16,14 +16,14 @@ use Rattle.nm_forward.specs.State.{NodeStateValue, table_of}
 use Rattle.nm_sim.specs.Network.{net_of}
 use Rattle.nm_laws.specs.Offered.{offered_by, offers}
 
--- the counters that say what became of a packet that arrived: one for each row of the table
+-- the counters of packets that arrived: one for each row of the table
 abbrev pub arrival_counters : List Counter
 arrival_counters =
     Header ∷ BadDest ∷ NotMine ∷ NoNet ∷ Ttl ∷ Forwarded ∷ Fragment ∷ IcmpBad ∷ Echo ∷ Icmp
     ∷ UdpBad ∷ Udp ∷ Port ∷ Proto ∷ []
 
--- the counters of what a node sends: what it sends on, what it makes and has a route for, and
--- what its raw sources hand to it
+-- the counters of what a node sends: what it sends on, what it makes and has a route for, and what
+-- its raw sources give to it
 abbrev pub sending_counters : List Counter
 sending_counters = Forwarded ∷ Originated ∷ Raw ∷ []
 
@@ -43,8 +43,8 @@ arrivals_raising t v c records =
     (λ r. counter_number c == counter_number
     (row_counter (arrival_row (table_of t v) r.packet))) (arrivals_at (net_of t) v records)
 
--- What node v counted in the first n events. A counter stops at 2^64 - 1, so this is said where
--- there are fewer packets to count; and there are no more of them than events.
+-- What node v counted in the first n events. A counter stops at 2^64 - 1, so this holds if there
+-- are fewer packets to count; and there are no more of them than events.
 module _ (t : TopologyValue) (n v : ℕ) where
   -- the sum of the counters of arrivals is the number of arrivals
   pub record ArrivalsAreCounted : Type 0 where

@@ -12,8 +12,8 @@ use Rattle.nm_book.specs.declared.fault.MergeRefusal.{MergeRefusal}
 use Rattle.nm_book.specs.declared.message.ChannelMessage.{ChannelMessage}
 use Rattle.nm_book.specs.declared.running.Ran.{Ran}
 
--- it is told a message or a null message, merges what another one knows, does events up to a
--- limit, or has handed out so many records; and what it answers
+-- it gets a message or a null message, merges what another one knows, does events up to a limit, or
+-- has handed out so many records; and what it answers
 pub data Call : Type 0 where
   Accepts : ChannelMessage → Result Accepted AcceptFault → Call
   Merges : KnowledgeValue → Result Unit (Fault MergeRefusal) → Call

@@ -8,7 +8,7 @@ use Rattle.nm_sim.specs.Network.{net_of}
 use Rattle.nm_series.specs.Rows.{Had, had}
 use Rattle.nm_series.specs.Steps.{step_time}
 
--- what a row says was added
+-- what was added in a row
 abbrev pub packets_in : Had → ℕ
 packets_in h = h.traffic.came.packets
 

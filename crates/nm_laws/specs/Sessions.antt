@@ -36,6 +36,6 @@ abbrev pub HoldsSent : BookValue → BookValue → Type 0
 HoldsSent a b =
     (c : ℕ) → is_outgoing a c ≡ true → is_incoming b c ≡ true → held_on b c ≤ length (sent_over a c)
 
--- the session of replica a with partition b's, of which nothing was said yet
+-- the session of replica a with partition b's, before any frame
 abbrev pub session_of : BookValue → BookValue → SessionValue
 session_of a b = new_session a.topology a.partition a.replica b.partition

@@ -1,4 +1,4 @@
--- What a trace says of the transmissions over each link.
+-- The transmissions over each link in a trace.
 use Rattle.std.specs.Prelude.{◌≡◌, ℕ, ◌+◌, ◌<◌, ◌≤◌, ltb, List, length, map, Some}
 use Rattle.nm_base.specs.declared.limits.TheConstants.{MAX_PACKET_OCTETS}
 use Rattle.nm_base.specs.declared.record.Dir.TheVariants.{In, Out}

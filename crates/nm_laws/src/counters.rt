@@ -10,9 +10,9 @@ use nm_sim::network::every_topology_is_a_network;
 use nm_topology::Topology;
 
 /// After any number of events, the packets that arrived at the interfaces of a node are as many as
-/// the sum of its counters of arrivals, each of which is the number of those to which its row fits;
-/// and those that the node offered to its interfaces are as many as the sum of what it sent on,
-/// what it originated and what its raw sources handed to it.
+/// the sum of its counters of arrivals; each is the number of those that its row fits. Those that
+/// the node offered to its interfaces are as many as the sum of what it sent on, what it originated
+/// and what its raw sources gave to it.
 pub fn packets_are_counted(topology: &Topology)
     ensures arrivals { (n v : ℕ) → ArrivalsAreCounted topology.now n v }
     ensures rows { (n v : ℕ) → RowsAreCounted topology.now n v }

@@ -1,7 +1,7 @@
 //! Laws, each over every topology and every number of events. Of its network and the one event
 //! list, in the words of network engineers: what nodes count (`counters`), what ports are offered
 //! (`offers`), when and in which order packets are transmitted (`transmissions`), and that the rows
-//! of a series add up (`series`). Of replicas: what they know says how far they are
+//! of a series add up (`series`). Of replicas: what they know decides how far they are
 //! (`replica_knowledge`), no call takes back what was done (`replica_calls`), and two sessions that
 //! talk with each other end with Bye (`sessions`).
 //!

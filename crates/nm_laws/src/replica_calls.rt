@@ -16,9 +16,9 @@ use nm_sim::network::every_topology_is_a_network;
 use nm_topology::Topology;
 
 /// Over any calls of a replica, in whatever order, by whomever and whatever they answered, what it
-/// recorded and what it sent stays, and more is put behind it; and what was handed out and done is
-/// not taken back. So what two looks at a replica find, with any calls between them, are a
-/// beginning and more of it.
+/// recorded and what it sent stays, and more is put behind it; what was handed out and done is not
+/// taken back. So what two looks at a replica find, with any calls between them, are a beginning
+/// and more of it.
 pub fn what_was_done_stays_done(topology: &Topology)
     ensures { (b last : BookValue) (calls : List (Call × BookValue)) → b.topology ≡ topology.now
         → AreInOrder b.knows

@@ -14,8 +14,8 @@ use nm_sim::network::{channels_are_those_of_the_network, every_topology_is_a_net
 use nm_topology::Topology;
 use nm_topology::topology::channels_are_numbered_by_their_receivers;
 
-/// Two replicas of a partition that know the same, and have run all that is safe, have done as many
-/// events, whichever two replays, runs or nodes they are from. By
+/// Two replicas of a partition with equal knowledge that have run all that is safe have done
+/// equally many events, even if they belong to different replays, runs or nodes. By
 /// `nm_book::laws::equal_knowledge_gives_equal_replicas` they are then equal: in their states, and
 /// so in their traces, and in what they sent and promise.
 pub fn equal_knowledge_runs_equally_far(topology: &Topology)

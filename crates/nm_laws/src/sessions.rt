@@ -12,9 +12,9 @@ ghost use Rattle.nm_laws.specs.Sessions.{AreNeighbours, HoldsSent, Talks, Turn, 
 
 /// Two replicas of neighbouring partitions have nothing left to do, and neither holds messages that
 /// the other one did not send. Their sessions talk over a connection that loses nothing, one frame
-/// at a time, in any order. Where neither has a frame more to give, both have taken Bye. By
-/// `nm_frames::laws::bye_comes_last` each channel was told before, its last promise too: so
-/// whatever two replicas say to each other, they do not fall silent before all is said.
+/// at a time, in any order. When neither has a frame more to give, both have taken Bye. By
+/// `nm_frames::laws::bye_comes_last` each channel was sent before, its last promise too: so
+/// whatever two replicas send each other, they do not fall silent before all is sent.
 pub fn both_part_with_bye()
     ensures { (a b : BookValue) → AreNeighbours a b → HoldsSent a b → HoldsSent b a
         → (turns : List Turn) (s t : SessionValue)
@@ -24,8 +24,8 @@ pub fn both_part_with_bye()
 {}
 
 /// A replica with nothing left to do promises, with the plain promise of version 1, that nothing
-/// more comes by a channel before `stop` and the delay of its link. So the null message that comes
-/// before Bye says so in either version, since the tight promise is no earlier.
+/// more comes by a channel before `stop` and the delay of its link. So the null message before Bye
+/// has that in either version, since the tight promise is no earlier.
 pub fn a_done_replica_promises_stop()
     ensures { (b : BookValue) (c : ℕ)
         → is_done (net_of b.topology) b.partition (replica_of b) ≡ true

@@ -3,7 +3,7 @@
 //!
 //! The gate runs them with memory granted. `dev/attack/refuse-growths nm_memory_tests` runs them
 //! with each allocation refused in turn. What a test only needs is asked for twice, so that it is
-//! there even where memory was refused.
+//! there even if memory was refused.
 #![tactic(auto)]
 
 #[cfg(test)]

@@ -23,7 +23,7 @@ pub fn network(alloc: Global, text: &str) -> Result<Arc<Topology>, Fail> {
     }
 }
 
-/// A new replica; where memory was refused, that is the answer, and it is asked for once more.
+/// A new replica; if memory was refused, that is the answer, and it is asked for once more.
 pub fn book_of(
     rt: &(impl Abort + AllocGlobal),
     topology: &Arc<Topology>,

@@ -9,7 +9,7 @@ pub data Answer : Type 0 where
   New : Answer
   Raised : Answer
   Known : Answer
-  -- past what is known, of which there are so many messages
+  -- past what is known, which has so many messages
   Gap : ℕ → Answer
   -- another message of this number is known
   Differs : ℕ → Answer
@@ -17,7 +17,7 @@ pub data Answer : Type 0 where
   Late : ℕ → Answer
   -- not after the last message
   NotRising : Answer
-  -- the message of this number is before the clock that was told
+  -- the message of this number is before the known clock
   Contrary : ℕ → Answer
 
 pub record Accepted (P : Type 0) : Type 0 where

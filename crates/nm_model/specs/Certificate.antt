@@ -1,5 +1,5 @@
--- The certificate: when finished books agree with one another, with no premise on who told them
--- what they know.
+-- The certificate: when finished books agree with one another, with no premise on how they came to
+-- know it.
 use Rattle.std.specs.Prelude.{◌≡◌, ◌≢◌, ◌⊎◌, ℕ, zero, suc, ◌<◌, ◌≤◌, Bool, true, false, if◌then◌else◌, not, ◌&&◌, ◌||◌, ◌==◌, ltb, length, List, [], ◌∷◌, Option, Some, None}
 use Rattle.nm_model.specs.Lists.{nth, IsPrefix}
 use Rattle.nm_model.specs.Network.{Net}
@@ -48,7 +48,7 @@ module _ {P N : Type 0} (net : Net P N) where
         → ((books p).knowledge c).clock ≤ b.0
 
   module _ (kind : Promising) where
-    -- what book r knows of channel c is what book s says of it
+    -- what book r knows of channel c is what book s has for it
     pub record Matches (c : ℕ) (r s : Book P) : Type 0 where
       pub begins : IsPrefix (r.replica.knowledge c).list (outgoing net s.part s.replica c)
       pub next : (b : ℕ × P)

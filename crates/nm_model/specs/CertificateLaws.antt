@@ -21,7 +21,7 @@ module _ {P N : Type 0} (net : Net P N) where
     HaveWholeTraces = (i : ℕ) (b : Book P) → nth books i ≡ Some b
         → HasWholeTrace net b.part b.replica
 
-    -- no receiver's clock is past its sender's promise, but where its last message raised it
+    -- no receiver's clock is past its sender's promise, unless its last message raised it
     abbrev pub ClocksArePromised : Promising → Type 0
     ClocksArePromised kind = (i j c : ℕ) (r s : Book P)
         → nth books i ≡ Some r → nth books j ≡ Some s
@@ -30,7 +30,7 @@ module _ {P N : Type 0} (net : Net P N) where
         ≤ promise net kind s.part s.replica.knowledge s.replica.ran c)
         ⊎ (last_from (r.replica.knowledge c).clock (r.replica.knowledge c).list ≡ true)
 
-    -- the certificate finds no fault exactly where the books are certified
+    -- the certificate finds no fault exactly if the books are certified
     pub record CertifiesExactly (same : P → P → Bool) (kind : Promising) : Type 0 where
       pub sound : IsNet net → certify net same kind books ≡ None → IsCertified net kind books
       pub complete : IsCertified net kind books → certify net same kind books ≡ None

@@ -7,7 +7,7 @@ use Rattle.nm_base.specs.declared.key.Place.{Place}
 use Rattle.nm_base.specs.declared.key.Key.{Key}
 use Rattle.nm_base.specs.Key.{key_cmp}
 
--- a stands at or before b
+-- a is at or before b
 unfoldable pub IsUpTo : Key → Key → Type 0
 IsUpTo a b = is_gt (key_cmp a b) ≡ false
 
@@ -30,7 +30,7 @@ abbrev pub is_before : {X : Type 0} → ℕ → Option (Key × X) → Bool
 is_before t None = false
 is_before t (Some e) = ltb e.0.time t
 
--- the time of what is pending first, or t where nothing before t is pending
+-- the time of what is pending first, or t if nothing before t is pending
 abbrev pub next_time : {X : Type 0} → ℕ → Option (Key × X) → ℕ
 next_time t None = t
 next_time t (Some e) = min t e.0.time

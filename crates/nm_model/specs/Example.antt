@@ -23,7 +23,7 @@ abbrev pub one_source : ℕ → ℕ → Option (ℕ × ℕ)
 one_source zero n = one_packet n
 one_source (suc j) n = None
 
--- a host sends what its source hands over, and takes what arrives
+-- a host sends what its source makes, and takes what arrives
 abbrev pub sends_own : ℕ → Origin → ℕ → Option (ℕ × ℕ)
 sends_own v (Arrival i) x = None
 sends_own v (Source j) x = Some (v, x)

@@ -42,7 +42,7 @@ pub record JoinLaws (P : Type 0) : Type 0 where
       → IsValid a H → IsValid b H → join_fault same a b ≡ None
   pub keeps : (a b : Know P) → IsKnow a → IsKnow b → IsKnow (join a b)
 
--- what has a join, and what the fault shows where there is none
+-- what has a join, and what the fault shows if there is none
 pub record JoinFaultsAreRight (P : Type 0) : Type 0 where
   pub none : (same : P → P → Bool) → IsReflexive same → (a b : Know P) → IsCompatible a b
       → join_fault same a b ≡ None

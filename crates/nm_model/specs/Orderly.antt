@@ -1,5 +1,5 @@
--- What holds of every state of a run, of the whole network or of a part, whatever the part is
--- told: what a program that does its steps relies on.
+-- What holds of every state of a run, of the whole network or of a part, whatever the part
+-- receives: a program that does its steps relies on it.
 use Rattle.std.specs.Prelude.{◌≡◌, ℕ, suc, ◌<◌, Bool, true, false, length, Some, None}
 use Rattle.std.specs.FinMap.{get}
 use Rattle.nm_base.specs.declared.key.Place.{Place}

@@ -1,4 +1,5 @@
--- What holds of every state of a run, of the whole network or of a part, whatever the part is told.
+-- What holds of every state of a run, of the whole network or of a part, whatever the part
+-- receives.
 use Rattle.std.specs.Prelude.{◌≡◌, ◌≢◌, ℕ, ◌<◌, Bool, true, [], Some, None}
 use Rattle.std.specs.FinMap.{get, remove}
 use Rattle.nm_base.specs.declared.key.Key.{Key}
@@ -16,8 +17,8 @@ use Rattle.nm_model.specs.Replica.{from_scratch}
 use Rattle.nm_model.specs.Orderly.{IsByNode, IsOrderly}
 
 module _ {P N : Type 0} (net : Net P N) where
-  -- every state is orderly: of the whole network, of a replica over anything that it was told,
-  -- at the start, and after each event
+  -- every state is orderly: of the whole network, of a replica over anything that it received, at
+  -- the start, and after each event
   pub record StatesAreOrderly : Type 0 where
     pub whole : (n : ℕ) → IsOrderly net (λ _. true) (one_list net n)
     pub part : (p : ℕ) (K : Knowledge P) (k : ℕ)

@@ -10,8 +10,8 @@ module _ {P N : Type 0} (net : Net P N) (p : ℕ) where
   abbrev pub in_part : Place → Bool
   in_part q = net.part (node_of net q) == p
 
-  -- a channel is a link's direction whose ends lie in different partitions; it is named by its
-  -- receiving interface
+  -- a channel is a link's direction with ends in different partitions; it is named by its receiving
+  -- interface
 
   -- a channel into the partition
   abbrev pub comes_in : ℕ → Bool

@@ -27,8 +27,8 @@ transmitting tx now dropped x waiting = (
   Some x,
 )
 
--- a packet is offered: to an idle port it starts; at a busy one it waits where there is room,
--- and else it is dropped
+-- a packet is offered: to an idle port it starts; at a busy one it waits if there is room, and else
+-- it is dropped
 abbrev pub offered : {P : Type 0} → (List P → P → Bool) → (P → ℕ) → ℕ → P → ℕ → Option (Busy P)
     → Port P × Option P
 offered room tx now x dropped None = transmitting tx now dropped x []

@@ -19,7 +19,7 @@ abbrev pub message_events : {P : Type 0} → ℕ → ℕ → List (ℕ × P) →
 message_events c n [] = []
 message_events c n (b ∷ l) = keyed b.0 n (Delivery (Arrival c) b.1) ∷ message_events c (suc n) l
 
--- an arrival whose number K doesn't reach
+-- an arrival with a number that K doesn't reach
 abbrev pub is_past : {P : Type 0} → Knowledge P → Place → ℕ → Bool
 is_past K (Arrive c) n = leb (length (K c).list) n
 is_past K (Complete i) n = false
@@ -64,8 +64,8 @@ module _ {P N : Type 0} (net : Net P N) (p : ℕ) where
   abbrev pub IsUnderAll : Knowledge P → Knowledge P → Type 0
   IsUnderAll K J = (c : ℕ) → comes_in net p c ≡ true → IsUnder (K c) (J c)
 
-  -- what the part's state s says of its nodes, ports, pending events, outgoing lists and
-  -- records is what the whole's state g says of them
+  -- the part's state s and the whole's state g agree on its nodes, ports, pending events, outgoing
+  -- lists and records
   pub record Agrees (g s : State P N) : Type 0 where
     pub node : (v : ℕ) → (net.part v == p) ≡ true → g.node v ≡ s.node v
     pub port : (i : ℕ) → in_part net p (Arrive i) ≡ true → g.port i ≡ s.port i

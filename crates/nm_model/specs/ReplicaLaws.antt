@@ -53,7 +53,8 @@ module _ {P N : Type 0} (net : Net P N) where
         → IsPrefix ((from_scratch net p K k).sent c) ((from_scratch net p J m).sent c)
     pub records : IsPrefix (from_scratch net p K k).records (from_scratch net p J m).records
 
-  -- who knows the same of each channel that comes in has the same states, and promises the same
+  -- replicas that know the same of each incoming channel have the same states, and make the same
+  -- promises
   pub record AreEqualStates (p : ℕ) (K J : Knowledge P) : Type 0 where
     pub states : (k : ℕ) → IsWithin net p K k → from_scratch net p J k ≡ from_scratch net p K k
     pub within : (k : ℕ) → IsWithin net p K k → IsWithin net p J k

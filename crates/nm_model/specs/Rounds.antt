@@ -1,4 +1,4 @@
--- Rounds: all partitions run what is safe, and then each hears all that the others have for it.
+-- Rounds: all partitions run what is safe, and then each gets all that the others have for it.
 use Rattle.std.specs.Prelude.{◌≡◌, ℕ, suc, ◌+◌, ◌-◌, ◌/◌, Bool, if◌then◌else◌, length, drop, List, [], ◌∷◌}
 use Rattle.nm_model.specs.Network.{Net}
 use Rattle.nm_model.specs.Knowledge.{Know}

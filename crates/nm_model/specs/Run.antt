@@ -1,6 +1,6 @@
--- The run: the event of the least key is done, again and again. What is here, which places
--- belong to the run, is a parameter, so that one definition serves the whole network with its
--- one event list (Misra, section 1) and a part of it, a logical process (section 2).
+-- The run: the event of the least key is done, again and again. Which places belong to the run,
+-- what is here, is a parameter: one definition serves the whole network with its one event list
+-- (Misra, section 1) and a part of it, a logical process (section 2).
 use Rattle.std.specs.Prelude.{ℕ, zero, suc, ◌+◌, Bool, true, length, List, [], ◌∷◌, ◌++◌, Option, Some, None}
 use Rattle.std.specs.FinMap.{FinMap, remove, empty}
 use Rattle.nm_base.specs.declared.key.Place.{Place}
@@ -41,7 +41,7 @@ pub record Effect (P N : Type 0) : Type 0 where
   pub turn : Option (ℕ × Port P)
   -- the one transmission that starts, and where
   pub transmission : Option (ℕ × P)
-  -- the packet that a source hands over next: which source, when, and which packet
+  -- the source's next packet: which source, when, and which packet
   pub follows : Option (ℕ × ℕ × P)
 
 abbrev pub at_iface : {P : Type 0} → ℕ → Option P → Option (ℕ × P)

@@ -33,8 +33,8 @@ module _ {P N : Type 0} (net : Net P N) (same : P → P → Bool) (w : World P) 
       happens net same w step
       ≡ (put_replica w p r (record { knowledge = x.knowledge; ran = k }), outcome)
 
-  -- a replica, by its partition and number, does at most n further events, where count of all its
-  -- events are safe: it does n, and more are left, or it does all that are safe
+  -- a replica, by its partition and number, does at most n further events; count of all its events
+  -- are safe: it does n, and more are left, or it does all that are safe
   pub record DoesWhatIsSafe (name : ℕ × ℕ) (n count : ℕ) : Type 0 where
     pub limit : let k = (w.replica name.0 name.1).ran + n in k < count
         → HasDone (Run name.0 name.1 n) name.0 name.1 k (Limit n)
@@ -72,7 +72,7 @@ module _ {P N : Type 0} (net : Net P N) (same : P → P → Bool) (w : World P) 
         Answered taken.answer,
       )
 
-  -- frame i, of channel c, is delivered to replica r of the receiver, which is told what it says
+  -- frame i, of channel c, is delivered to replica r of the receiver
   pub record Delivers (i r c : ℕ) : Type 0 where
     pub message : (n : ℕ) (b : ℕ × P) → nth w.bag i ≡ Some (DataFrame c n b)
         → let p = receiver_of net c in

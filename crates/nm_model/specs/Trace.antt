@@ -1,4 +1,4 @@
--- What the records of a trace say of an interface.
+-- The records of a trace at an interface.
 use Rattle.std.specs.Prelude.{ℕ, Bool, true, false, if◌then◌else◌, ◌&&◌, ◌==◌, List, [], ◌∷◌}
 use Rattle.nm_base.specs.declared.record.Dir.{Dir}
 use Rattle.nm_base.specs.declared.record.Dir.TheVariants.{In, Out}

@@ -10,7 +10,7 @@ use Rattle.nm_model.specs.Replica.{from_scratch}
 use Rattle.nm_model.specs.Trace.{passed}
 
 module _ {P N : Type 0} (net : Net P N) where
-  -- records stand in the order of time
+  -- records are in the order of time
   pub record RecordsInOrder : Type 0 where
     pub whole : (n j k : ℕ) (a b : Record P) → j ≤ k → nth (one_list net n).records j ≡ Some a
         → nth (one_list net n).records k ≡ Some b → a.time ≤ b.time

@@ -1,4 +1,4 @@
--- Replicas that run, send, hear, merge and restart, over every schedule. Each step is atomic.
+-- Replicas that run, send, receive, merge and restart, over every schedule. Each step is atomic.
 use Rattle.std.specs.Prelude.{◌≡◌, ◌⊎◌, ℕ, zero, suc, ◌-◌, Bool, if◌then◌else◌, ◌&&◌, ltb, leb, length, drop, List, [], ◌∷◌, ◌++◌, Option, Some, None}
 use Rattle.nm_model.specs.Lists.{nth, set_at}
 use Rattle.nm_model.specs.Network.{Net}
@@ -44,7 +44,7 @@ pub data Step : Type 0 where
   Deliver : ℕ → ℕ → Step
   -- p, r: joins what the sister, the other replica of the partition, knows
   Merge : ℕ → ℕ → Step
-  -- p, r: begins anew, empty
+  -- p, r: begins again, empty
   Restart : ℕ → ℕ → Step
 
 -- what a step answers
@@ -90,7 +90,7 @@ abbrev pub sends : {P : Type 0} → World P → ℕ → ℕ → Option (ℕ × P
 sends w c n None = (w, NoSuch)
 sends w c n (Some b) = (put_frames w (DataFrame c n b ∷ []), Frames 1)
 
--- a replica that was told of one channel
+-- a replica after it received something of one channel
 abbrev pub told : {P : Type 0} → World P → ℕ → ℕ → ℕ → Accepted P → World P × Outcome
 told w p r c a = (
   put_replica w p r (record {

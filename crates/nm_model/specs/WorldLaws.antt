@@ -13,7 +13,7 @@ use Rattle.nm_model.specs.World.{Replica, Step, opening, answers, state_of, outg
 use Rattle.nm_model.specs.World.{replica_after, AllFine}
 
 module _ {P N : Type 0} (net : Net P N) where
-  -- what holds of a replica of partition p, whatever it was told of the network
+  -- what holds of a replica of partition p, whatever it received of the network
   pub record IsTrueReplica (p : ℕ) (x : Replica P) : Type 0 where
     -- all that it knows is true of the network
     pub valid : IsKnowledge net p x.knowledge
@@ -59,7 +59,7 @@ module _ {P N : Type 0} (net : Net P N) where
         → (steps others : List Step) (p r s : ℕ)
         → let x = replica_after net same steps p r in let y = replica_after net same others p s in
         KnowAlike p x y → AreEqualReplicas p x y
-    -- and where both have run all that is safe, they did as many
+    -- and once both have run all that is safe, they did as many
     pub counts : (p : ℕ) (K J : Knowledge P) → ((c : ℕ) → comes_in net p c ≡ true → K c ≡ J c)
         → (j k : ℕ) → IsCount net p K j → IsCount net p J k → j ≡ k
 

@@ -13,9 +13,9 @@ ghost use Rattle.nm_model.specs.WorldLaws.{HasWholeTrace};
 ghost use Rattle.nm_model.specs.CertificateLaws.{AreWithin, CertifiesExactly, ClocksArePromised};
 ghost use Rattle.nm_model.specs.CertificateLaws.{HaveWholeTraces};
 
-/// Finished books whose lists and clocks agree have the whole network's traces, whatever told them
-/// what they know. Nothing is asked of who sent what: the argument goes by time, since a message up
-/// to a time comes from events before it.
+/// Finished books whose lists and clocks agree have the whole network's traces, wherever they know
+/// it from. Nothing is asked of who sent what: the argument goes by time, since a message up to a
+/// time comes from events before it.
 pub fn certificate<P, N>()
     ensures whole { (net : Net P N) → IsNet net → (books : ℕ → Replica P) → AreFinished net books
         → (p : ℕ) → HasWholeTrace net p (books p) }
@@ -24,23 +24,23 @@ pub fn certificate<P, N>()
         → HaveWholeTraces net books }
 {}
 
-/// The certificate finds no fault exactly where each partition has a book, each book is done and
-/// all match.
+/// The certificate finds no fault exactly if each partition has a book, each book is done and all
+/// match.
 pub fn certify_is_exact<P, N>()
     ensures { (net : Net P N) (same : P → P → Bool) → IsReflexive same → TellsApart same
         → (kind : Promising) (books : List (Book P)) → CertifiesExactly net books same kind }
 {}
 
-/// Then no receiver's clock is past its sender's promise, but where its last message raised it.
+/// Then no receiver's clock is past its sender's promise, unless its last message raised it.
 pub fn certified_clocks_are_promised<P, N>()
     ensures { (net : Net P N) → IsNet net → (same : P → P → Bool) → IsReflexive same
         → TellsApart same → (kind : Promising) (books : List (Book P))
         → certify net same kind books ≡ None → ClocksArePromised net books kind }
 {}
 
-/// A fault of the certificate shows what it says: the least partition that has no book; else the
-/// first book that is not done; else, by receiving book, channel and sending book, the first two
-/// that do not match, and where.
+/// A fault of the certificate is as it says: the least partition that has no book; else the first
+/// book that is not done; else, by receiving book, channel and sending book, the first two that do
+/// not match, and where.
 pub fn certify_faults_are_right<P, N>()
     ensures { (net : Net P N) → IsNet net → (same : P → P → Bool) → IsReflexive same
         → TellsApart same → (kind : Promising) (books : List (Book P)) (f : CertificateFault)

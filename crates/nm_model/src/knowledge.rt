@@ -2,8 +2,9 @@
 
 ghost use Rattle.nm_model.specs.KnowledgeLaws.{AcceptLaws, JoinFaultsAreRight, JoinLaws, UnderLaws};
 
-/// Taking a message or a null message only adds to what is known, keeps it in order, and keeps what
-/// is true of the channel's history so, where the message is; then only a gap is refused.
+/// Taking a message or a null message only adds to what is known, and keeps it in order. If the
+/// message is true of the channel's history, what is known stays true of it; then only a gap is
+/// refused.
 pub fn accept_laws<P>()
     ensures { AcceptLaws P }
 {}
@@ -18,9 +19,9 @@ pub fn join_laws<P>()
     ensures { JoinLaws P }
 {}
 
-/// Two are joined exactly where they are compatible, which is where both are under something; a
-/// fault shows that they are not, by its number or clock. Of several channels the first with a
-/// fault is named.
+/// Two are joined exactly if they are compatible, that is, if both are under something; a fault
+/// shows that they are not, by its number or clock. Of several channels the first with a fault is
+/// named.
 pub fn join_faults_are_right<P>()
     ensures { JoinFaultsAreRight P }
 {}

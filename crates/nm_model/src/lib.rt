@@ -1,9 +1,8 @@
-//! What a network's run means, what a partition computes from the messages that it was told, and
-//! the laws that tie the two together.
+//! The meaning of a network's run, what a partition computes from the messages that it received,
+//! and the laws that tie the two together.
 //!
-//! The definitions are in `specs/`, over an abstract network whose packets and nodes stay opaque.
-//! Each function here has an empty body, and its contract is a law: `docs/MODEL.md` says which
-//! promise is kept by which.
+//! The definitions are in `specs/`, over an abstract network with opaque packets and nodes. Each
+//! function here has an empty body, and its contract is a law: `docs/MODEL.md` lists them.
 #![tactic(auto)]
 
 pub mod certificate;

@@ -1,5 +1,5 @@
-//! Laws of every state of a run, of the whole network or of a part, whatever the part is told: what
-//! a program that does the steps relies on.
+//! Laws of every state of a run, of the whole network or of a part, whatever the part receives: a
+//! program that does the steps relies on them.
 
 ghost use Rattle.std.specs.Prelude.{◌≡◌, ℕ, Bool, true, false};
 ghost use Rattle.std.specs.FinMap.{insert};
@@ -15,7 +15,7 @@ ghost use Rattle.nm_model.specs.Orderly.{IsByNode, IsOrderly};
 ghost use Rattle.nm_model.specs.OrderlyLaws.{NewKeysAreNew, OnlyToldArrives, StatesAreOrderly};
 
 /// Every state is orderly: at the start and after each event; so of the whole network, and of a
-/// replica over anything that it was told, true or not.
+/// replica over anything that it received, true or not.
 pub fn every_state_is_orderly<P, N>()
     ensures { (net : Net P N) → IsNet net → StatesAreOrderly net }
 {}
@@ -28,7 +28,7 @@ pub fn a_message_keeps_order<P, N>()
         (record s { pending = insert s.pending (key_of t (Arrive c) n) (Delivery (Arrival c) x) }) }
 {}
 
-/// What lies in a partition is told by the nodes.
+/// The nodes decide what is in a partition.
 pub fn partitions_are_by_node<P, N>()
     ensures { (net : Net P N) (p : ℕ) → IsByNode net (in_part net p) }
 {}
@@ -39,7 +39,7 @@ pub fn new_keys_are_new<P, N>()
 {}
 
 /// Only messages bring arrivals on channels: at the start none is pending at all, and what a
-/// partition was not told is not pending after a step either.
+/// partition did not receive is not pending after a step either.
 pub fn only_messages_bring_arrivals<P, N>()
     ensures { (net : Net P N) → OnlyToldArrives net }
 {}

@@ -24,7 +24,7 @@ pub fn promises_never_fall<P, N>()
         → NeverFalls net p K J }
 {}
 
-/// What a promise is at least: the plain one is exactly the link's delay after the next event that
+/// The least that a promise is: the plain one is exactly the link's delay after the next event that
 /// may cause a message; the tight one counts that event too, and the transmission under way, and
 /// then the least time of a transmission and the delay.
 pub fn promises_from_below<P, N>()

@@ -17,9 +17,9 @@ pub fn there_are_rounds<P, N>()
         → (b : ℕ → ℕ → Replica P) × IsRounds net same kind b }
 {}
 
-/// Where each channel's lookahead is at least `lead`, all is done in the round after `j` of them,
-/// once `j * lead` reaches stop; with either promise. Whenever a partition's safe time is `stop`,
-/// it has its whole trace once it has run (`early`).
+/// If each channel's lookahead is at least `lead`, all is done in the round after `j` of them, once
+/// `j * lead` reaches stop; with either promise. Whenever a partition's safe time is `stop`, it has
+/// its whole trace once it has run (`early`).
 pub fn rounds_bound<P, N>()
     ensures { (net : Net P N) → IsNet net → (same : P → P → Bool) → IsReflexive same
         → (kind : Promising) (b : ℕ → ℕ → Replica P) → IsRounds net same kind b
@@ -31,7 +31,7 @@ pub fn so_many_rounds_are_enough()
     ensures { (stop lead : ℕ) → 1 ≤ lead → stop ≤ round_count stop lead * lead }
 {}
 
-/// And one where there is no channel: all is safe.
+/// And one if there is no channel: all is safe.
 pub fn a_lone_partition_is_safe<P, N>()
     ensures { (net : Net P N) (p : ℕ) → ((c : ℕ) → comes_in net p c ≡ true → ⊥)
         → (K : Knowledge P) → safe_time net p K ≡ net.stop }

@@ -21,7 +21,7 @@ pub fn keys_rise<P, N>()
 {}
 
 /// An event makes at most three others, all strictly later: in the whole network and in a partition
-/// over anything that it was told.
+/// over anything that it received.
 pub fn events_make_later_ones<P, N>()
     ensures later { (net : Net P N) → IsNet net → MakesLaterOnes net }
     ensures few { (net : Net P N) (s : State P N) (e : Key × Event P) → length (made net s e) ≤ 3 }

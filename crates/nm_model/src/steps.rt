@@ -17,19 +17,19 @@ pub fn two_replicas<P, N>()
         → (p < net.parts) × ((r ≡ 0) ⊎ (r ≡ 1)) }
 {}
 
-/// A channel is a direction of a link whose ends lie in different partitions. It goes out of the
+/// A channel is a direction of a link with ends in different partitions. It goes out of the
 /// partition of the far end and comes into that of the interface that names it.
 pub fn channels_have_two_ends<P, N>()
     ensures { (net : Net P N) (p c : ℕ) → HasTwoEnds net p c }
 {}
 
-/// Where one replica changes, the others and the frames stay.
+/// If one replica changes, the others and the frames stay.
 pub fn one_replica_changes<P>()
     ensures { (w : World P) (p r : ℕ) (x : Replica P) → OneChanges w p r x }
 {}
 
-/// A run does n further events and answers Limit n where more are safe; else it does all that are
-/// safe and answers All with how many it did. Nothing else changes.
+/// A run does n further events and answers Limit n if more are safe; else it does all that are safe
+/// and answers All with how many it did. Nothing else changes.
 pub fn a_run_answers<P, N>()
     ensures { (net : Net P N) (same : P → P → Bool) (w : World P) (p r n count : ℕ)
         → is_replica net p r ≡ true → IsCount net p (w.replica p r).knowledge count
@@ -37,15 +37,14 @@ pub fn a_run_answers<P, N>()
 {}
 
 /// What a replica sends is put behind the frames that were sent before, and nothing else changes: a
-/// message, all messages from a number on, or a null message with how many messages there are and
-/// what is promised. The answer is how many frames were put.
+/// message, all messages from a number on, or a null message with the number of messages and the
+/// promise. The answer is how many frames were put.
 pub fn sending_puts_frames<P, N>()
     ensures { (net : Net P N) (same : P → P → Bool) (w : World P) (p r c : ℕ)
         → is_replica net p r ≡ true → goes_out net p c ≡ true → PutsFrames net same w p r c }
 {}
 
-/// A delivery tells one replica of the receiver what its frame says, and answers what taking it
-/// answers.
+/// A delivery gives its frame to one replica of the receiver, and answers what taking it answers.
 pub fn a_delivery_tells_the_receiver<P, N>()
     ensures { (net : Net P N) (same : P → P → Bool) (w : World P) (i r c : ℕ)
         → is_replica net (receiver_of net c) r ≡ true → Delivers net same w i r c }

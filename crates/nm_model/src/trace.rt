@@ -28,8 +28,8 @@ pub fn what_starts_arrives<P, N>()
     ensures { (net : Net P N) → IsNet net → StartsArrive net }
 {}
 
-/// Records stand in the order of time: in the whole network and in a partition over anything that
-/// it was told.
+/// Records are in the order of time: in the whole network and in a partition over anything that it
+/// received.
 pub fn records_in_order<P, N>()
     ensures { (net : Net P N) → IsNet net → RecordsInOrder net }
 {}

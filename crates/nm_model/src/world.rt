@@ -8,7 +8,7 @@ ghost use Rattle.nm_model.specs.Before.{IsCount};
 ghost use Rattle.nm_model.specs.World.{Step, advance};
 ghost use Rattle.nm_model.specs.WorldLaws.{KnowledgeDecides, PrefixTheorem};
 
-/// The prefix theorem. Whatever replicas run, send, hear, merge and restart, whichever promises
+/// The prefix theorem. Whatever replicas run, send, receive, merge and restart, whichever promises
 /// they make, and whatever frames are lost, repeated or late: all knowledge is true of the network
 /// (`valid`); each trace is a beginning of the network's trace of that partition (`prefix`) and
 /// exactly that before the safe time once what is safe has run (`exact`); each state is the cut of
@@ -27,7 +27,7 @@ pub fn a_run_goes_to_what_is_safe<P, N>()
 
 /// Replicas of a partition, in one world or in two, that know the same of each incoming channel and
 /// have done as many events have equal states, so equal traces, outgoing lists and ports, and make
-/// equal promises; and where both have run all that is safe, they have done as many.
+/// equal promises; once both have run all that is safe, they have done as many.
 pub fn equal_knowledge_gives_equal_replicas<P, N>()
     ensures { (net : Net P N) → IsNet net → KnowledgeDecides net }
 {}

@@ -39,14 +39,14 @@ pub record AreAsked (folder : List ℕ) (names : List (List ℕ)) (text : List �
   pub trace : IsTraceBefore network network.stop records
   pub all : files ≡ asked_files network names folder records
 
--- why no file is asked for: the text is refused, or one of the names is that of no interface
+-- why no file is asked for: the text is refused, or one of the names is no interface's
 abbrev pub HasNoIfaces : List (List ℕ) → List ℕ → Status → Type 0
 HasNoIfaces names text status = IsRefused text status
     ⊎ ((status ≡ NoInterface)
     × ((network : TopologyValue) × (topology_of text ≡ Ok network)
     × (All (λ name. iface_named network.ifaces (Some name) ≡ None → ⊥) names → ⊥)))
 
--- what `all` is asked for: the input with the topology, the folder, and the names of interfaces
+-- what `all` gets: the input with the topology, the folder, and the names of interfaces
 pub record AllAsked : Type 0 where
   pub topology : List ℕ
   pub folder : List ℕ
@@ -59,7 +59,7 @@ all_asked w = record {
   names = map (λ n. string_bytes n) w.ifaces.now;
 }
 
--- What each status says. Where a file failed or memory was refused, the files that were made are
+-- The meaning of each status. If a file failed or memory was refused, the files that were made are
 -- the first of those asked for.
 module _ (before after : FilesSeen) where
   abbrev pub MakesAll : AllAsked → Status → Type 0

@@ -33,7 +33,7 @@ use Rattle.nm_offline.specs.Lines.{iface_lines}
 use Rattle.nm_offline.specs.Output.{EndsWord, Exchange, FailsOfInput, SaysOfInput}
 use Rattle.nm_offline.specs.Verify.{text_of_file}
 
--- what `certify` is asked for: the input with the topology, and the folders
+-- what `certify` gets: the input with the topology, and the folders
 pub record CertifyAsked : Type 0 where
   pub topology : List ℕ
   pub folders : List (List ℕ)
@@ -44,7 +44,7 @@ certify_asked words = record {
   folders = map (λ folder. string_bytes folder) words.folders.now;
 }
 
--- Where the files of a partition are: in this folder, with the file of what this replica knew.
+-- The place of a partition's files: in this folder, with the file of what this replica knew.
 pub record FilePlace : Type 0 where
   pub folder : List ℕ
   pub replica : ℕ
@@ -77,7 +77,7 @@ pub record ArePlaces (inputs : InputsSeen) (folders : List (List ℕ)) (t : Topo
   pub each : (p : ℕ) (place : FilePlace) → slice_get places p ≡ Some place
       → IsFilePlace inputs folders p place
 
--- the text of an interface's trace file in the folder of its partition, where it is told
+-- the text of an interface's trace file in the folder of its partition, if it is known
 abbrev pub trace_text : (text : List ℕ → Option (List ℕ)) → Option FilePlace → Option IfaceValue
     → Option (List ℕ)
 trace_text text None iface = None
@@ -93,7 +93,7 @@ module _ (inputs : InputsSeen) (t : TopologyValue) (places : List FilePlace) whe
   trace_texts n = trace_text inputs.text (slice_get places (receiver_of (net_of t) n))
       (slice_get t.ifaces n)
 
-  -- a book of each partition, which knows what its file of what is known tells, where that is told,
+  -- a book of each partition, which knows what its file of what is known says, if that is known,
   -- and did all that it may do by that
   pub record AreTheirBooks (books : List BookValue) : Type 0 where
     pub count : length books ≡ length places
@@ -105,7 +105,7 @@ module _ (inputs : InputsSeen) (t : TopologyValue) (places : List FilePlace) whe
   AreTheirTraces records = (n : ℕ) (iface : IfaceValue) → slice_get t.ifaces n ≡ Some iface
       → IfSome (trace_texts n) (λ text. text ≡ trace_file Octets n records)
 
--- Of each partition a folder has a file of what is known. The books by the first of each are
+-- Each partition has a file of what is known in a folder. The books by the first of each are
 -- certified: each interface has what it has in the trace of the one event list, over the whole run.
 -- And each trace file beside them is that of its interface, octet for octet.
 pub record AreFilesCertified (inputs : InputsSeen) (asked : CertifyAsked) (text octets : List ℕ)
@@ -122,8 +122,8 @@ pub record AreFilesCertified (inputs : InputsSeen) (asked : CertifyAsked) (text 
   pub whole : AreTheirTraces inputs network places records
   pub said : octets ≡ codes "certified\n" ++ iface_lines (λ i. totals_of i records) network
 
--- the number of the certificate's fault that a file of what is known is which is refused: there is
--- no book of its partition, or one of another topology
+-- the number of the certificate's fault for a refused file of what is known: there is no book of
+-- its partition, or one of another topology
 abbrev pub refused_number : KnownCause → Option ℕ
 refused_number known.Topology = Some 6
 refused_number known.Form = Some 4
@@ -178,7 +178,7 @@ pub record IsOneUnlike (inputs : InputsSeen) (folders : List (List ℕ)) (t : To
   pub lesser : (n : ℕ) → n < own → IfSome (trace_texts inputs t places n)
       (λ text. text ≡ trace_file Octets n records)
 
--- which is told of files that are not certified
+-- what is said of files that are not certified
 abbrev pub ExplainsFiles : InputsSeen → (folders : List (List ℕ)) → TopologyValue
     → Fault CertifyCause → Type 0
 ExplainsFiles inputs folders t NoMemory = Unit {0}
@@ -193,7 +193,7 @@ ExplainsFiles inputs folders t (Refused (cause.NotCertified fault)) =
 ExplainsFiles inputs folders t (Refused (cause.Differs own octet)) =
     IsOneUnlike inputs folders t own octet
 
--- what such a fault is to the word
+-- what such a fault is for the word
 abbrev pub IsStatusOfFiles : (before after : InputsSeen) → List IfaceValue → Fault CertifyCause
     → Status → Type 0
 IsStatusOfFiles before after ifaces NoMemory status = status ≡ Memory
@@ -235,19 +235,19 @@ AreNotCertified before after asked text (NotCertified n) =
 AreNotCertified before after asked text status =
     ((status ≡ File) × (after.failures ≡ before.failures + 1)) ⊎ (status ≡ Memory)
 
--- it is said once all are certified
+-- it is printed once all are certified
 abbrev pub SaysFiles : InputsSeen → CertifyAsked → List ℕ → Status → List ℕ → Type 0
 SaysFiles inputs asked text status octets =
     (status ≡ Done) × AreFilesCertified inputs asked text octets
 
--- why nothing is said: there is no network, or its files are not certified
+-- why nothing is printed: there is no network, or its files are not certified
 abbrev pub FailsCertify : (before after : InputsSeen) → CertifyAsked → Status → Type 0
 FailsCertify before after asked status =
     FailsOfInput before after asked.topology IsRefused status
     ⊎ ((text : List ℕ) × IsInput (before.text asked.topology) text
     × AreNotCertified before after asked text status)
 
--- what each status says
+-- the meaning of each status
 module _ {S : Type 0} (before after : Exchange S) where
   abbrev pub EndsCertify : CertifyAsked → Status → Type 0
   EndsCertify asked status =

@@ -9,7 +9,7 @@ use Rattle.nm_command.specs.declared.status.Status.TheVariants.{Done, Topology}
 use Rattle.nm_offline.specs.Input.{IsUnread}
 use Rattle.nm_offline.specs.Output.{EndsWord, Exchange, SaysOfInput}
 
--- What is said with a status: an accepted topology is done, and of a refused one the status has the
+-- What is printed with a status: an accepted topology is done; of a refused one the status has the
 -- first refusal, with a line on it.
 abbrev pub SaysOf : List ℕ → Status → List ℕ → Type 0
 SaysOf text status octets =
@@ -17,7 +17,7 @@ SaysOf text status octets =
     ⊎ ((refusal : Refusal) × (status ≡ Topology refusal) × (topology_of text ≡ Err refusal)
     × EndsLine octets)
 
--- what each status says
+-- the meaning of each status
 abbrev pub EndsCheck : {S : Type 0} → (before after : Exchange S) → List ℕ → Status → Type 0
 EndsCheck before after topology status =
     EndsWord before after (SaysOfInput before.inputs topology SaysOf)

@@ -28,7 +28,7 @@ use Rattle.nm_offline.specs.declared.finding.Found.{Found}
 abbrev pub found_place : {B : Type 0} → Found B → FilePlace
 found_place f = record { folder = f.folder.now; replica = f.replica }
 
--- The octets that are left of a reader, where that is told.
+-- The octets that are left of a reader, if they are known.
 module _ {B : Type 0} (left : B → Option (List ℕ)) (inputs : InputsSeen) where
   -- the file of this replica of partition p was found in this folder, and has its text
   pub record IsFoundIn (folder : List ℕ) (p replica : ℕ) (f : Found B) : Type 0 where
@@ -61,11 +61,11 @@ AreOwnTexts inputs folder t p texts = (n : ℕ) (iface : IfaceValue)
     → slice_get t.ifaces n ≡ Some iface → receiver_of (net_of t) n ≡ p
     → texts n ≡ inputs.text (file_name folder iface)
 
--- The octets that are left of a reader, and the texts of trace files, each where it is told.
+-- The octets that are left of a reader, and the texts of trace files, each if it is known.
 module _ {B : Type 0} (left : B → Option (List ℕ)) (texts : ℕ → Option (List ℕ))
     (t : TopologyValue) where
-  -- The trace files of partition p's interfaces were opened, up to the first whose header differs,
-  -- if one does: that is of an interface of the partition.
+  -- The trace files of partition p's interfaces were opened, up to the first that differs in its
+  -- header, if one does: it is of an interface of the partition.
   pub record AreTracesOf (p : ℕ) (traces : LeastChecked B) : Type 0 where
     pub begun : AreBegun texts left traces
     pub within : length traces.files.files.items ≤ length t.ifaces

@@ -12,8 +12,8 @@ use Rattle.nm_base.specs.declared.limits.TheConstants.{MAX_INPUT_OCTETS}
 use Rattle.nm_offline.specs.declared.input.InputFault.{InputFault}
 use Rattle.nm_offline.specs.declared.input.InputFault.TheVariants.{Failed, Memory as NoMemory}
 
--- What is seen of where inputs come from: the text that standard input has, and that the file of a
--- name has, each where it is told.
+-- What is seen of where inputs come from: the texts of standard input and of the file of each name,
+-- if they are known.
 pub record InputTexts : Type 0 where
   pub standard : Option (List ℕ)
   pub file : List ℕ → Option (List ℕ)
@@ -24,7 +24,7 @@ pub record CountedInputs (I : Type 0) : Type 0 where
   pub inputs : I
   pub failures : ℕ
 
--- what is seen of them: the text of each, where it is told, and that count
+-- what is seen of them: the text of each, if it is known, and that count
 pub record InputsSeen : Type 0 where
   pub text : List ℕ → Option (List ℕ)
   pub failures : ℕ
@@ -36,13 +36,12 @@ text_of texts name = if bytes_eq name (codes "-") then texts.standard else texts
 abbrev pub inputs_seen : {I : Type 0} → (texts : I → InputTexts) → CountedInputs I → InputsSeen
 inputs_seen texts i = record { text = text_of (texts i.inputs); failures = i.failures }
 
--- what the kind of an error tells: that memory was refused, or else that the opening or the read
--- failed
+-- the meaning of the kind of an error: memory was refused, or else the opening or the read failed
 abbrev pub IsFaultOf : ErrorKind → InputFault → Type 0
 IsFaultOf kind fault =
     ((kind ≡ OutOfMemory) × (fault ≡ NoMemory)) ⊎ ((kind ≡ OutOfMemory → ⊥) × (fault ≡ Failed))
 
--- the text that was read from an input, which may tell what it has
+-- the text that was read from an input, if its text is known
 pub record IsInput (told : Option (List ℕ)) (text : List ℕ) : Type 0 where
   pub whole : IfSome told (λ t. text ≡ t)
   pub most : length text ≤ MAX_INPUT_OCTETS
@@ -53,7 +52,7 @@ IsNotRead before after name =
     (after.failures ≡ before.failures + 1)
     ⊎ IfSome (before.text name) (λ t. MAX_INPUT_OCTETS < length t)
 
--- why its text was not had
+-- why there is no such text
 abbrev pub IsUnread : (before after : InputsSeen) (name : List ℕ) → Status → Type 0
 IsUnread before after name status =
     ((status ≡ File) × IsNotRead before after name) ⊎ (status ≡ Memory)

@@ -1,4 +1,4 @@
--- What a word says, and how the program ends with it.
+-- The output of a word, and how the program ends with it.
 use Rattle.std.specs.Prelude.{◌≡◌, ◌⊎◌, ℕ, List, Option}
 use Rattle.nm_base.specs.Sink.{SinkSeen, WroteAll, WrotePrefix}
 use Rattle.nm_command.specs.declared.status.Status.{Status}
@@ -7,7 +7,7 @@ use Rattle.nm_files.specs.Outputs.{Files}
 use Rattle.nm_files.specs.Writing.{WrotePart}
 use Rattle.nm_offline.specs.Input.{CountedInputs, InputTexts, InputsSeen, IsInput, IsUnread, inputs_seen}
 
--- the sink for what a word says, and what is seen of it
+-- the sink for the output of a word, and what is seen of it
 pub record OutputSeen (S : Type 0) : Type 0 where
   pub sink : S
   pub seen : SinkSeen
@@ -26,7 +26,7 @@ exchange texts seen inputs sink =
     record { inputs = inputs_seen texts inputs; output = output_seen seen sink }
 
 -- what a word that makes files has to do with, before it or after it: the inputs, and the files
--- that were placed so far, where that is told
+-- that were placed so far, if they are known
 pub record FilesSeen : Type 0 where
   pub inputs : InputsSeen
   pub made : Option Files
@@ -36,20 +36,20 @@ abbrev pub files_seen : {I F : Type 0} → (texts : I → InputTexts) → (made 
 files_seen texts made inputs outputs =
     record { inputs = inputs_seen texts inputs; made = made outputs }
 
--- these octets are said with this status, of the text that the input of a name has
+-- these octets are printed with this status, for the text of the input of a name
 abbrev pub SaysOfInput : InputsSeen → (name : List ℕ) → (List ℕ → Status → List ℕ → Type 0)
     → Status → List ℕ → Type 0
 SaysOfInput inputs name Says status octets =
     (text : List ℕ) × IsInput (inputs.text name) text × Says text status octets
 
--- why nothing is said of an input: it was not read, or its text is at fault
+-- why there is no output for an input: it was not read, or its text is at fault
 abbrev pub FailsOfInput : (before after : InputsSeen) (name : List ℕ)
     → (List ℕ → Status → Type 0) → Status → Type 0
 FailsOfInput before after name Fails status =
     IsUnread before after name status
     ⊎ ((text : List ℕ) × IsInput (before.text name) text × Fails text status)
 
--- The same of two inputs. Both are read before anything else is looked at; where the first is not
+-- The same of two inputs. Both are read before anything else is looked at; if the first is not
 -- read, the second is not opened.
 abbrev pub SaysOfInputs : InputsSeen → (one two : List ℕ)
     → (List ℕ → List ℕ → Status → List ℕ → Type 0) → Status → List ℕ → Type 0
@@ -70,7 +70,7 @@ module _ {S : Type 0} (old new : OutputSeen S) where
   abbrev pub IsWritten : List ℕ → Type 0
   IsWritten octets = WroteAll old.seen new.seen octets
 
-  -- the sink failed when it had taken a part of the octets, from the front
+  -- the sink failed after it took a part of the octets, from the front
   abbrev pub IsCutOff : List ℕ → Type 0
   IsCutOff octets = WrotePrefix old.seen new.seen octets
 
@@ -83,8 +83,8 @@ module _ {S : Type 0} (old new : OutputSeen S) where
   IsPut octets asked status =
       ((status ≡ asked) × IsWritten octets) ⊎ ((status ≡ File) × IsCutOff octets)
 
--- What is said with the status was written; or the sink failed as something was written; or nothing
--- is said, and the output is as it was.
+-- The output for the status was written; or the sink failed as it was written; or there is none,
+-- and the output is as it was.
 abbrev pub EndsWord : {S : Type 0} → (before after : Exchange S) → (Status → List ℕ → Type 0)
     → (Status → Type 0) → Status → Type 0
 EndsWord before after Says Fails status =

@@ -8,14 +8,14 @@ use Rattle.nm_measure.specs.Lines.{EndsLine}
 use Rattle.nm_offline.specs.Input.{IsRefused}
 use Rattle.nm_offline.specs.Output.{EndsWord, Exchange, FailsOfInput, SaysOfInput}
 
--- what is said of the source with this number, which there is, is whole lines
+-- the text of the source with this number, which there is, is whole lines
 pub record ArePacketLines (source : ℕ) (text octets : List ℕ) : Type 0 where
   pub network : TopologyValue
   pub read : topology_of text ≡ Ok network
   pub there : source < length network.sources
   pub lines : EndsLine octets
 
--- it is said once it is made
+-- it is printed once it is made
 abbrev pub SaysPackets : ℕ → List ℕ → Status → List ℕ → Type 0
 SaysPackets source text status octets = (status ≡ Done) × ArePacketLines source text octets
 
@@ -26,7 +26,7 @@ HasNoSource source text status = IsRefused text status
     × ((network : TopologyValue) × (topology_of text ≡ Ok network)
     × (length network.sources ≤ source)))
 
--- What each status says.
+-- The meaning of each status.
 module _ {S : Type 0} (before after : Exchange S) where
   abbrev pub EndsPackets : List ℕ → ℕ → Status → Type 0
   EndsPackets topology source status =

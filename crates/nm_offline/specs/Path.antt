@@ -14,7 +14,7 @@ use Rattle.nm_offline.specs.Output.{EndsWord, Exchange, FailsOfInput, SaysOfInpu
 abbrev pub node_named : List NodeValue → List ℕ → Option ℕ
 node_named nodes name = position (λ n. bytes_eq n.name name) nodes
 
--- what is said of the way from the node of this name to this address, which is no martian, is whole
+-- the text of the way from the node of this name to this address, which is no martian, is whole
 -- lines
 pub record IsPathSaid (node address text octets : List ℕ) : Type 0 where
   pub network : TopologyValue
@@ -26,7 +26,7 @@ pub record IsPathSaid (node address text octets : List ℕ) : Type 0 where
   pub front : List ℕ
   pub lines : octets ≡ front ++ 10 ∷ []
 
--- it is said once it is made
+-- it is printed once it is made
 abbrev pub SaysPath : List ℕ → List ℕ → List ℕ → Status → List ℕ → Type 0
 SaysPath node address text status octets = (status ≡ Done) × IsPathSaid node address text octets
 
@@ -37,7 +37,7 @@ HasNoEnds node address text status = IsRefused text status
     ⊎ ((status ≡ Usage) × ((network : TopologyValue) × (topology_of text ≡ Ok network)
     × ((node_named network.nodes node ≡ None) ⊎ (usable_address_of address ≡ None))))
 
--- What each status says.
+-- The meaning of each status.
 module _ {S : Type 0} (before after : Exchange S) where
   abbrev pub EndsPath : List ℕ → List ℕ → List ℕ → Status → Type 0
   EndsPath topology node address status =

@@ -37,13 +37,13 @@ pub record SaysUnfinished (max : ℕ) (text octets : List ℕ) : Type 0 where
   pub are : AreTotals network books totals
   pub said : octets ≡ codes "unfinished " ++ decimal max ++ codes "\n" ++ iface_lines totals network
 
--- either is said with its own status
+-- either is printed with its own status
 abbrev pub SaysRounds : ℕ → List ℕ → Status → List ℕ → Type 0
 SaysRounds max text status octets =
     ((status ≡ Done) × SaysDone max text octets)
     ⊎ ((status ≡ Stalled) × SaysUnfinished max text octets)
 
--- what each status says
+-- the meaning of each status
 module _ {S : Type 0} (before after : Exchange S) where
   abbrev pub EndsRounds : List ℕ → ℕ → Status → Type 0
   EndsRounds topology max status =

@@ -25,7 +25,7 @@ pub record Replays (text script : List ℕ) (network : TopologyValue) (answers :
   pub means : IsScript script steps
   pub replay : IsReplay network steps answers books ending
 
--- What is said are the answers to all steps of the script, and the books that they left. So the
+-- The text has the answers to all steps of the script, and the books that they left. So the
 -- headline holds of them.
 pub record SaysReport (text script octets : List ℕ) : Type 0 where
   pub network : TopologyValue
@@ -35,7 +35,7 @@ pub record SaysReport (text script octets : List ℕ) : Type 0 where
   pub headline : Headline network answers books
   pub said : octets ≡ report_text answers books
 
--- this step of the script, counted from 0, names what is not there
+-- this step of the script, counted from 0, names nothing
 pub record StopsAt (text script : List ℕ) (step : ℕ) : Type 0 where
   pub network : TopologyValue
   pub answers : List StepAnswer
@@ -48,17 +48,17 @@ pub record HasBadLine (text script : List ℕ) (line : ℕ) : Type 0 where
   pub read : topology_of text ≡ Ok network
   pub bad : IsFirstFault script line
 
--- it is said once the steps are done
+-- it is printed once the steps are done
 abbrev pub SaysScript : List ℕ → List ℕ → Status → List ℕ → Type 0
 SaysScript text script status octets = (status ≡ Done) × SaysReport text script octets
 
--- why nothing is said: the topology is refused, or a line or a step of the script is at fault
+-- why nothing is printed: the topology is refused, or a line or a step of the script is at fault
 abbrev pub FailsScript : List ℕ → List ℕ → Status → Type 0
 FailsScript text script status = IsRefused text status
     ⊎ ((line : ℕ) × (status ≡ ScriptLine line) × HasBadLine text script line)
     ⊎ ((step : ℕ) × (status ≡ Step step) × StopsAt text script step)
 
--- what each status says
+-- the meaning of each status
 module _ {S : Type 0} (before after : Exchange S) where
   abbrev pub EndsScript : List ℕ → List ℕ → Status → Type 0
   EndsScript topology steps status =

@@ -44,7 +44,7 @@ abbrev pub rows_in : Subject → TopologyValue → ℕ
 rows_in Interfaces t = length t.ifaces
 rows_in Sources t = length t.sources
 
--- there are so many rows as may be written at most, or fewer
+-- there are at most so many rows as may be written
 abbrev pub HasFewRows : Subject → (step : ℕ) → TopologyValue → Type 0
 HasFewRows subject step t = steps_in step t.stop * rows_in subject t ≤ MAX_ROWS
 
@@ -55,8 +55,8 @@ HasManyRows subject step text status = IsRefused text status
     × ((network : TopologyValue) × (topology_of text ≡ Ok network)
     × (rows ≡ steps_in step network.stop * rows_in subject network)))
 
--- What the sink took: all; or a part of the first so many steps, where it failed; or nothing, or
--- those, where memory was refused.
+-- What the sink took: all; or a part of the first so many steps, if it failed; or nothing, or
+-- those, if memory was refused.
 module _ {S : Type 0} (old new : OutputSeen S)
     (subject : Subject) (step : ℕ) (t : TopologyValue) where
   abbrev pub WritesSteps : Status → Type 0
@@ -68,7 +68,7 @@ module _ {S : Type 0} (old new : OutputSeen S)
       ⊎ ((status ≡ Memory) × ((new ≡ old) ⊎ ((steps : ℕ) × (octets : List ℕ)
       × TellsSteps subject step t steps octets × IsWritten old new octets)))
 
--- what each status says
+-- the meaning of each status
 module _ {S : Type 0} (before after : Exchange S) where
   abbrev pub EndsSeries : List ℕ → ℕ → Subject → Status → Type 0
   EndsSeries topology step subject status =

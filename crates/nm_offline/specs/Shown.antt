@@ -9,7 +9,7 @@ use Rattle.nm_offline.specs.Input.{IsRefused}
 use Rattle.nm_offline.specs.Output.{EndsWord, Exchange, FailsOfInput, SaysOfInput}
 use Rattle.nm_offline.specs.Traces.{HasNoIface, iface_named}
 
--- what is said of the network of a text is whole lines
+-- the text of the network of a text is whole lines
 pub record IsShown (text octets : List ℕ) : Type 0 where
   pub network : TopologyValue
   pub read : topology_of text ≡ Ok network
@@ -19,7 +19,7 @@ pub record IsShown (text octets : List ℕ) : Type 0 where
 abbrev pub ArePacketLines : List ℕ → Type 0
 ArePacketLines octets = (octets ≡ []) ⊎ EndsLine octets
 
--- what is said of the interface of that name is whole lines, or nothing
+-- the text of the interface of that name is whole lines, or nothing
 pub record IsShownAt (name text octets : List ℕ) : Type 0 where
   pub network : TopologyValue
   pub read : topology_of text ≡ Ok network
@@ -27,14 +27,14 @@ pub record IsShownAt (name text octets : List ℕ) : Type 0 where
   pub named : iface_named network.ifaces (Some name) ≡ Some iface
   pub lines : ArePacketLines octets
 
--- both are said once they are made
+-- both are printed once they are made
 abbrev pub SaysShown : List ℕ → Status → List ℕ → Type 0
 SaysShown text status octets = (status ≡ Done) × IsShown text octets
 
 abbrev pub SaysText : List ℕ → List ℕ → Status → List ℕ → Type 0
 SaysText name text status octets = (status ≡ Done) × IsShownAt name text octets
 
--- What each status says.
+-- The meaning of each status.
 module _ {S : Type 0} (before after : Exchange S) where
   abbrev pub EndsShown : List ℕ → Status → Type 0
   EndsShown topology status =

@@ -20,12 +20,12 @@ use Rattle.nm_offline.specs.Output.{EndsWord, Exchange, FailsOfInput, IsPartWrit
 use Rattle.nm_files.specs.TraceFile.{trace_file}
 use Rattle.nm_files.specs.Writing.{TraceFault}
 
--- the number of the interface that a command names, which is 0 where it names none
+-- the number of the interface that a command names, 0 if it names none
 abbrev pub iface_named : List IfaceValue → Option (List ℕ) → Option ℕ
 iface_named ifaces None = if nat_lt 0 (length ifaces) then Some 0 else None
 iface_named ifaces (Some name) = position (λ i. bytes_eq i.name name) ifaces
 
--- a record is of a packet that goes one of these ways
+-- a record is of a packet in one of these directions
 abbrev pub goes : Ways → Dir → Bool
 goes Both dir = true
 goes Sent In = false
@@ -33,12 +33,12 @@ goes Sent Out = true
 goes Received In = true
 goes Received Out = false
 
--- the records of packets that go these ways, in their order
+-- the records of packets in these directions, in their order
 abbrev pub going : Ways → List (Record (List ℕ)) → List (Record (List ℕ))
 going ways records = filter (λ r. goes ways r.dir) records
 
 -- the octets that are asked for, of the topology of this text: the trace file of the interface over
--- the whole run, with the packets that go these ways
+-- the whole run, with the packets in these directions
 pub record IsAnswer (form : Form) (ways : Ways) (name : Option (List ℕ)) (text octets : List ℕ) :
     Type 0 where
   pub network : TopologyValue
@@ -49,7 +49,7 @@ pub record IsAnswer (form : Form) (ways : Ways) (name : Option (List ℕ)) (text
   pub trace : IsTraceBefore network network.stop records
   pub file : octets ≡ trace_file form iface (going ways records)
 
--- it is said once it is written
+-- it is printed once it is written
 abbrev pub SaysTrace : Form → Ways → Option (List ℕ) → List ℕ → Status → List ℕ → Type 0
 SaysTrace form ways name text status octets = (status ≡ Done) × IsAnswer form ways name text octets
 
@@ -60,8 +60,8 @@ HasNoIface name text status = IsRefused text status
     × ((network : TopologyValue) × (topology_of text ≡ Ok network)
     × (iface_named network.ifaces name ≡ None)))
 
--- what the words of a trace file ask for: its form, the packets that go these ways, the input with
--- the topology text, and the name of an interface, if there is one
+-- what the words of a trace file get: its form, the directions of packets, the input with the
+-- topology text, and the name of an interface, if there is one
 pub record TraceAsked : Type 0 where
   pub form : Form
   pub ways : Ways
@@ -76,7 +76,7 @@ trace_asked words = record {
   iface = option_map (λ name. name.now) words.iface;
 }
 
--- What each status says. Where memory was refused, it was before the sink took anything, or the
+-- The meaning of each status. If memory was refused, it was before the sink took anything, or the
 -- sink took a part of the answer.
 module _ {S : Type 0} (before after : Exchange S) where
   abbrev pub EndsTrace : TraceAsked → Status → Type 0

@@ -1,4 +1,4 @@
--- The word `verify`: whether the trace files that are there have the traces of their interfaces.
+-- The word `verify`: whether existing trace files have the traces of their interfaces.
 use Rattle.std.specs.Prelude.{◌≡◌, ◌⊎◌, ℕ, ◌+◌, ◌<◌, true, if◌then◌else◌, IfSome, List, [], ◌++◌, All, codes, slice_get, take, Option, Some, None, Ok}
 use Rattle.std.specs.Io.{StartsWith}
 use Rattle.std.specs.List.{enumerate_from, flat_map}
@@ -27,7 +27,7 @@ use Rattle.nm_offline.specs.Lines.{iface_line}
 use Rattle.nm_offline.specs.Output.{EndsWord, Exchange, FailsOfInput, SaysOfInput}
 use Rattle.nm_offline.specs.Traces.{iface_named}
 
--- the text of an interface's trace file in a folder, where it is told
+-- the text of an interface's trace file in a folder, if it is known
 abbrev pub text_of_file : (text : List ℕ → Option (List ℕ)) → (folder : List ℕ) → Option IfaceValue
     → Option (List ℕ)
 text_of_file text folder None = None
@@ -45,8 +45,8 @@ wanted_line names records i =
 abbrev pub wanted_lines : List (List ℕ) → List (Record (List ℕ)) → TopologyValue → List ℕ
 wanted_lines names records t = flat_map (wanted_line names records) (enumerate_from 0 t.ifaces)
 
--- Of a network, and of interfaces of these names, whose files have these texts, each where it is
--- told.
+-- Of a network, and of interfaces of these names, with these texts of their files, if they are
+-- known.
 module _ (t : TopologyValue) (names : List (List ℕ)) (texts : ℕ → Option (List ℕ)) where
   -- this is true of the text of each file that is asked for
   abbrev pub OfEach : (ℕ → List ℕ → Type 0) → Type 0
@@ -127,7 +127,7 @@ pub record OneDiffers (inputs : InputsSeen) (asked : AllAsked) (text name : List
       (trace_file Octets own records) octet
   pub first : DiffersFirst network asked.names (texts_of inputs asked.folder network) records own octet
 
--- it is said once all are verified
+-- it is printed once all are verified
 abbrev pub SaysVerified : InputsSeen → AllAsked → List ℕ → Status → List ℕ → Type 0
 SaysVerified inputs asked text status octets =
     (status ≡ Done) × AreVerified inputs asked text octets
@@ -140,8 +140,8 @@ IsNotVerified before after asked text (Differs name octet) =
 IsNotVerified before after asked text status =
     ((status ≡ File) × (after.failures ≡ before.failures + 1)) ⊎ (status ≡ Memory)
 
--- what the fault of files is to the word: the octet at which one differs, of an interface with this
--- name; or a failure more is counted; or memory was refused
+-- what the fault of files is for the word: the octet at which one differs, and the name of its
+-- interface; or a failure more is counted; or memory was refused
 abbrev pub IsStatusOf : (before after : InputsSeen) → List IfaceValue → Fault CheckCause → Status
     → Type 0
 IsStatusOf before after ifaces NoMemory status = status ≡ Memory
@@ -160,7 +160,7 @@ FailsVerify before after asked status =
     ⊎ ((text : List ℕ) × IsInput (before.text asked.topology) text
     × IsNotVerified before after asked text status)
 
--- What each status says.
+-- The meaning of each status.
 module _ {S : Type 0} (before after : Exchange S) where
   abbrev pub EndsVerify : AllAsked → Status → Type 0
   EndsVerify asked status =

@@ -55,8 +55,8 @@ fn record_all<S: Sink>(
     Err(Status::Memory)
 }
 
-/// Runs the network over the files that are asked for, which are closed then, in a folder that has
-/// a name.
+/// Runs the network over the files that are asked for, then closes them, in a folder that has a
+/// name.
 fn write_files<F: Outputs>(
     alloc: Global,
     folder: &Folder<'_, Asked<'_>>,
@@ -106,7 +106,7 @@ fn make_files<F: Outputs>(
     Ok(place_all(outputs, closed)?)
 }
 
-/// Makes the trace files of interfaces of the network of an input.
+/// Makes the trace files of interfaces of an input's network.
 fn make_all<I: Inputs, F: Outputs>(
     alloc: Global,
     words: &AllArguments<'_>,
@@ -132,7 +132,7 @@ fn make_all<I: Inputs, F: Outputs>(
 }
 
 /// Makes the trace files of interfaces, all by one event list: of those that have these names, or
-/// of all where there are none.
+/// of all if there are none.
 pub fn write_all_traces<I: Inputs, F: Outputs>(
     alloc: Global,
     words: &AllArguments<'_>,

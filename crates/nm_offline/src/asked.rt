@@ -1,4 +1,4 @@
-//! Trace files that are asked for, by the names of their interfaces.
+//! Trace files to make or read, by the names of their interfaces.
 
 ghost use Rattle.std.specs.Prelude.{◌≡◌, None, Some, All, IfErr, OnOk, map, position, string_bytes};
 ghost use Rattle.std.specs.Str.{bytes_eq};
@@ -13,7 +13,7 @@ use nm_files::Choice;
 use nm_topology::Topology;
 use nm_topology::parts::Iface;
 
-/// The interfaces of these names, or all where there are none.
+/// The interfaces of these names, or all if there are none.
 #[derive(Clone, Copy)]
 pub(crate) struct Asked<'a> {
     pub names: &'a [String],
@@ -31,14 +31,14 @@ impl Choice for Asked<'_> {
     }
 }
 
-/// Where the name of an interface stands among these.
+/// The index of an interface's name among these.
 fn place_of(names: &[String], iface: &Iface) -> Option<usize>
     ensures { result ≡ position (λ n. bytes_eq (string_bytes n) iface.now.name) names.now }
 {
     names.iter().position(|name| name.as_str() == iface.name())
 }
 
-/// Whether the trace file of an interface is asked for.
+/// Whether an interface's trace file is asked for.
 pub(crate) fn is_asked_for(names: &[String], iface: &Iface) -> bool
     ensures { result ≡ is_asked_for (map (λ n. string_bytes n) names.now) iface.now }
 {

@@ -40,13 +40,12 @@ use std::cell::Cell;
 use std::sync::Arc;
 use std::thread::Threads;
 
-/// The books by the files of the folders, once they and the trace files are certified.
+/// The books by the files in the folders, once they and the trace files are certified.
 ///
 /// # Errors
 ///
 /// The first fault in this order: the least partition that has no file of what is known; a trace
-/// file that could not be opened or whose header could not be read; and else that of
-/// `certify_parts`.
+/// file that could not be opened, or its header not read; else that of `certify_parts`.
 fn certified_books<I: Inputs, R: Threads + Sync>(
     rt: &R,
     alloc: Global,
@@ -85,7 +84,7 @@ fn certified_text(alloc: Global, topology: &Topology, books: &[Book]) -> Result<
     Ok(text)
 }
 
-/// The status of a file of what is known that is refused: its partition has no book then, or one of
+/// The status for a refused file of what is known: its partition has no book then, or one of
 /// another topology. A failure is counted.
 fn refused_status<I: Inputs>(
     inputs: &mut NamedInputs<I>,
@@ -105,7 +104,7 @@ fn refused_status<I: Inputs>(
     }
 }
 
-/// The status of files that are not certified. A failure is counted.
+/// The status for files that are not certified. A failure is counted.
 fn status_of<I: Inputs>(
     topology: &Topology,
     inputs: &mut NamedInputs<I>,
@@ -134,8 +133,8 @@ fn status_of<I: Inputs>(
     }
 }
 
-/// The certificate's fault in files that are not certified, or what it would be of a book by a file
-/// of what is known that is refused.
+/// The certificate's fault in files that are not certified, or the one that a refused file of what
+/// is known stands for.
 fn shown_fault(fault: &CertifyFault) -> Option<CertFault> {
     match fault {
         CertifyFault::Refused(CertifyCause::NotCertified(fault)) => Some(*fault),
@@ -150,14 +149,14 @@ fn shown_fault(fault: &CertifyFault) -> Option<CertFault> {
     }
 }
 
-/// Whether one of the folders has no name: its files would stand at the root.
+/// Whether one of the folders has no name: its files would be at the root.
 fn has_root(folders: &[String]) -> bool
     ensures { result ≡ list_any (λ f. length (string_bytes f) == 0) folders.now }
 {
     folders.iter().any(|folder| folder.is_empty())
 }
 
-/// Certifies the files of a network: what is said of them.
+/// Certifies the files of a network: what to print of them.
 fn certify_network<I: Inputs, R: Threads + Sync>(
     rt: &R,
     alloc: Global,
@@ -194,7 +193,7 @@ where
     }
 }
 
-/// What is said of the files of the network of an input.
+/// What to print of the files of an input's network.
 fn certify_said<I: Inputs, R: Threads + Sync>(
     rt: &R,
     alloc: Global,
@@ -215,10 +214,10 @@ where
     certify_network(rt, alloc, &network, words, inputs, noted)
 }
 
-/// Certifies what replicas left in folders: of each partition the file of what one of them knew,
-/// by which a new book is made and run, and beside it the trace files of its interfaces. Says that
-/// they are certified, and how many records each interface has, or why not. The certificate's fault
-/// is noted, on which nothing hangs.
+/// Certifies what replicas left in folders. The file of what a replica of each partition knew makes
+/// and runs a new book, beside the trace files of its interfaces. Prints that they are certified,
+/// and how many records each interface has, or why not. The certificate's fault is noted; it
+/// affects no result.
 pub fn say_certify<I: Inputs, O: Sink + Drop, R: Threads + Sync>(
     rt: &R,
     alloc: Global,

@@ -17,7 +17,7 @@ use nm_paths::way_remarks;
 use nm_topology::{TopoFault, Topology};
 use std::alloc::{AllocError, Global};
 
-/// What an accepted topology has, and what is remarked of where its packets go.
+/// What an accepted topology has, and remarks on where its packets go.
 fn overview(alloc: Global, network: &Topology) -> Result<Vec<u8>, AllocError> {
     let mut text = summary(alloc, network)?;
     let ways = way_remarks(alloc, network, least_lookahead(network))?;
@@ -25,7 +25,7 @@ fn overview(alloc: Global, network: &Topology) -> Result<Vec<u8>, AllocError> {
     Ok(text)
 }
 
-/// What is said of a topology text: what it has, or where its first fault lies.
+/// What to print of a topology text: what it has, or where its first fault is.
 fn check_output(alloc: Global, text: &[u8]) -> Result<Output, Status>
     ensures said { IfOk result (λ output. SaysOf text.now output.status output.text.items) }
     ensures fault { IfErr result (λ status. status ≡ Memory) }
@@ -55,7 +55,7 @@ fn check_said<I: Inputs>(
     check_output(alloc, text.as_slice())
 }
 
-/// Says where a topology is at fault, or what it has.
+/// Prints where a topology is at fault, or what it has.
 pub fn say_check<I: Inputs, O: Sink + Drop>(
     alloc: Global,
     topology: &str,

@@ -19,7 +19,7 @@ use nm_topology::Topology;
 use std::alloc::Global;
 use std::io::{self, BufReader};
 
-/// A file of what a replica of a partition knew, and the folder in which it was found.
+/// A file of what a replica of a partition knew, and its folder.
 #[derive(Drop)]
 pub(crate) struct Found<'a, B> {
     pub(crate) folder: &'a str,
@@ -78,8 +78,8 @@ fn find_in<'a, I: Inputs>(
 ///
 /// # Errors
 ///
-/// `NotCertified` where no folder has one: the partition has no book. `Failed` where one that is
-/// there could not be opened, `Memory` where memory was refused.
+/// `NotCertified` if no folder has one: the partition has no book. `Failed` if one that is there
+/// could not be opened, `Memory` if memory was refused.
 fn find_part<'a, I: Inputs>(
     alloc: Global,
     inputs: &NamedInputs<I>,

@@ -18,7 +18,7 @@ use std::marker::Model;
 use std::{fmt, io};
 use thiserror::Error;
 
-/// How many octets of a file are read ahead, so that the system is called seldom.
+/// How many octets of a file are read ahead, to call the system seldom.
 const HELD_OCTETS: usize = 16_384;
 
 /// Why an input was not read.
@@ -78,15 +78,15 @@ impl<I> NamedInputs<I> {
 }
 
 impl<I: Inputs> NamedInputs<I> {
-    /// Opens the input of a name, and reads all that it has, which may be as many as 67,108,864
-    /// octets. The input `-` is standard input, and each other is a file.
+    /// Opens the input of a name, and reads all of it, at most 67,108,864 octets. The input `-` is
+    /// standard input, and each other is a file.
     ///
     /// # Errors
     ///
-    /// `Failed` where it could not be opened or a read failed: the count of failures is one more,
-    /// and else as it was. `TooLong` where it has more octets. `Memory` where memory was refused.
+    /// `Failed` if it could not be opened or a read failed: the count of failures rises by one, and
+    /// else stays. `TooLong` if it has more octets. `Memory` if memory was refused.
     pub fn read(&mut self, alloc: Global, name: &str) -> Result<Vec<u8>, InputFault>
-        // The text that the input tells is read whole, and is not longer than it may be.
+        // The input's text is read whole, and is within the limit.
         ensures text { IfOk result
             (λ octets. IfSome ((inputs_seen I.seen self.old).text name.now)
             (λ text. octets.items ≡ text)) }
@@ -96,7 +96,7 @@ impl<I: Inputs> NamedInputs<I> {
         ensures failed { result ≡ Err Failed → self.new.failures ≡ self.old.failures + 1 }
         ensures kept { (result ≡ Err Failed → ⊥) → self.new.failures ≡ self.old.failures }
 
-        // What is too long was told to be so. The inputs stay.
+        // `TooLong`: the text is longer than the limit. The inputs stay.
         ensures too_long { result ≡ Err TooLong
             → IfSome ((inputs_seen I.seen self.old).text name.now)
             (λ text. MAX_INPUT_OCTETS < length text) }
@@ -109,8 +109,8 @@ impl<I: Inputs> NamedInputs<I> {
         octets
     }
 
-    /// Opens the file of a name, which is read in pieces, however long it is. A name that is
-    /// standard input's is no file's.
+    /// Opens the file of a name, which is read in pieces, however long it is. The name of standard
+    /// input is no file's.
     ///
     /// # Errors
     ///
@@ -123,7 +123,7 @@ impl<I: Inputs> NamedInputs<I> {
         BufReader::with_capacity(alloc, HELD_OCTETS, self.inputs.open(name)?)
     }
 
-    /// The same, where the file is there.
+    /// The same, if the file is there.
     ///
     /// # Errors
     ///
@@ -151,7 +151,7 @@ impl<I: Inputs> NamedInputs<I> {
     }
 }
 
-/// Opens the input of a name, and reads all that it has, which may be as many as 67,108,864 octets.
+/// Opens the input of a name, and reads all of it, at most 67,108,864 octets.
 fn read_named<I: Inputs>(alloc: Global, inputs: &I, name: &str) -> Result<Vec<u8>, InputFault>
     ensures text { IfOk result
         (λ octets. IfSome (text_of (I.seen inputs.now) name.now)
@@ -171,7 +171,7 @@ fn read_named<I: Inputs>(alloc: Global, inputs: &I, name: &str) -> Result<Vec<u8
     }
 }
 
-/// Reads all that is left, which may be as many as 67,108,864 octets.
+/// Reads all that is left, at most 67,108,864 octets.
 fn read_to_end<R: Read>(alloc: Global, reader: &mut R) -> Result<Vec<u8>, InputFault>
     ensures text { IfOk result (λ octets. IfSome (R.remaining reader.old)
         (λ text. octets.items ≡ text)) }
@@ -187,7 +187,7 @@ fn read_to_end<R: Read>(alloc: Global, reader: &mut R) -> Result<Vec<u8>, InputF
     }
 }
 
-/// What the error of an opening or a read tells: that memory was refused, or that it failed.
+/// The meaning of an error of an opening or a read: memory was refused, or it failed.
 fn fault_of(error: &io::Error) -> InputFault
     ensures { IsFaultOf (error_kind error.now) result }
 {

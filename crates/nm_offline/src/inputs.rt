@@ -15,7 +15,7 @@ pub trait Inputs {
     /// A file, which is read to its end.
     type File: Read + Drop;
 
-    // What standard input and the file of each name have, where that is told.
+    // The texts of standard input and of the file of each name, if they are known.
     ghost seen: { Self → InputTexts };
 
     /// Standard input.
@@ -26,8 +26,8 @@ pub trait Inputs {
     ///
     /// # Errors
     ///
-    /// The file could not be opened, or memory was refused. Of a file that is not there, which is
-    /// `NotFound`, nothing is told.
+    /// The file could not be opened, or memory was refused. The error `NotFound`, of a file that is
+    /// not there, says nothing more.
     fn open(&self, name: &str) -> io::Result<Self::File>
         ensures there { IfOk result
             (λ f. Self.File.remaining f ≡ (seen self.now).file name.now) }

@@ -6,7 +6,7 @@ ghost use Rattle.std.specs.Str.{bytes_eq};
 use crate::inputs::Inputs;
 use std::io::{self, ErrorKind, Read};
 
-/// Standard input, and files that have a name and octets each. A name that is no file's cannot be
+/// Standard input, and files with a name and octets each. A name that is no file's cannot be
 /// opened.
 #[derive(Clone, Copy)]
 pub struct MemInputs<'a, S> {
@@ -14,7 +14,7 @@ pub struct MemInputs<'a, S> {
     pub files: &'a [(&'a str, &'a [u8])],
 }
 
-/// Where the file of a name stands.
+/// The index of the file of a name.
 fn place_of(files: &[(&str, &[u8])], name: &str) -> Option<usize>
     ensures { result ≡ position (λ f. bytes_eq f.0.now name.now) files.now }
 {

@@ -1,4 +1,4 @@
-//! The trace files of a folder that are there, each opened and its header read.
+//! Existing trace files of a folder, each opened and its header read.
 
 ghost use Rattle.std.specs.Prelude.{◌≡◌, ◌<◌, ◌++◌, ◌∷◌, ℕ, List, [], Some, IfErr, OnErr, OnOk};
 ghost use Rattle.std.specs.Prelude.{Option, length, slice_get, true};
@@ -31,13 +31,13 @@ pub(crate) fn open_one<C: Choice, I: Inputs>(
     requires there { number < length folder.now.topology.now.ifaces }
     requires next { number ≡ length files.old.files.items }
 
-    // Its file is looked at where it is chosen.
+    // Its file is looked at if it is chosen.
     ensures looked { (iface : IfaceValue)
         → slice_get folder.now.topology.now.ifaces number ≡ Some iface
         → OnOk result (looked_at files.new.files.items ≡ looked_at files.old.files.items
         ++ C.chooses folder.now.choice folder.now.topology.now number iface ∷ []) }
 
-    // It has its header then, or differs there, if its text is that of the folder.
+    // Then it has its header, or differs there, if its text is that of the folder.
     ensures read { (texts : ℕ → Option (List ℕ))
         → ((iface : IfaceValue) → slice_get folder.now.topology.now.ifaces number ≡ Some iface
         → C.chooses folder.now.choice folder.now.topology.now number iface ≡ true
@@ -57,7 +57,7 @@ pub(crate) fn open_one<C: Choice, I: Inputs>(
         → C.chooses folder.now.choice folder.now.topology.now number x ≡ true)
         × DiffersIn texts number [] file_header octet) }
 
-    // No file more is there where there is an error.
+    // After an error no further file is there.
     ensures kept { OnErr result (files.new.files.items ≡ files.old.files.items) }
 {
     let iface = folder.topology.iface_number(number);

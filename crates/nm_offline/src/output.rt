@@ -1,4 +1,4 @@
-//! What a word says, and how the program ends with it.
+//! The output of a word, and how the program ends with it.
 
 ghost use Rattle.std.specs.Prelude.{◌≡◌, IfErr, IfOk, Ok};
 ghost use Rattle.nm_command.specs.declared.status.Status.TheVariants.{Memory};
@@ -21,7 +21,7 @@ impl Output {
     ///
     /// # Errors
     ///
-    /// `Memory` where it was not made, since memory was refused.
+    /// `Memory` if it was not made, since memory was refused.
     pub fn of(text: Result<Vec<u8>, AllocError>, status: Status) -> Result<Output, Status>
         ensures made { IfOk result (λ output. (output.status ≡ status) × (text ≡ Ok output.text)) }
         ensures fault { IfErr result (λ s. s ≡ Memory) }
@@ -42,8 +42,8 @@ fn put<O: Sink>(output: Output, mut out: O) -> (Status, O)
     }
 }
 
-/// Ends a word: writes what it says, or hands on the status with which it says nothing. Gives the
-/// sink back.
+/// Ends a word: writes its output, or passes on the status with which it has none. Gives the sink
+/// back.
 pub fn end<O: Sink>(said: Result<Output, Status>, out: O) -> (Status, O)
     ensures written { IfOk said (λ output. IsPut (output_seen O.seen out)
         (output_seen O.seen result.1) output.text.items output.status result.0) }

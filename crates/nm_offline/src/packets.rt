@@ -40,7 +40,7 @@ fn packets_said<I: Inputs>(
     )
 }
 
-/// Says the ways of the packets of a source.
+/// Prints the ways of the packets of a source.
 pub fn say_packets<I: Inputs, O: Sink + Drop>(
     alloc: Global,
     words: &PacketsArguments<'_>,

@@ -1,4 +1,4 @@
-//! The files of partitions: what one of its replicas knew, and the trace files that stand beside.
+//! The files of partitions: what one of its replicas knew, and the trace files beside it.
 
 ghost use Rattle.std.specs.Prelude.{◌≡◌, ℕ, List, IfOk, Option, length, map};
 ghost use Rattle.std.specs.Io.Buffered.{reader_remaining};
@@ -21,7 +21,7 @@ use std::alloc::Global;
 use std::io::BufReader;
 
 /// Opens the trace files of a partition's interfaces in a folder, and reads their headers, up to
-/// the first that differs: none behind it can be that of the least interface.
+/// the first that differs: none after it can be that of the least interface.
 ///
 /// # Errors
 ///
@@ -47,8 +47,8 @@ fn open_traces<I: Inputs>(
     Ok(LeastChecked::new(files, None))
 }
 
-/// Opens the trace files of the interfaces of all partitions, each in the folder in which its file
-/// of what is known was found, and reads their headers.
+/// Opens the trace files of the interfaces of all partitions, each in the folder of its file of
+/// what is known, and reads their headers.
 ///
 /// # Errors
 ///

@@ -20,7 +20,7 @@ use nm_topology::parse::forms::usable_address_of;
 use nm_topology::parts::Node;
 use std::alloc::Global;
 
-/// Where a node of this name stands.
+/// The index of a node of this name.
 fn index_of_node(nodes: &[Node], name: &str) -> Option<usize>
     ensures value { result ≡ position (λ n. bytes_eq n.name name.now) nodes.now }
     ensures within { IfSome result (λ n. n < length nodes.now) }
@@ -36,7 +36,7 @@ fn find_node(topology: &Topology, name: &str) -> Option<NodeNo>
     Some(topology.node_number(index))
 }
 
-/// The topology whose text the input of a name has, its node of a name, and an address.
+/// The topology in the input of a name, its node of a name, and an address.
 fn read_ends<I: Inputs>(
     alloc: Global,
     words: &PathArguments<'_>,
@@ -73,7 +73,7 @@ fn path_said<I: Inputs>(
     Output::of(path_text(alloc, &network, from, to), Status::Done)
 }
 
-/// Says the way from a node to an address.
+/// Prints the way from a node to an address.
 pub fn say_path<I: Inputs, O: Sink + Drop>(
     alloc: Global,
     words: &PathArguments<'_>,

@@ -14,7 +14,7 @@ use nm_topology::{TopoFault, Topology};
 use std::alloc::Global;
 use std::sync::Arc;
 
-/// The text that the input of a name has.
+/// The text of the input of a name.
 pub fn read_text<I: Inputs>(
     alloc: Global,
     inputs: &mut NamedInputs<I>,
@@ -46,7 +46,7 @@ pub fn read_network(alloc: Global, text: &[u8]) -> Result<Topology, Status>
     }
 }
 
-/// The topology whose text the input of a name has. The text is let go.
+/// The topology in the input of a name. The text is dropped.
 pub fn read_topology<I: Inputs>(
     alloc: Global,
     inputs: &mut NamedInputs<I>,
@@ -62,7 +62,7 @@ pub fn read_topology<I: Inputs>(
     read_network(alloc, text.as_slice())
 }
 
-/// A topology that several parts of the program hold.
+/// A topology that several parts of the program share.
 pub fn share(alloc: Global, topology: Topology) -> Result<Arc<Topology>, Status>
     ensures same { IfOk result (λ shared. arc_value shared ≡ topology) }
     ensures fault { IfErr result (λ status. status ≡ Memory) }
@@ -70,7 +70,7 @@ pub fn share(alloc: Global, topology: Topology) -> Result<Arc<Topology>, Status>
     Ok(Arc::new(alloc, topology)?)
 }
 
-/// The topology whose text the input of a name has, as one that several parts of the program hold.
+/// The topology in the input of a name, as one that several parts of the program share.
 pub fn read_shared<I: Inputs>(
     alloc: Global,
     inputs: &mut NamedInputs<I>,

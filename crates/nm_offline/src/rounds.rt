@@ -50,7 +50,7 @@ fn rounds_text(
     Ok(text)
 }
 
-/// Lets all partitions run in rounds, and tells what came of it.
+/// Runs all partitions in rounds, and makes the output.
 fn rounds_output(
     alloc: Global,
     topology: &Arc<Topology>,
@@ -101,8 +101,8 @@ fn rounds_said<I: Inputs>(
     rounds_output(alloc, &network, max, progress)
 }
 
-/// Lets all partitions run in at most so many rounds, and says what came of it: whether all was
-/// done, in how many rounds, and how many records each interface has.
+/// Runs all partitions in at most so many rounds, and prints the result: whether all was done, in
+/// how many rounds, and how many records each interface has.
 pub fn say_rounds<I: Inputs, O: Sink + Drop>(
     alloc: Global,
     topology: &str,

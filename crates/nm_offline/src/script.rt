@@ -40,7 +40,7 @@ fn read_steps(alloc: Global, topology: &[u8], script: &[u8]) -> Result<Vec<World
     }
 }
 
-/// Does the steps, and tells what each answered and what they left.
+/// Does the steps, and makes the text of each answer and of the books that they left.
 fn steps_output(
     alloc: Global,
     topology: &[u8],
@@ -64,7 +64,8 @@ fn steps_output(
     }
 }
 
-/// Reads a script, does its steps, and tells what each answered and what they left.
+/// Reads a script, does its steps, and makes the text of each answer and of the books that they
+/// left.
 fn script_output(alloc: Global, topology: &[u8], script: &[u8]) -> Result<Output, Status>
     ensures said { IfOk result (λ output.
         SaysScript topology.now script.now output.status output.text.items) }
@@ -74,7 +75,7 @@ fn script_output(alloc: Global, topology: &[u8], script: &[u8]) -> Result<Output
     steps_output(alloc, topology, script, steps.as_slice())
 }
 
-/// What the steps of a script answered, and what they left.
+/// The answers to the steps of a script, and the books that they left.
 fn script_said<I: Inputs>(
     alloc: Global,
     topology: &str,
@@ -93,7 +94,7 @@ fn script_said<I: Inputs>(
     script_output(alloc, topology.as_slice(), script.as_slice())
 }
 
-/// Does the steps of a script, and says what each answered and what they left.
+/// Does the steps of a script, and prints each answer and the books that they left.
 pub fn say_script<I: Inputs, O: Sink + Drop>(
     alloc: Global,
     topology: &str,

@@ -102,7 +102,7 @@ fn write_from_begin<T: Totals, S: Sink>(
     Err(Status::Memory)
 }
 
-/// Writes what is told of interfaces or of sources, step by step.
+/// Writes the rows of interfaces or of sources, step by step.
 fn write_all_steps<T: Totals, S: Sink>(
     alloc: Global,
     topology: &Topology,
@@ -141,7 +141,7 @@ fn write_steps<S: Sink>(
     }
 }
 
-/// The topology whose series is asked for, which has not too many rows.
+/// The topology of the series, which has not too many rows.
 fn read_series<I: Inputs>(
     alloc: Global,
     words: &SeriesArguments<'_>,
@@ -165,7 +165,7 @@ fn read_series<I: Inputs>(
 }
 
 /// Writes what interfaces or sources do over time, and gives the sink back. The network runs as the
-/// series is written: what its steps need is kept of it, however long it runs.
+/// series is written: only what its steps need is kept, however long it runs.
 pub fn write_series<I: Inputs, O: Sink + Drop>(
     alloc: Global,
     words: &SeriesArguments<'_>,

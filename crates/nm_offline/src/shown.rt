@@ -63,7 +63,7 @@ fn view_said<I: Inputs>(
     Output::of(view_text(alloc, &network, view, progress), Status::Done)
 }
 
-/// Says a view of a network.
+/// Prints a view of a network.
 pub fn say_view<I: Inputs, O: Sink + Drop>(
     alloc: Global,
     topology: &str,
@@ -79,7 +79,7 @@ pub fn say_view<I: Inputs, O: Sink + Drop>(
     end(view_said(alloc, topology, view, inputs, progress), out)
 }
 
-/// Appends the lines of those records that are at the interface, in order.
+/// Appends the lines of the records at the interface, in order.
 fn push_at(iface: IfaceNo, records: &[Record], text: &mut Vec<u8>) -> Result<(), AllocError>
     requires { ArePacketLines text.old.items }
     ensures { OnOk result (ArePacketLines text.new.items) }
@@ -107,7 +107,7 @@ fn packets_text(alloc: Global, network: &Topology, iface: IfaceNo) -> Result<Vec
     Err(AllocError)
 }
 
-/// What passed the interface of this name.
+/// The packets that passed the interface of this name.
 fn text_said<I: Inputs>(
     alloc: Global,
     topology: &str,
@@ -125,7 +125,7 @@ fn text_said<I: Inputs>(
     Output::of(packets_text(alloc, &network, iface), Status::Done)
 }
 
-/// Says what passed the interface of this name.
+/// Prints the packets that passed the interface of this name.
 pub fn say_text<I: Inputs, O: Sink + Drop>(
     alloc: Global,
     topology: &str,

@@ -25,17 +25,18 @@ use nm_topology::Topology;
 use nm_topology::topology::accepted_topologies_are_in_order;
 use std::alloc::{AllocError, Global};
 
-/// How far a run is is noted once in so many events.
+/// How far a run is is noted once in so many events: a counter that threads share costs as much as
+/// a comparison of the heap.
 const EVENTS_A_NOTE: u64 = 1_024;
 
-/// What a trace file has: the packets that pass an interface and go these ways.
+/// The records of a trace file: the packets that pass an interface in these directions.
 #[derive(Clone, Copy)]
 pub struct Traced {
     pub iface: IfaceNo,
     pub ways: Ways,
 }
 
-/// Whether packets that pass this way are among these.
+/// Whether packets in this direction are among these.
 fn goes(ways: Ways, dir: Dir) -> bool
     ensures { result ≡ goes ways dir }
 {
@@ -63,13 +64,12 @@ fn write_one<S: Sink>(
 }
 
 /// Writes the trace file of an interface, and gives the sink back. The network runs as the file is
-/// written: each record is let go before the next is made. Now and then it is noted how far the run
-/// is.
+/// written: each record is dropped before the next is made. Progress is noted now and then.
 ///
 /// # Errors
 ///
-/// `Refused` where the sink failed: it took a prefix of the file. `Memory` where memory was
-/// refused: it took a prefix of the file then too.
+/// `Refused` if the sink failed: it took a prefix of the file. `Memory` if memory was refused: it
+/// took a prefix of the file then too.
 pub fn write_trace_file<S: Sink + Drop>(
     alloc: Global,
     topology: &Topology,
@@ -88,7 +88,7 @@ pub fn write_trace_file<S: Sink + Drop>(
     (outcome, file.into_sink())
 }
 
-/// Writes a trace file of which nothing was written, as the network runs.
+/// Writes a trace file from its begin, as the network runs.
 fn write_file<S: Sink>(
     alloc: Global,
     topology: &Topology,
@@ -155,8 +155,8 @@ fn write_all_of<S: Sink>(
     Err(TraceFault::Memory)
 }
 
-/// Goes on to the next records of the trace, whose times a trace file can say. Now and then it is
-/// noted how far the run is.
+/// Goes on to the next records of the trace; a trace file can hold their times. Progress is noted
+/// now and then.
 pub(crate) fn go_on(
     alloc: Global,
     topology: &Topology,
@@ -179,7 +179,7 @@ pub(crate) fn go_on(
     outcome
 }
 
-/// Notes how far the run is, now and then: all before the next event is done.
+/// Notes the progress, now and then: all before the next event is done.
 fn note_shown(tracer: &Tracer, progress: &Progress) {
     if tracer.events() % EVENTS_A_NOTE == 0
         && let Some(time) = tracer.next_time()

@@ -21,8 +21,8 @@ use nm_topology::Topology;
 use nm_topology::parts::Iface;
 use std::alloc::Global;
 
-/// Writes the trace file of an interface in a form, with the packets that go these ways: of the one
-/// that has this name, or of interface 0 where there is no name.
+/// Writes the trace file of an interface in a form, with the packets in these directions: of the
+/// interface that has this name, or of interface 0 without a name.
 pub fn write_trace<I: Inputs, O: Sink + Drop>(
     alloc: Global,
     words: &TraceArguments<'_>,
@@ -50,8 +50,7 @@ pub fn write_trace<I: Inputs, O: Sink + Drop>(
     }
 }
 
-/// The topology whose text the input of a name has, and its interface of a name, or interface 0
-/// where there is no name.
+/// The topology in the input of a name, and its interface of a name, or interface 0 without a name.
 pub(crate) fn read_iface<I: Inputs>(
     alloc: Global,
     inputs: &mut NamedInputs<I>,
@@ -81,7 +80,7 @@ fn status_of(outcome: Result<(), TraceFault>) -> Status
     }
 }
 
-/// The interface of this name, or interface 0 where there is no name.
+/// The interface of this name, or interface 0 without a name.
 fn find_iface(topology: &Topology, name: Option<&str>) -> Option<IfaceNo>
     ensures { result ≡ iface_named topology.now.ifaces (option_map (λ n. n.now) name.entry) }
 {
@@ -100,7 +99,7 @@ pub(crate) fn named_iface(topology: &Topology, name: &str) -> Option<IfaceNo>
     Some(topology.iface_number(index))
 }
 
-/// Where an interface of this name stands.
+/// The index of an interface of this name.
 fn index_of(ifaces: &[Iface], name: &str) -> Option<usize>
     ensures value { result ≡ position (λ i. bytes_eq i.name name.now) ifaces.now }
     ensures within { IfSome result (λ n. n < length ifaces.now) }

@@ -1,4 +1,4 @@
-//! The word `verify`: whether the trace files that are there have the traces of their interfaces.
+//! The word `verify`: whether existing trace files have the traces of their interfaces.
 
 ghost use Rattle.std.specs.Prelude.{◌≡◌, ◌⊎◌, ◌<◌, ◌++◌, ◌∷◌, ℕ, List, [], Some, IfErr, IfOk};
 ghost use Rattle.std.specs.Prelude.{IfSome, Ok, OnOk, Option, codes, length, map, slice_get};
@@ -76,7 +76,7 @@ fn open_all<I: Inputs>(
     Ok(files)
 }
 
-/// Runs a network from its start, and reads on over its records in the files of their interfaces.
+/// Runs a network from its start, and reads on in the files of its records' interfaces.
 fn check_records<B: BufRead + Drop>(
     alloc: Global,
     network: &Topology,
@@ -109,7 +109,7 @@ fn check_records<B: BufRead + Drop>(
     Err(CheckFault::Memory)
 }
 
-/// Sees that nothing comes behind what was read of the files, in the order of the topology's text.
+/// Checks that nothing comes after what was read of the files, in the order of the topology's text.
 fn finish_all<B: BufRead + Drop>(
     network: &Topology,
     files: &mut CheckedFiles<B>,
@@ -255,7 +255,7 @@ fn status_of<I: Inputs>(
     Status::File
 }
 
-/// Verifies the trace files of interfaces of a network: what is said of them.
+/// Verifies the trace files of interfaces of a network: what to print of them.
 fn verify_network<I: Inputs>(
     alloc: Global,
     network: &Topology,
@@ -273,7 +273,7 @@ fn verify_network<I: Inputs>(
 {
     every_topology_has_a_trace(network); // law: there is an answer, whatever the files have
     if words.folder.is_empty() {
-        inputs.fail(); // its files would stand at the root
+        inputs.fail(); // its files would be at the root
         return Err(Status::File);
     }
     progress.begin(network.stop());
@@ -290,7 +290,7 @@ fn verify_network<I: Inputs>(
     }
 }
 
-/// What is said of the trace files of interfaces of the network of an input.
+/// What to print of the trace files of interfaces of an input's network.
 fn verify_said<I: Inputs>(
     alloc: Global,
     words: &AllArguments<'_>,
@@ -309,7 +309,7 @@ fn verify_said<I: Inputs>(
 }
 
 /// Reads the trace files of interfaces in a folder beside one event list: of those that have these
-/// names, or of all where there are none. Says that they are verified, and how many records each
+/// names, or of all if there are none. Prints that they are verified, and how many records each
 /// has, or where the first differs.
 pub fn say_verify<I: Inputs, O: Sink + Drop>(
     alloc: Global,

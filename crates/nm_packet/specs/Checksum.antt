@@ -8,13 +8,13 @@ word_sum [] = 0
 word_sum (high ∷ []) = high * 256
 word_sum (high ∷ low ∷ rest) = high * 256 + low + word_sum rest
 
--- The one's complement sum that a sum folds to: 0 where it is 0, and else the number of 1..65535
--- that differs from it by a multiple of 65535.
+-- The one's complement sum that a sum folds to: 0 if it is 0, and else the number of 1..65535 that
+-- differs from it by a multiple of 65535.
 abbrev pub folded : ℕ → ℕ
 folded zero = 0
 folded (suc n) = n % 65535 + 1
 
--- the checksum that is written where all other words have this sum
+-- the checksum that is written if all other words have this sum
 abbrev pub checksum_of : ℕ → ℕ
 checksum_of sum = 65535 - folded sum
 

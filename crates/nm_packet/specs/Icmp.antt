@@ -6,7 +6,7 @@ use Rattle.nm_packet.specs.declared.icmp.MessageKind.{MessageKind}
 use Rattle.nm_packet.specs.declared.fault.IcmpFault.{IcmpFault}
 use Rattle.nm_packet.specs.declared.fault.IcmpFault.TheVariants.{Short, Checksum}
 
--- the fields before the data; what the last four octets say depends on the type
+-- the fields before the data; the meaning of the last four octets depends on the type
 pub record IcmpHeader : Type 0 where
   pub message_type : ℕ
   pub code : ℕ
@@ -42,7 +42,7 @@ icmp_fields_of octets = record {
 abbrev pub icmp_data_of : List ℕ → List ℕ
 icmp_data_of octets = drop 8 octets
 
--- the first test of a message that fails, None where all pass
+-- the first test of a message that fails, None if all pass
 abbrev pub icmp_fault : List ℕ → Option IcmpFault
 icmp_fault octets = if nat_lt (length octets) 8 then Some Short
     else (if not (folded (word_sum octets) == 65535) then Some Checksum else None)

@@ -75,11 +75,11 @@ fields_of octets = record {
   options = drop 20 (header_of octets);
 }
 
--- the octets up to the total length that the header says
+-- the octets up to the header's total length
 abbrev pub cut_of : List ℕ → List ℕ
 cut_of octets = take (word_at octets 2) octets
 
--- the first test of a header that fails, None where all pass
+-- the first test of a header that fails, None if all pass
 abbrev pub header_fault : List ℕ → Option HeaderFault
 header_fault octets = if nat_lt (length octets) 20 then Some Short
     else (if not (slice_index octets 0 / 16 == 4) then Some Version
@@ -90,9 +90,9 @@ header_fault octets = if nat_lt (length octets) 20 then Some Short
     || nat_lt (length octets) (word_at octets 2) then Some Total
     else None))))
 
--- The octets pass the tests, and nothing follows the packet. This is the grammar as the tests
--- have it: octets are such a packet where `IsIpv4` holds of the fields and the payload that are
--- read of them.
+-- The octets pass the tests, and nothing follows the packet. This is the grammar in the form of the
+-- tests: octets are such a packet if `IsIpv4` holds of the fields and the payload that are read of
+-- them.
 pub record IsPacket (octets : List ℕ) : Type 0 where
   pub least : 20 ≤ length octets
   pub greatest : length octets < 65536
@@ -133,6 +133,6 @@ abbrev pub lowered : Header → Header
 lowered h = record h { time_to_live = h.time_to_live - 1 }
 
 -- what an error message quotes of a packet: its header as it came, and the first eight octets of
--- its payload, or all of them where there are fewer (RFC 792)
+-- its payload, or all of them if there are fewer (RFC 792)
 abbrev pub quote_of : List ℕ → List ℕ
 quote_of octets = header_of octets ++ take 8 (payload_of octets)

@@ -36,8 +36,8 @@ pub record UdpFits (h : UdpHeader) : Type 0 where
   pub length : h.length < 65536
   pub checksum : h.checksum < 65536
 
--- The octets are a datagram with these fields and these data between these addresses, and
--- nothing after it. A checksum of 0 says that the sender made none.
+-- The octets are a datagram with these fields and these data between these addresses, and nothing
+-- after it. A checksum of 0 means that the sender made none.
 pub record IsUdp (source destination : ℕ) (h : UdpHeader) (payload octets : List ℕ) : Type 0 where
   pub fits : UdpFits h
   pub spelled : octets ≡ udp_octets h payload
@@ -56,11 +56,11 @@ udp_fields_of octets = record {
 abbrev pub udp_data_of : List ℕ → List ℕ
 udp_data_of octets = drop 8 octets
 
--- the octets up to the length that the datagram says
+-- the octets up to the datagram's length
 abbrev pub udp_cut_of : List ℕ → List ℕ
 udp_cut_of octets = take (word_at octets 4) octets
 
--- the first test of a datagram that fails, None where all pass
+-- the first test of a datagram that fails, None if all pass
 abbrev pub udp_fault : ℕ → ℕ → List ℕ → Option UdpFault
 udp_fault source destination octets = if nat_lt (length octets) 8 then Some Short
     else (if nat_lt (word_at octets 4) 8
@@ -69,7 +69,7 @@ udp_fault source destination octets = if nat_lt (length octets) 8 then Some Shor
     && not (folded (udp_sum source destination (udp_cut_of octets)) == 65535) then Some Checksum
     else None))
 
--- the octets have the length that the datagram says
+-- the octets have the datagram's length
 pub record IsDatagram (octets : List ℕ) : Type 0 where
   pub least : 8 ≤ length octets
   pub total : word_at octets 4 ≡ length octets
@@ -83,8 +83,7 @@ udp_header ports size = record {
   checksum = 0;
 }
 
--- the checksum that is written where all other words have this sum: a 0 would say that there is
--- none
+-- the checksum that is written if all other words have this sum: a 0 would mean that there is none
 abbrev pub udp_checksum_of : ℕ → ℕ
 udp_checksum_of sum = if checksum_of sum == 0 then 65535 else checksum_of sum
 

@@ -48,7 +48,7 @@ pub(crate) fn sum_words(start: u16, octets: &[u8]) -> u16
 {
     let mut sum = u64::from(start);
     let mut rest = octets;
-    // Four words at a time, whose sum is folded once (RFC 1071, section 2).
+    // Four words at a time; their sum is folded once (RFC 1071, section 2).
     while let [a, b, c, d, e, f, g, h, more @ ..] = rest {
         sum = add_four_words(sum, u64::from_be_bytes([*a, *b, *c, *d, *e, *f, *g, *h]));
         rest = more;
@@ -89,7 +89,7 @@ pub(crate) fn sum_header(header: &[u8]) -> u16
     }
 }
 
-/// The checksum that is written where the octets are all the other words.
+/// The checksum that is written if the octets are all the other words.
 pub(crate) fn checksum_of(octets: &[u8]) -> u16
     ensures { result ≡ checksum_of (word_sum octets.now) }
 {

@@ -16,7 +16,7 @@ use nm_base::Packet;
 use std::alloc::{AllocError, Global};
 use std::marker::Model;
 
-/// Where the fields of a message stand, in octets from its front (RFC 792).
+/// The places of a message's fields, in octets from its front (RFC 792).
 mod field {
     pub const MESSAGE_TYPE: usize = 0;
 
@@ -45,7 +45,7 @@ pub const PROTOCOL: u8 = 1;
 /// The type of an echo reply (RFC 792, page 14).
 pub const ECHO_REPLY: u8 = 0;
 
-/// The type of an error about a packet that did not come to where it was for (RFC 792, page 4).
+/// The type of an error about a packet that did not reach its destination (RFC 792, page 4).
 pub const DESTINATION_UNREACHABLE: u8 = 3;
 
 /// The type of a message that asks for less (RFC 792, page 10). No node here sends one.
@@ -103,7 +103,7 @@ impl<'a> Model for IcmpView<'a> {
     ghost invariant = { λ v. 8 ≤ length v.octets.now };
 }
 
-/// The octets of the header with this checksum. What the last four say depends on the type.
+/// The octets of the header with this checksum. The meaning of the last four depends on the type.
 fn header_with(kind: MessageKind, checksum: u16, rest: [u8; 4]) -> [u8; HEADER_OCTETS]
     ensures { result ≡ icmp_octets (record (icmp_header kind rest) { checksum = checksum }) [] }
 {

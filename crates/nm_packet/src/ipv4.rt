@@ -21,7 +21,7 @@ use nm_base::Packet;
 use std::alloc::{AllocError, Global};
 use std::marker::Model;
 
-/// Where the fields of a header stand, in octets from its front (RFC 791, section 3.1).
+/// The places of a header's fields, in octets from its front (RFC 791, section 3.1).
 mod field {
     /// The version in the high four bits, and the length of the header in the low ones.
     pub const VERSION_AND_IHL: usize = 0;
@@ -73,7 +73,7 @@ impl<'a> Model for Ipv4View<'a> {
     ghost invariant = { λ v. IsPacket v.octets.now × IsOctets v.octets.now };
 }
 
-/// The octets of the header, as its field says in words of four octets.
+/// The octets of the header, by its field in words of four octets.
 #[inline(always)]
 fn header_length(octets: &[u8]) -> usize
     requires { 0 < length octets.now }
@@ -174,14 +174,14 @@ impl<'a> Ipv4View<'a> {
         (word_at(self.octets, field::FLAGS_AND_OFFSET) >> 13) as u8
     }
 
-    /// Whether the flag is set that says that this is not the last fragment.
+    /// Whether the flag is set that more fragments follow.
     pub fn more_fragments(&self) -> bool
         ensures { result ≡ ((fields_of self.now).flags % 2 == 1) }
     {
         self.flags() & 1 == 1
     }
 
-    /// Where the fragment stands in its datagram, in units of eight octets.
+    /// The place of the fragment in its datagram, in units of eight octets.
     pub fn fragment_offset(&self) -> u16
         ensures { result ≡ (fields_of self.now).fragment_offset }
     {
@@ -323,7 +323,7 @@ pub(crate) fn write_in_parts(
 }
 
 /// What an error message quotes of a packet (RFC 792): its header as it came, with its options, and
-/// the first eight octets of its payload, or all of them where there are fewer. At most 68 octets.
+/// the first eight octets of its payload, or all of them if there are fewer. At most 68 octets.
 pub fn quote(alloc: Global, packet: &Ipv4View<'_>) -> Result<Vec<u8>, AllocError>
     ensures value { IfOk result (λ v. v.items ≡ quote_of packet.now) }
     ensures greatest { IfOk result (λ v. length v.items ≤ 68) }
@@ -339,7 +339,7 @@ pub fn quote(alloc: Global, packet: &Ipv4View<'_>) -> Result<Vec<u8>, AllocError
 ///
 /// # Errors
 ///
-/// `AllocError` where memory was refused.
+/// `AllocError` if memory was refused.
 pub fn lower_ttl(alloc: Global, packet: &Ipv4View<'_>) -> Result<Packet, AllocError>
     requires { 1 ≤ (fields_of packet.now).time_to_live }
     ensures value { IfOk result
@@ -352,9 +352,9 @@ pub fn lower_ttl(alloc: Global, packet: &Ipv4View<'_>) -> Result<Packet, AllocEr
     lowered_packet(alloc, packet.octets(), time_to_live, checksum)
 }
 
-/// Makes a packet the one that is one hop on, as `lower_ttl` has it, where its octets lie: where
-/// nobody else has them. Whether it did; else nothing changed. Asks for a time to live of at least
-/// 1. It takes no memory.
+/// Makes a packet the one that is one hop on, as `lower_ttl` has it, in its own octets, if
+/// nobody else has them. Whether it did; else nothing changed. Asks for a time to live of at
+/// least 1. It takes no memory.
 pub fn lower_in_place(packet: &mut Packet) -> bool
     requires packet { IsPacket packet.old }
     requires live { 1 ≤ (fields_of packet.old).time_to_live }

@@ -14,6 +14,6 @@ pub const MAX_PACKET_DATA: usize = MAX_PAYLOAD - udp::HEADER_OCTETS;
 /// The headers of a datagram in a packet without options, or of an ICMP message: 28 octets.
 pub const HEADERS: u64 = (LEAST_HEADER_OCTETS + udp::HEADER_OCTETS) as u64;
 
-/// The greatest data of a datagram, whose length counts its header too and has 16 bits, as that of
-/// a packet (RFC 768): 65,527 octets.
+/// The greatest data of a datagram: its length counts its header too and has 16 bits, as that of a
+/// packet (RFC 768): 65,527 octets.
 pub const MAX_DATAGRAM_DATA: usize = MAX_PACKET_OCTETS - udp::HEADER_OCTETS;

@@ -18,7 +18,7 @@ use nm_base::Packet;
 use std::alloc::{AllocError, Global};
 use std::marker::Model;
 
-/// Where the fields of a datagram stand, in octets from its front (RFC 768).
+/// The places of a datagram's fields, in octets from its front (RFC 768).
 mod field {
     pub const SOURCE_PORT: usize = 0;
 
@@ -62,8 +62,8 @@ impl<'a> Model for UdpView<'a> {
     ghost invariant = { λ v. IsDatagram v.octets.now };
 }
 
-/// The one's complement sum of the pseudo header and then of these octets, where the datagram has
-/// so many octets.
+/// The one's complement sum of the pseudo header and then of these octets, for a datagram of so
+/// many octets.
 fn sum_from_pseudo_header(source: Address, destination: Address, size: u16, octets: &[u8]) -> u16
     ensures { result ≡ folded (word_sum (pseudo_header source destination size ++ octets.now)) }
 {
@@ -231,7 +231,7 @@ impl<'a> UdpView<'a> {
         word_at(self.octets, field::LENGTH)
     }
 
-    /// The checksum that came, 0 where the sender made none.
+    /// The checksum that came, 0 if the sender made none.
     pub fn checksum(&self) -> u16
         ensures { result ≡ (udp_fields_of self.now).checksum }
     {

@@ -53,13 +53,13 @@ node_behind ifaces via = node_of_iface ifaces (linked_to ifaces via)
 abbrev pub Course : Type 0
 Course = List ℕ × WalkEnd
 
--- a turn, and where the packet leaves by an interface what follows
+-- a turn, and if the packet leaves by an interface what follows
 abbrev pub taken : Turn → (ℕ → Course) → Course
 taken (Stops ending) on = ([], ending)
 taken (Leaves via) on = let rest : Course = on via in (via ∷ rest.0, rest.1)
 
--- the course from node v on, where the packet comes with a time to live that is one less than the
--- second number
+-- the course from node v on, for a packet with a time to live that is one less than the second
+-- number
 unfoldable pub course : TopologyValue → ℕ → ℕ → ℕ → Course
 course t to zero v = ([], Expired)
 course t to (suc n) v =

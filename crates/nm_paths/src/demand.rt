@@ -17,7 +17,7 @@ pub struct Demand {
     pub flow: Flow,
 }
 
-/// What a source asks for; raw packets say it themselves.
+/// The packets of a source; raw packets have it in their octets.
 pub fn demand_of(traffic: &Traffic) -> Option<Demand> {
     match traffic {
         Traffic::Cbr(cbr) => Some(Demand {

@@ -8,7 +8,7 @@ use nm_packet::Address;
 use nm_topology::Topology;
 use std::alloc::{AllocError, Global};
 
-/// Where a way goes.
+/// The destination of a way.
 #[derive(Clone, Copy)]
 pub struct Aim {
     /// The node at which it begins.

@@ -1,9 +1,9 @@
-//! Where packets go, said before one moves: with static routes a packet's way hangs on its
-//! destination and its time to live alone.
+//! Where packets go, before one moves: with static routes a packet's way depends on its destination
+//! and its time to live alone.
 //!
 //! That a walk takes the turns of `nm_forward`'s table, by the same routes, is proved
-//! (`ways::walk`, `laws`). What is remarked of a topology (`survey`), and in which words, is tested
-//! by cases and not proved.
+//! (`ways::walk`, `laws`). Which remarks there are (`survey`), and in which words, is tested by
+//! cases and not proved.
 #![tactic(auto)]
 
 mod demand;

@@ -7,8 +7,8 @@ use nm_topology::Topology;
 use nm_topology::traffic::Flow;
 use std::alloc::{AllocError, Global};
 
-/// A flow begins or ends to pass an interface. Changes at one interface stand by their times, and
-/// at one time ends before beginnings.
+/// A flow begins or ends to pass an interface. Changes at one interface are ordered by their times,
+/// and at one time ends before beginnings.
 #[derive(Clone, Copy, PartialEq, Eq, PartialOrd, Ord)]
 struct Change {
     iface: usize,
@@ -157,7 +157,7 @@ fn push_peaks(
     push_peak(alloc, topology, sweep, remarks)
 }
 
-/// Appends a remark where an interface is asked for more than the rate of its link.
+/// Appends a remark if an interface is asked for more than the rate of its link.
 fn push_peak(
     alloc: Global,
     topology: &Topology,

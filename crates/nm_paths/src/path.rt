@@ -11,7 +11,7 @@ use nm_packet::Address;
 use nm_topology::Topology;
 use std::alloc::{AllocError, Global};
 
-/// The time to live of what a node originates, where no source says another.
+/// The time to live of what a node originates, unless a source has another.
 pub const DEFAULT_TIME_TO_LIVE: u8 = 64;
 
 /// Appends the line of a hop, counted from 1: its number, the node to which it leads, and the
@@ -49,8 +49,8 @@ fn push_hops(
     Ok(())
 }
 
-/// The way of a packet that a node originates to an address: a line for each hop, and one that says
-/// what ends it.
+/// The way of a packet that a node originates to an address: a line for each hop, and one with its
+/// end.
 pub fn path_text(
     alloc: Global,
     topology: &Topology,

@@ -43,8 +43,7 @@ pub fn last_node(topology: &Topology, from: NodeNo, way: &Way) -> NodeNo {
     }
 }
 
-/// That a packet comes to a node where it was before. Hops are counted from 1, and 0 is where the
-/// way begins.
+/// That a packet comes to a node again. Hops are counted from 1, and 0 is where the way begins.
 #[derive(Clone, Copy)]
 pub struct Return {
     /// The hop by which it came there first.

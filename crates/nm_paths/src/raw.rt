@@ -1,4 +1,4 @@
-//! Where the packets of `raw` sources go, by what their octets say.
+//! Where the packets of `raw` sources go, by their octets.
 
 ghost use Rattle.std.specs.Prelude.{◌≡◌};
 ghost use Rattle.nm_paths.specs.Walks.{routes_of_all};
@@ -15,7 +15,7 @@ use nm_topology::Topology;
 use nm_topology::traffic::Raw;
 use std::alloc::{AllocError, Global};
 
-/// What nodes see in a packet, as far as its way hangs on it.
+/// What nodes see in a packet, as far as its way depends on it.
 #[derive(Clone, Copy, PartialEq, Eq)]
 enum Content {
     /// The first node drops it.
@@ -72,7 +72,7 @@ fn sending_of(raw: &Raw, stop: Time) -> Sending {
     }
 }
 
-/// A packet that a source hands to an interface.
+/// A packet that a source gives to an interface.
 #[derive(Clone, Copy)]
 struct Handed<'a> {
     sender: &'a Sender,

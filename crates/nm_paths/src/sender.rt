@@ -67,7 +67,7 @@ pub fn see_times(
     remark(alloc, topology, sender, what.as_str(), remarks)
 }
 
-/// A way to where a packet is to go.
+/// A way to a packet's destination.
 #[derive(Clone, Copy)]
 pub struct Walked<'a> {
     /// Which of the ways of a source it is, in words.

@@ -1,6 +1,6 @@
-//! What can be said of a network's traffic before it is simulated, as remarks: where the packets of
+//! What is known of a network's traffic before it is simulated, as remarks: where the packets of
 //! each source go and what comes back, which links are asked for more than they carry, and whether
-//! the partitions are worth their while.
+//! the partitions pay.
 
 ghost use Rattle.std.specs.Prelude.{◌≡◌};
 ghost use Rattle.nm_paths.specs.Walks.{routes_of_all};
@@ -95,7 +95,8 @@ fn address_of(topology: &Topology, via: IfaceNo) -> Option<Address> {
     Some(topology.ifaces().get(via.index())?.address())
 }
 
-/// Looks at the way back of the replies to echo requests, from the node that they come to.
+/// Looks at the way back of the replies to echo requests, from the node that they come to. A UDP
+/// source awaits no answer.
 fn see_back(
     alloc: Global,
     topology: &Topology,
@@ -144,7 +145,8 @@ fn see_ways(
     let sent = packets_before(flow, topology.stop());
     seen.events = seen.events.saturating_add(sent);
     note_way(topology, flow, &there, seen)?;
-    // That nobody has the address is a remark of `nm_check`, and says enough but of a loop.
+    // That nobody has the address is a remark of `nm_check`, which is enough unless there is a
+    // loop.
     if there.ending != WalkEnd::Expired && !is_known(topology, to) {
         return Ok(());
     }
@@ -247,7 +249,7 @@ fn see_windows(
     remarks.add(remark.as_bytes())
 }
 
-/// What can be said of a network's traffic before it is simulated: at most 20 remarks, a line each,
+/// What is known of a network's traffic before it is simulated: at most 20 remarks, a line each,
 /// and how many more there are. They are on sources, in the order of the text; on interfaces whose
 /// link is asked for more than its rate; on partitions without a node; and on the least lookahead
 /// of its channels, in nanoseconds, if there are channels.

@@ -21,11 +21,11 @@ use std::alloc::{AllocError, Global};
 pub struct Way {
     /// The interfaces by which it leaves, one node after another: at most 255.
     pub hops: Vec<IfaceNo>,
-    /// What ends it, at the last node that it comes to.
+    /// Its end, at the last node that it comes to.
     pub ending: WalkEnd,
 }
 
-/// The node of an interface; node 0 where it is not there.
+/// The node of an interface; node 0 if it is not there.
 fn node_of_iface(ifaces: &[Iface], iface: IfaceNo) -> NodeNo
     ensures { result ≡ node_of_iface ifaces.now iface }
 {
@@ -35,7 +35,7 @@ fn node_of_iface(ifaces: &[Iface], iface: IfaceNo) -> NodeNo
     }
 }
 
-/// The interface that an interface is linked to; interface 0 where it is not there.
+/// The interface that an interface is linked to; interface 0 if it is not there.
 pub(crate) fn linked_to(ifaces: &[Iface], iface: IfaceNo) -> IfaceNo
     ensures { result ≡ linked_to ifaces.now iface }
 {
@@ -82,7 +82,7 @@ struct Routing<'a> {
 }
 
 impl<'a> Routing<'a> {
-    /// Where packets to an address go that these nodes have.
+    /// Where packets go to an address that these nodes have.
     fn new(topology: &'a Topology, tables: &'a Tables, holders: &'a [NodeNo], to: Address) -> Self
         requires routes { tables.now ≡ routes_of_all topology.now }
         requires held { holders.now ≡ nodes_with topology.now.ifaces to }
@@ -186,7 +186,7 @@ fn go_on(
 ///
 /// # Errors
 ///
-/// Where memory was refused.
+/// If memory was refused.
 pub fn walk(
     alloc: Global,
     topology: &Topology,
@@ -218,7 +218,7 @@ pub fn walk(
 ///
 /// # Errors
 ///
-/// Where memory was refused.
+/// If memory was refused.
 pub fn walk_by(
     alloc: Global,
     topology: &Topology,

@@ -9,7 +9,7 @@ abbrev pub written : Form → List ℕ → List ℕ
 written Octets octets = octets
 written Hexadecimal octets = encode_lower octets
 
--- what stands after the last octet
+-- what follows the last octet
 abbrev pub ending : Form → List ℕ
 ending Octets = []
 ending Hexadecimal = 10 ∷ []

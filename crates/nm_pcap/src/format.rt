@@ -12,7 +12,7 @@ pub const FILE_HEADER_OCTETS: usize = 24;
 
 pub const RECORD_HEADER_OCTETS: usize = 16;
 
-/// The magic number of a file whose fractions are nanoseconds.
+/// The magic number of a file with fractions in nanoseconds.
 const MAGIC_NUMBER: u32 = 0xa1b2_3c4d;
 
 const VERSION_MAJOR: u16 = 2;

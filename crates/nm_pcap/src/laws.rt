@@ -27,8 +27,8 @@ pub fn file_is_a_prefix<W>()
 {}
 
 /// The octets of a file, written out. Its header has the magic number of nanosecond times, version
-/// 2.4, no time zone, packets of 65,535 octets and the link type 101, raw IP. Behind a packet's
-/// second are the nanoseconds of it, and its length stands twice. Least octets come first.
+/// 2.4, no time zone, packets of 65,535 octets and the link type 101, raw IP. After a packet's
+/// second come the nanoseconds of it, and its length twice. Least octets come first.
 #[tactic(auto, unfolding(hex::specs::Hex::encode_with))]
 pub fn octets_of_a_file()
     ensures header { file_header

@@ -127,8 +127,8 @@ impl<W: Sink> PcapOut<W> {
     ///
     /// # Errors
     ///
-    /// `File` where the sink failed in this call: it took a prefix of the header. `Failed` where it
-    /// had failed before.
+    /// `File` if the sink failed in this call: it took a prefix of the header. `Failed` if it had
+    /// failed before.
     pub fn start(&mut self) -> Result<(), PcapFault>
         ensures { Adds W.seen self.old self.new result (written self.old.form file_header) }
     {
@@ -139,8 +139,8 @@ impl<W: Sink> PcapOut<W> {
     ///
     /// # Errors
     ///
-    /// `File` where the sink failed in this call: it took a prefix of the record. `Failed` where it
-    /// had failed before.
+    /// `File` if the sink failed in this call: it took a prefix of the record. `Failed` if it had
+    /// failed before.
     pub fn put(&mut self, record: &Record) -> Result<(), PcapFault>
         requires { «record».now.time ≤ MAX_TIME }
         ensures { Adds W.seen self.old self.new result
@@ -150,12 +150,11 @@ impl<W: Sink> PcapOut<W> {
         self.write_two(&header, record.packet.octets())
     }
 
-    /// Writes what stands after the last record in the file's form. It is called once, after all
-    /// `put`s.
+    /// Writes what follows the last record in the file's form. It is called once, after all `put`s.
     ///
     /// # Errors
     ///
-    /// `File` where the sink failed in this call. `Failed` where it had failed before.
+    /// `File` if the sink failed in this call. `Failed` if it had failed before.
     pub fn end(&mut self) -> Result<(), PcapFault>
         ensures { Adds W.seen self.old self.new result (ending self.old.form) }
     {

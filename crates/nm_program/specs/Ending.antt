@@ -19,10 +19,10 @@ use Rattle.nm_offline.specs.Shown.{EndsShown, EndsText}
 use Rattle.nm_offline.specs.Traces.{EndsTrace}
 use Rattle.nm_offline.specs.Verify.{EndsVerify}
 
--- What each status says of a command. Words that are no command are `Usage`. Only `all`, `run` and
--- `node` make files.
+-- The meaning of each status for a command. Words that are no command are `Usage`. Only `all`,
+-- `run` and `node` make files.
 module _ {S : Type 0} (before after : Surroundings S) where
-  -- the word itself says it, and makes no file
+  -- the word itself says so, and makes no file
   abbrev pub MakesNone : (Exchange S → Exchange S → Type 0) → Type 0
   MakesNone Ends = Ends before.exchange after.exchange × (after.made ≡ before.made)
 
@@ -76,7 +76,7 @@ module _ {S : Type 0} (before after : Surroundings S) where
       })
       status
 
--- the status once the output was handed on, or was not: what was written is no more than held back
+-- the status once the output was passed on, or was not: what was written is no more than held back
 -- then
 abbrev pub status_handed_on : Bool → Status → Status
 status_handed_on false Done = File

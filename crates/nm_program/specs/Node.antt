@@ -68,8 +68,8 @@ own_line t partition records i =
 abbrev pub own_lines : TopologyValue → ℕ → List (Record (List ℕ)) → List ℕ
 own_lines t partition records = flat_map (own_line t partition records) (enumerate_from 0 t.ifaces)
 
--- what `node` is asked for: the input with the topology, the folder, which replica, the input with
--- the addresses, and whether the file of what it knows is made too
+-- what `node` gets: the input with the topology, the folder, which replica, the input with the
+-- addresses, and whether the file of what it knows is made too
 pub record NodeAsked : Type 0 where
   pub topology : List ℕ
   pub folder : List ℕ
@@ -88,9 +88,8 @@ node_asked w = record {
   keeps = w.keeps;
 }
 
--- The replica of the partition is done. Its trace stands in the files of the partition's
--- interfaces, and these are their lines. What it knows stands in a file behind them, if that is
--- asked for.
+-- The replica of the partition is done. Its trace is in the files of the partition's interfaces,
+-- and these are their lines. What it knows is in a file behind them, if that is asked for.
 pub record IsNodeDone (asked : NodeAsked) (text addresses lines : List ℕ) (files : Files) : Type 0
   where
     pub network : TopologyValue
@@ -102,8 +101,8 @@ pub record IsNodeDone (asked : NodeAsked) (text addresses lines : List ℕ) (fil
     pub made : files ≡ node_files network asked.partition asked.folder asked.keeps book
     pub lines_are : lines ≡ own_lines network asked.partition (state_of book).records
 
--- the status of a replica that is done, where serving it ended otherwise than as done: it was
--- stalled, the network or a file failed, or memory was refused
+-- the status of a replica that is done, if serving it ended otherwise than as done: it was stalled,
+-- the network or a file failed, or memory was refused
 abbrev pub late_status : Served → Option Status
 late_status Ended = None
 late_status (served.Stalled polls) = Some Stalled
@@ -118,8 +117,8 @@ process_status (fault.Refused cause.Net) = File
 process_status (fault.Refused cause.Stalled) = Stalled
 process_status (fault.Refused cause.Broken) = File
 
--- The lines are said of a replica that is done, all of whose links have ended, too. Nothing is,
--- where serving it ended otherwise.
+-- The lines are printed of a replica that is done, and with all links ended, too. Nothing is
+-- printed if serving it ended otherwise.
 abbrev pub SaysLines : List ℕ → Status → List ℕ → Type 0
 SaysLines lines status octets = ((status ≡ Done) × (octets ≡ lines))
     ⊎ ((s : Served) × (late_status s ≡ Some status) × (octets ≡ []))
@@ -151,7 +150,7 @@ abbrev pub StopsNode : (before after : Option Files) → Status → Type 0
 StopsNode before after status =
     (status ≡ File) ⊎ (status ≡ Memory) ⊎ ((status ≡ Stalled) × (after ≡ before))
 
--- it is said once its files are made: what was made before, and what is then
+-- it is printed once its files are made: what was made before, and what is then
 abbrev pub SaysServed : NodeAsked → (made : Option Files × Option Files) → (text addresses : List ℕ)
     → Status → List ℕ → Type 0
 SaysServed asked made text addresses status octets =
@@ -159,7 +158,7 @@ SaysServed asked made text addresses status octets =
     × IsNodeDone asked text addresses lines files
     × HasMade made.0 made.1 files × SaysLines lines status octets
 
--- Why nothing is said of two inputs: no replica was served, and no file was made; or they are a
+-- Why nothing is printed for two inputs: no replica was served, and no file was made; or they are a
 -- network and its listeners, and the replica was served, and has no files, or not all.
 abbrev pub FailsNode : (before after : FilesSeen) → NodeAsked → Status → Type 0
 FailsNode before after asked status =
@@ -169,8 +168,8 @@ FailsNode before after asked status =
     × HasListeners before.inputs asked network listeners
     × StopsNode before.made after.made status)
 
--- What each status says. Files are made only once the replica is done, whether it was stalled then
--- or not; what files there are after a failure is not said, nor where memory was refused.
+-- The meaning of each status. Files are made only once the replica is done, whether it was stalled
+-- then or not; what files there are after a failure is not stated, nor if memory was refused.
 module _ {S : Type 0} (before after : Surroundings S) (asked : NodeAsked) where
   abbrev pub EndsNode : Status → Type 0
   EndsNode status =

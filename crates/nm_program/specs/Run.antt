@@ -38,7 +38,7 @@ run_status (fault.Refused (cause.NotCertified found)) = NotCertified (cert_fault
 run_status (fault.Refused (cause.Stalled polls)) = Stalled
 run_status (fault.Refused cause.Broken) = File
 
--- what `run` is asked for: the input with the topology, and what is to be left in which folder
+-- what `run` gets: the input with the topology, and what is to be left in which folder
 pub record RunAsked : Type 0 where
   pub topology : List ℕ
   pub leaving : Leaving
@@ -73,14 +73,14 @@ StopsRun network asked before after status =
     ⊎ ((n : ℕ) × (status ≡ NotCertified n) × HasFault network asked.leaving.replicas n × (after ≡ before))
     ⊎ ((status ≡ Stalled) × (after ≡ before)))
 
--- it is said once it is certified: what was made before, and what is then
+-- it is printed once it is certified: what was made before, and what is then
 abbrev pub SaysRun : RunAsked → (made : Option Files × Option Files) → List ℕ → Status → List ℕ
     → Type 0
 SaysRun asked made text status octets =
     (status ≡ Done) × SaysCertified asked made.0 made.1 text octets
 
--- Why nothing is said of an input: there is no network, and no file was made; or it is that of a
--- network, whose run stopped.
+-- Why nothing is printed for an input: there is no network, and no file was made; or it is that of
+-- a network, whose run stopped.
 module _ (before after : FilesSeen) where
   abbrev pub FailsRun : RunAsked → Status → Type 0
   FailsRun asked status =
@@ -89,8 +89,8 @@ module _ (before after : FilesSeen) where
       ⊎ ((network : TopologyValue) × HasTopology before.inputs asked.topology network
       × StopsRun network asked before.made after.made status)
 
--- What each status says. Files are made once the books are certified; of trace files it is said how
--- many octets they have, and not which.
+-- The meaning of each status. Files are made once the books are certified; of trace files it is
+-- stated how many octets they have, and not which.
 module _ {S : Type 0} (before after : Surroundings S) where
   abbrev pub EndsRun : RunAsked → Status → Type 0
   EndsRun asked status =

@@ -5,8 +5,8 @@ use Rattle.nm_files.specs.Outputs.{Files}
 use Rattle.nm_offline.specs.Input.{CountedInputs, InputTexts}
 use Rattle.nm_offline.specs.Output.{Exchange, FilesSeen, exchange}
 
--- before it or after it: the inputs and the output, and the files that were placed so far, where
--- that is told
+-- before it or after it: the inputs and the output, and the files that were placed so far, if it is
+-- known
 pub record Surroundings (S : Type 0) : Type 0 where
   pub exchange : Exchange S
   pub made : Option Files

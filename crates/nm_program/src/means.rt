@@ -5,7 +5,7 @@ use nm_rounds::CertFault;
 use std::alloc::Global;
 use std::cell::Cell;
 
-/// What is noted of a fault, for who sits at a terminal.
+/// What is noted of a fault, for a terminal.
 #[derive(Drop)]
 pub struct Notes {
     /// What cannot happen did.
@@ -24,8 +24,8 @@ impl Notes {
     }
 }
 
-/// What the program runs with: the runtime, where memory comes from, and where it is noted how far
-/// a run is and what is to be said of a fault, on which nothing hangs.
+/// What the program runs with: the runtime, where memory comes from, and notes of how far a run is
+/// and of faults, which affect no result.
 #[derive(Clone, Copy)]
 pub struct Means<'a, R> {
     pub rt: &'a R,
@@ -35,7 +35,7 @@ pub struct Means<'a, R> {
 }
 
 impl<'a, R> Means<'a, R> {
-    /// Notes that what cannot happen did, where it did.
+    /// Notes that what cannot happen did, and where.
     pub(crate) fn note(&self, is_broken: bool) {
         if is_broken {
             self.notes.is_broken.set(true);

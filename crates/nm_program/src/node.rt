@@ -81,7 +81,7 @@ fn own_text(
     Ok(text)
 }
 
-/// Where the trace files of the partition stand that the words ask for.
+/// The folder of the partition's trace files, by the words.
 fn own_folder<'a>(topology: &'a Topology, words: &NodeArguments<'a>) -> Folder<'a, OfPartition>
     ensures { (result.topology.now ≡ topology.now) × (result.name.now ≡ words.now.folder.now)
         × (result.choice.partition ≡ words.now.partition) }
@@ -169,7 +169,7 @@ fn serve_asked<R: Net + Wait + Clock + Drop + Copy>(
     run_process(means.rt, means.alloc, process)
 }
 
-/// What a replica came to that was served.
+/// The result of a replica that was served.
 fn end_of<R: Net + Wait + Clock + Drop + Copy>(
     means: &Means<'_, R>,
     topology: &Arc<Topology>,
@@ -197,7 +197,7 @@ fn end_of<R: Net + Wait + Clock + Drop + Copy>(
     }
 }
 
-/// The status of a replica that is done, where serving it ended otherwise than as done.
+/// The status of a replica that is done, if serving it ended otherwise than as done.
 fn late_status(served: Served) -> Option<Status>
     ensures { result ≡ late_status served }
 {
@@ -210,8 +210,8 @@ fn late_status(served: Served) -> Option<Status>
 }
 
 /// Makes the files of a replica, serves it until it is done, and writes them: the lines of its
-/// interfaces. Where serving it ended otherwise and it is done, the files are written too, and
-/// nothing is said.
+/// interfaces. If serving it ended otherwise and it is done, the files are written too, and nothing
+/// is printed.
 fn serve<F: Outputs, R: Net + Wait + Clock + Drop + Copy>(
     means: &Means<'_, R>,
     topology: &Arc<Topology>,
@@ -228,7 +228,7 @@ fn serve<F: Outputs, R: Net + Wait + Clock + Drop + Copy>(
     ensures fault { IfErr result (StopsNode (F.made outputs.old) (F.made outputs.new)) }
 {
     if words.folder.is_empty() {
-        return Err(Status::File); // its files would stand at the root
+        return Err(Status::File); // its files would be at the root
     }
     let files = open_files(means.alloc, topology, words, outputs)?;
     let end = end_of(means, topology, listeners, words)?;
@@ -242,7 +242,7 @@ fn serve<F: Outputs, R: Net + Wait + Clock + Drop + Copy>(
     }
 }
 
-/// What is said of one replica of a partition that is served over TCP.
+/// The output of one replica of a partition that is served over TCP.
 fn node_said<I: Inputs, F: Outputs, R: Net + Wait + Clock + Drop + Copy>(
     means: &Means<'_, R>,
     words: &NodeArguments<'_>,
@@ -261,7 +261,7 @@ fn node_said<I: Inputs, F: Outputs, R: Net + Wait + Clock + Drop + Copy>(
 }
 
 /// Serves one replica of a partition over TCP until it is done. Then its files are made, and the
-/// lines of its interfaces are said.
+/// lines of its interfaces are printed.
 pub(crate) fn say_node<I: Inputs, F: Outputs, O: Sink + Drop, R: Net + Wait + Clock + Drop + Copy>(
     means: &Means<'_, R>,
     words: &NodeArguments<'_>,

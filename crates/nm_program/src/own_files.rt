@@ -15,7 +15,7 @@ use nm_files::{ClosedFiles, Folder, OutputFault, Outputs, TraceFiles, place_all,
 use nm_known::{OfPartition, keep_known};
 use std::alloc::Global;
 
-/// The trace of a book of which nothing was handed out. A trace file can say its times.
+/// The trace of a book of which nothing was handed out. A trace file can hold its times.
 fn trace_of(book: &Book) -> &[Record]
     requires { book.now.handed ≡ 0 }
     ensures value { result.now ≡ (state_of book.now).records }
@@ -74,7 +74,7 @@ fn close_known<F: Outputs>(
 ///
 /// # Errors
 ///
-/// `File` where one could not be made, written whole or given its name; `Memory` where memory was
+/// `File` if one could not be made, written whole or given its name; `Memory` if memory was
 /// refused. Before all are closed none has its name.
 pub(crate) fn make_files<F: Outputs>(
     alloc: Global,

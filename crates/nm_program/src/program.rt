@@ -29,16 +29,16 @@ use nm_offline::traces::write_trace;
 use nm_offline::verify::say_verify;
 use nm_run::Runtime;
 
-/// Does what the words say, and gives the sink back. Inputs are those that the words name. What is
-/// asked for goes to `out`, a trace file as it is made, and a line to `errors` where the program is
-/// not done; where `errors` fails there is nobody to tell, and the status stays.
+/// Does what the words say, and gives the sink back. Inputs are those that the words name. The
+/// output goes to `out`, a trace file as it is made, and a line to `errors` if the program is not
+/// done; if `errors` fails nobody reads it, and the status stays.
 ///
 /// The first of these decides: the words, the inputs in the words' order, the topology, the lines
 /// of a script, all else. Words that are no command open no input. Files are made by `all`, by
 /// `run`, as its replicas run, and by `node`, once its replica is done; only the last two use the
 /// network. Memory may be refused at any place: the sink has a prefix of a trace file or a series
-/// then, which may be empty. Where the sink fails it has a prefix of what was asked for too; with
-/// every other status but `Done` and `Stalled` it took nothing.
+/// then, which may be empty. If the sink fails it has a prefix of the output too; with every other
+/// status but `Done` and `Stalled` it took nothing.
 pub fn run<I: Inputs, F: Outputs, O: Sink + Drop, E: Sink, R>(
     means: &Means<'_, R>,
     words: &[String],
@@ -115,7 +115,7 @@ where
     }
 }
 
-/// Ends with this status: says its line on `errors`.
+/// Ends with this status: writes its line to `errors`.
 pub fn report<E: Sink>(status: Status, errors: &mut E) -> Status
     ensures status { result ≡ status }
     ensures line { HasNotFailed (E.seen errors.old) (E.seen errors.new)
@@ -126,8 +126,8 @@ pub fn report<E: Sink>(status: Status, errors: &mut E) -> Status
     same
 }
 
-/// The status of a run whose output may have been held back, once it was handed on or could not be.
-/// What is not handed on is not done: its status is `File`, and its line is said.
+/// The status of a run whose output may have been held back, once it was passed on or could not be.
+/// If it is not passed on, the run is not done: its status is `File`, and its line is written.
 pub fn conclude<E: Sink>(status: Status, handed: bool, errors: &mut E) -> Status
     ensures status { result ≡ status_handed_on handed status }
     ensures line { result ≡ File → status ≡ Done

@@ -139,7 +139,7 @@ where
         × (plan.now.workers ≡ words.now.workers) × (plan.now.replicas ≡ words.now.replicas)
         × (plan.now.keeps ≡ words.now.keeps) }
     requires workers { (1 ≤ words.now.workers) × (words.now.workers ≤ MAX_WORKERS) }
-    requires folder { 0 < length words.now.folder.now } // else its files would stand at the root
+    requires folder { 0 < length words.now.folder.now } // else its files would be at the root
     ensures certified { IfOk result (λ report. IsCertifiedRun (arc_value network.now)
         report.totals.items) }
     ensures placed { IfOk result (λ report. HaveFiles (F.made outputs.old) (F.made outputs.new)
@@ -155,7 +155,7 @@ where
     run_all(means.rt, means.alloc, plan, outputs, &OpenGate)
 }
 
-/// Runs all partitions at once: what is said of them.
+/// Runs all partitions at once: the output.
 fn run_network<F: Outputs, R: Runtime>(
     means: &Means<'_, R>,
     network: &Arc<Topology>,
@@ -173,7 +173,7 @@ where
         (F.made outputs.old) (F.made outputs.new)) }
 {
     if words.folder.is_empty() {
-        return Err(Status::File); // its files would stand at the root
+        return Err(Status::File); // its files would be at the root
     }
     let plan = RunPlan {
         topology: network,
@@ -193,7 +193,7 @@ where
     }
 }
 
-/// What is said of all partitions at once.
+/// The output of all partitions at once.
 fn run_said<I: Inputs, F: Outputs, R: Runtime>(
     means: &Means<'_, R>,
     words: &RunArguments<'_>,
@@ -214,8 +214,8 @@ where
     run_network(means, &network, words, outputs)
 }
 
-/// Runs all partitions at once, and says that what they came to is certified, and how many records
-/// each interface has.
+/// Runs all partitions at once, and prints that they are certified, and how many records each
+/// interface has.
 pub(crate) fn say_run<I: Inputs, F: Outputs, O: Sink + Drop, R: Runtime>(
     means: &Means<'_, R>,
     words: &RunArguments<'_>,

@@ -26,7 +26,7 @@ pub enum Figure {
     Messages,
     /// Null messages that it wrote.
     Nulls,
-    /// Connections that it began or accepted, whose peer said Hello.
+    /// Connections that it began or accepted and on which the peer sent Hello.
     Begun,
     /// Those of them that broke.
     Broken,
@@ -46,8 +46,7 @@ const COUNT: usize = 15;
 /// The replicas of a partition, at most.
 const REPLICAS: usize = 2;
 
-/// What all replicas of a run did. Threads note it, and others look at it; no answer of a run hangs
-/// on it.
+/// What all replicas of a run did. Threads note it, and others look at it; it affects no result.
 #[derive(Drop)]
 pub struct Figures {
     /// By partition, replica and figure.
@@ -77,18 +76,18 @@ fn zeros(alloc: Global, count: usize) -> Result<Vec<AtomicU64>, AllocError> {
     Ok(all)
 }
 
-/// Where the first figure of a replica stands.
+/// The index of the first figure of a replica.
 fn first_of(partition: PartNo, replica: u8) -> usize {
     let place = (partition.index() % MAX_PARTITIONS) * REPLICAS + usize::from(replica) % REPLICAS;
     place * COUNT
 }
 
-/// Where a channel's count of a replica stands.
+/// The index of a channel's count of a replica.
 fn held_at(channel: ChanNo, replica: u8) -> usize {
     (channel.index() % MAX_CHANNELS) * REPLICAS + usize::from(replica) % REPLICAS
 }
 
-/// What stands at an index, or 0.
+/// The value at an index, or 0.
 fn load(all: &[AtomicU64], index: usize) -> u64 {
     match all.get(index) {
         Some(found) => found.load(Ordering::Relaxed),
@@ -103,7 +102,7 @@ fn store(all: &[AtomicU64], index: usize, value: u64) {
     }
 }
 
-/// Adds to what stands at an index.
+/// Adds to the value at an index.
 fn add(all: &[AtomicU64], index: usize, more: u64) {
     if let Some(found) = all.get(index) {
         let _ = found.fetch_add(more, Ordering::Relaxed);
@@ -115,7 +114,7 @@ impl Figures {
     ///
     /// # Errors
     ///
-    /// Where memory was refused.
+    /// If memory was refused.
     pub fn new(alloc: Global) -> Result<Self, AllocError> {
         Ok(Figures {
             all: zeros(alloc, MAX_PARTITIONS * REPLICAS * COUNT)?,
@@ -154,7 +153,7 @@ impl Figures {
 }
 
 impl<'a> ReplicaFigures<'a> {
-    /// Where a figure stands.
+    /// The index of a figure.
     fn index_of(&self, figure: Figure) -> usize {
         first_of(self.partition, self.replica).saturating_add(figure as usize)
     }

@@ -1,4 +1,4 @@
-//! How far a run is: told by the threads that run it, and shown to who waits for it.
+//! How far a run is: noted by the threads that run it, and shown to whoever waits for it.
 #![tactic(auto)]
 
 pub mod figures;

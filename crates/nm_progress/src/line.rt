@@ -1,4 +1,4 @@
-//! A line that says how far a run is.
+//! A line that shows how far a run is.
 
 ghost use Rattle.std.specs.Prelude.{◌≡◌, ◌++◌, OnOk, Some};
 ghost use Rattle.nm_progress.specs.Line.{last_text, left_text, pace_text, progress_line, scaled};
@@ -11,8 +11,8 @@ use std::alloc::AllocError;
 /// How many records a packet makes that passes a link.
 const RECORDS_OF_A_HOP: u64 = 2;
 
-/// `count` times `factor` divided by `whole`, rounded down: 0 where there is no whole, and at most
-/// the greatest `u64`.
+/// `count` times `factor` divided by `whole`, rounded down: 0 if there is no whole, and at most the
+/// greatest `u64`.
 fn scaled(count: u64, factor: u64, whole: u64) -> u64
     ensures { result ≡ scaled count factor whole }
 {
@@ -53,7 +53,7 @@ fn push_left(text: &mut Vec<u8>, seen: &Seen, milliseconds: u64) -> Result<(), A
     push_text(text, b" s left")
 }
 
-/// Appends the partition that is furthest behind, where the run tells of partitions.
+/// Appends the partition that is furthest behind, if the run notes partitions.
 fn push_last(text: &mut Vec<u8>, seen: &Seen) -> Result<(), AllocError>
     ensures { OnOk result (text.new.items ≡ text.old.items ++ last_text seen.now.last) }
 {
@@ -73,13 +73,13 @@ fn push_partition(text: &mut Vec<u8>, partition: u64) -> Result<(), AllocError>
     push_text(text, b" last")
 }
 
-/// Appends a line that says how far a run is that began so many milliseconds ago, without a line
+/// Appends a line that shows how far a run is that began so many milliseconds ago, without a line
 /// feed: the share of the simulated time that is done, packets over links a second so far, the time
 /// that is left at this pace, and the partition that is furthest behind.
 ///
 /// # Errors
 ///
-/// Where memory was refused; the text has a part of the line then.
+/// If memory was refused; the text has a part of the line then.
 pub fn push_line(text: &mut Vec<u8>, seen: &Seen, milliseconds: u64) -> Result<(), AllocError>
     ensures { OnOk result
         (text.new.items ≡ text.old.items ++ progress_line seen.now milliseconds) }

@@ -5,14 +5,15 @@ use nm_base::{PartNo, Time};
 use std::alloc::{AllocError, Global};
 use std::sync::atomic::{AtomicU64, Ordering};
 
-/// A run by one event list notes each record whose number, counted from 0, is a multiple of this.
+/// A run by one event list notes each record with a number, counted from 0, that is a multiple of
+/// this.
 const RECORDS_A_NOTE: u64 = 1_024;
 
-/// Where no partition is furthest behind.
+/// The value if no partition is furthest behind.
 const NOBODY: u64 = u64::MAX;
 
-/// How far a run is. Threads that run a network note it, and others look at it; no answer of a run
-/// hangs on it.
+/// How far a run is. Threads that run a network note it, and others look at it; it affects no
+/// result.
 #[derive(Drop)]
 pub struct Progress {
     /// When the run ends, in nanoseconds: 0 before it has begun.
@@ -23,7 +24,7 @@ pub struct Progress {
     records: AtomicU64,
     /// The number of the partition that is furthest behind.
     last: AtomicU64,
-    /// What each replica does, where that is asked for.
+    /// What each replica does, if that is asked for.
     figures: Option<Figures>,
 }
 
@@ -36,7 +37,7 @@ pub struct Seen {
     pub time: u64,
     /// How many records there are. A packet that passes a link makes two.
     pub records: u64,
-    /// The number of the partition that is furthest behind, where the run tells of partitions.
+    /// The number of the partition that is furthest behind, if the run notes partitions.
     pub last: Option<u64>,
 }
 
@@ -46,11 +47,11 @@ impl Progress {
         Progress::of(None)
     }
 
-    /// No run has begun, of which it is counted what each replica does.
+    /// No run has begun; what each replica does is counted.
     ///
     /// # Errors
     ///
-    /// Where memory was refused.
+    /// If memory was refused.
     pub fn with_figures(alloc: Global) -> Result<Self, AllocError> {
         Ok(Progress::of(Some(Figures::new(alloc)?)))
     }
@@ -66,7 +67,7 @@ impl Progress {
         }
     }
 
-    /// What each replica does, where that is asked for.
+    /// What each replica does, if that is asked for.
     pub fn figures(&self) -> Option<&Figures> {
         self.figures.as_ref()
     }
@@ -96,7 +97,7 @@ impl Progress {
             .store(u64::from(partition.number()), Ordering::SeqCst);
     }
 
-    /// How far the run is. Where it goes on meanwhile, the numbers may be of different moments.
+    /// How far the run is. If it goes on meanwhile, the numbers may be of different moments.
     pub fn look(&self) -> Seen {
         let last = self.last.load(Ordering::SeqCst);
         Seen {

@@ -76,7 +76,7 @@ fn push_row(
 ///
 /// # Errors
 ///
-/// Where memory was refused; the text has a part of the table then.
+/// If memory was refused; the text has a part of the table then.
 pub fn push_table(text: &mut Vec<u8>, figures: &Figures) -> Result<(), AllocError> {
     push_text(text, HEAD)?;
     for partition in 0..MAX_PARTITIONS as u32 {
@@ -105,7 +105,7 @@ fn push_figure(
 ///
 /// # Errors
 ///
-/// Where memory was refused; the text has a part of the line then.
+/// If memory was refused; the text has a part of the line then.
 pub fn push_state(text: &mut Vec<u8>, one: &ReplicaFigures<'_>) -> Result<(), AllocError> {
     push_figure(text, b"safe ", one, Figure::Safe)?;
     push_figure(text, b" events ", one, Figure::Events)?;

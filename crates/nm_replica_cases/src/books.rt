@@ -4,13 +4,13 @@
 //! | Command | Does and answers |
 //! |---|---|
 //! | `book P R` | makes replica R of partition P |
-//! | `null B C COUNT CLOCK` | B is told a null message: `raised`, or what it answers |
-//! | `octet B C N TIME VALUE` | B is told a message, a packet of one octet |
-//! | `long B C N TIME OCTETS` | B is told a message, a packet of so many octets of 0 |
-//! | `tell B S C N` | B is told S's message, which S has to have sent |
+//! | `null B C COUNT CLOCK` | B gets a null message: `raised`, or what it answers |
+//! | `octet B C N TIME VALUE` | B gets a message, a packet of one octet |
+//! | `long B C N TIME OCTETS` | B gets a message, a packet of so many octets of 0 |
+//! | `tell B S C N` | B gets S's message, which S has to have sent |
 //! | `late B S C N BY` | the same, with a time that is later by so much |
-//! | `again B S C N TIME` | B is told S's message 0 as message N of this time |
-//! | `promise B S C` | B is told S's null message |
+//! | `again B S C N TIME` | B gets S's message 0 as message N of this time |
+//! | `promise B S C` | B gets S's null message |
 //! | `run B LIMIT` | `all`, `limit` or `memory`, and how many events were done |
 //! | `merge B S` | B merges what S knows: `merged`, or why it does not |
 //! | `hand B` | the record that B hands out, `TIME IFACE in` or `out` and the packet's identification, or `none` |
@@ -21,9 +21,9 @@
 //! | `totals B IFACE` | how many records an interface has, and the octets of its trace file |
 //! | `knows B C` | how many messages it knows, and the clock |
 //! | `message B C N` | the time and the octets of a message that it knows, or `none` |
-//! | `fill B C COUNT` | B is told so many messages, of the times 1, 2, .. and an octet 7 |
-//! | `equal B S C` | `equal` where both know the same messages of this channel, and the same clock |
-//! | `alike B S` | `alike` where both know, did, recorded, sent and promise the same |
+//! | `fill B C COUNT` | B gets so many messages, of the times 1, 2, .. and an octet 7 |
+//! | `equal B S C` | `equal` if both know the same messages of this channel, and the same clock |
+//! | `alike B S` | `alike` if both know, did, recorded, sent and promise the same |
 
 use crate::bench::{Bench, book, book_mut, book_of};
 use crate::octets::hexadecimal;
@@ -78,20 +78,20 @@ fn sent_by(sender: &Book, channel: u32, number: u64, late: u64) -> io::Result<Ch
     }
 }
 
-/// A replica is told this.
+/// A replica gets this.
 fn tell(books: &mut [Book], to: usize, told: &ChannelMessage) -> io::Result<Word> {
     let told = book_mut(books, to)?.accept(told);
     Ok(accepted(&told))
 }
 
-/// `tell` and `late`: a replica is told what another one sent, later by so much.
+/// `tell` and `late`: a replica gets what another one sent, later by so much.
 fn tell_sent(books: &mut [Book], words: Words, late: u64) -> io::Result<Word> {
     let sender = book(books, words.index(2)?)?;
     let told = sent_by(sender, words.short(3)?, words.number(4)?, late)?;
     tell(books, words.index(1)?, &told)
 }
 
-/// `again`: a replica is told message 0 of another one under another number.
+/// `again`: a replica gets message 0 of another one under another number.
 fn tell_again(books: &mut [Book], words: Words) -> io::Result<Word> {
     let channel = words.short(3)?;
     let sender = book(books, words.index(2)?)?;
@@ -102,19 +102,19 @@ fn tell_again(books: &mut [Book], words: Words) -> io::Result<Word> {
     tell(books, words.index(1)?, &told)
 }
 
-/// `octet` and `long`: a replica is told a message of this packet.
+/// `octet` and `long`: a replica gets a message of this packet.
 fn tell_packet(books: &mut [Book], words: Words, packet: Packet) -> io::Result<Word> {
     let told = message(words.short(2)?, words.number(3)?, words.number(4)?, packet);
     tell(books, words.index(1)?, &told)
 }
 
-/// `null`: a replica is told a null message.
+/// `null`: a replica gets a null message.
 fn tell_null(books: &mut [Book], words: Words) -> io::Result<Word> {
     let told = null(words.short(2)?, words.number(3)?, words.number(4)?);
     tell(books, words.index(1)?, &told)
 }
 
-/// `promise`: a replica is told the null message of another one.
+/// `promise`: a replica gets the null message of another one.
 fn tell_promise(books: &mut [Book], words: Words) -> io::Result<Word> {
     let channel = ChanNo::new(words.short(3)?);
     let Some(null) = book(books, words.index(2)?)?.null(channel) else {
@@ -173,7 +173,7 @@ fn change_of(name: &str) -> Option<Change> {
     None
 }
 
-/// What a replica that is told a packet of an octet, or of so many octets of 0, answers.
+/// What a replica answers to a packet of an octet, or of so many octets of 0.
 fn tell_octets(
     alloc: Global,
     books: &mut [Book],
@@ -273,7 +273,7 @@ fn equal(alloc: Global, books: &[Book], words: Words) -> io::Result<String> {
     Ok(String::from_str(alloc, word)?)
 }
 
-/// `fill`: a replica is told so many messages.
+/// `fill`: a replica gets so many messages.
 fn fill(alloc: Global, books: &mut [Book], words: Words) -> io::Result<Word> {
     let channel = words.short(2)?;
     let packet = packet_of(alloc, 1, 7)?;
@@ -373,7 +373,7 @@ fn add_book(bench: &mut Bench, alloc: Global, words: Words) -> io::Result<String
     Ok(String::from_str(alloc, "ok")?)
 }
 
-/// What a line about replicas answers, or None where it is about something else.
+/// What a line about replicas answers, or None if it is about something else.
 pub fn answer(bench: &mut Bench, alloc: Global, words: Words) -> io::Result<Option<String>> {
     if words.is("book") {
         return Ok(Some(add_book(bench, alloc, words)?));

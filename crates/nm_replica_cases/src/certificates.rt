@@ -2,9 +2,9 @@
 //!
 //! | Command | Does and answers |
 //! |---|---|
-//! | `finish ROUNDS` | makes a replica of each partition, and does so many rounds in which all are told all |
+//! | `finish ROUNDS` | makes a replica of each partition, and does so many rounds in which all learn all |
 //! | `certify B ..` | `certified`, or the fault with its numbers: `topology`, `missing P`, `unfinished P`, `prefix C N`, `clock C`, `promise C` |
-//! | `part B` | `same` where its trace is its partition's part of the trace of the one event list |
+//! | `part B` | `same` if its trace is its partition's part of the trace of the one event list |
 //! | `change OLD / NEW` | `certify` of all replicas against the text with NEW in the place of OLD, and whether the digest is another |
 //! | `other B OLD / NEW` | B merges what a new replica of its partition in that text knows |
 
@@ -114,7 +114,7 @@ fn part(bench: &Bench, alloc: Global, of: usize) -> io::Result<String> {
     Ok(String::from_str(alloc, if same { "same" } else { "other" })?)
 }
 
-/// What a line about certificates answers, or None where it is about something else.
+/// What a line about certificates answers, or None if it is about something else.
 pub fn answer(bench: &mut Bench, alloc: Global, words: Words) -> io::Result<Option<String>> {
     if words.is("finish") {
         return Ok(Some(finish(bench, alloc, words.number(1)?)?));

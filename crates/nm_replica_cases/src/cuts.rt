@@ -1,19 +1,19 @@
-//! A session of partitions 0 and 1 over wires in memory, whose octets are cut at an octet: what the
-//! peer then holds, and what a new session gives.
+//! A session of partitions 0 and 1 over wires in memory, cut at an octet: what the peer then holds,
+//! and what a new session gives.
 //!
 //! | Command | Does and answers |
 //! |---|---|
-//! | `cut B S T FROM TO` | what a session comes to that is cut at each of these octets |
+//! | `cut B S T FROM TO` | the result of a session that is cut at each of these octets |
 //! | `reads FROM ALL` | reads that end, and reads that fail, after each count of the peer's first octets, from FROM on to ALL, which is how many there are: the last turns of both, or `unlike N` |
 //!
-//! A cut is of what a replica of partition 0 gives that knows what B knows, to a peer that knows what
-//! S knows; a second session comes after it. Where one comes to something else than the cuts before
+//! A cut is of what a replica of partition 0 gives that knows what B knows, to a peer that knows
+//! what S knows; a second session comes after it. If the result of one differs from the cuts before
 //! it, `cut` answers `unlike N` with its octet.
 //!
-//! A cut comes to: the last turn of partition 0; the last turn of the peer, and how many messages
-//! it knows; how many octets the peer gives in the second session, and the last of them; how many
-//! partition 0 then gives; the last turn of the peer; and `alike` where in the end the former is as
-//! B and the peer as T, in all that they know, did, recorded, sent and promise.
+//! The result of a cut: the last turn of partition 0; the last turn of the peer, and how many
+//! messages it knows; how many octets the peer gives in the second session, and the last of them;
+//! how many partition 0 then gives; the last turn of the peer; and `alike` if in the end the former
+//! is as B and the peer as T, in all that they know, did, recorded, sent and promise.
 
 use crate::bench::{Bench, book};
 use crate::ends::{
@@ -64,7 +64,7 @@ fn greeting<R: Wait>(
     drive(rt, alloc, one, session_of(alloc, topology, 1)?, open(&[]))
 }
 
-/// What the first session comes to: what partition 0 did, and what the peer did.
+/// The result of the first session: what partition 0 did, and what the peer did.
 #[derive(Drop)]
 struct First {
     zero: Came,
@@ -118,7 +118,7 @@ fn second_session<R: Wait>(
     Ok(format!(in alloc; "{count} {} {given} {turn}", last.unwrap_or(255))?)
 }
 
-/// What a first session came to, where partition 0 gave as many octets as it could.
+/// The result of a first session, if partition 0 gave as many octets as it could.
 fn first_text<R: Wait>(
     rt: &R,
     alloc: Global,
@@ -133,7 +133,7 @@ fn first_text<R: Wait>(
     Ok(format!(in alloc; "{gave} {got} {}", messages_of(rt, one))?)
 }
 
-/// The replicas that a cut is made with: the one that gives, its peer, and what the peer comes to.
+/// The replicas of a cut: the one that gives, its peer, and what the peer is in the end.
 #[derive(Clone, Copy)]
 struct Cut<'b> {
     gives: &'b Book,
@@ -141,7 +141,7 @@ struct Cut<'b> {
     comes_to: &'b Book,
 }
 
-/// What a cut after so many octets comes to.
+/// The result of a cut after so many octets.
 fn cut_at<R: Wait>(
     rt: &R,
     alloc: Global,
@@ -160,7 +160,7 @@ fn cut_at<R: Wait>(
     Ok(format!(in alloc; "{before} {after} {}", alike_word(alike))?)
 }
 
-/// What all cuts from an octet on to another come to.
+/// The results of all cuts from an octet on to another.
 fn cuts_from<R: Wait>(
     rt: &R,
     alloc: Global,
@@ -215,12 +215,12 @@ fn read_ending<R: Wait>(
     Ok(turn_word(came.turn))
 }
 
-/// What reads after so many octets come to.
+/// The result of reads after so many octets.
 fn unlike(alloc: Global, count: usize, ended: &str, failed: &str) -> io::Result<String> {
     Ok(format!(in alloc; "unlike {count}: {ended} {failed}")?)
 }
 
-/// What reads come to that end and that fail after each count of these octets.
+/// The results of reads that end and that fail after each count of these octets.
 fn read_endings<R: Wait>(
     rt: &R,
     bench: &Bench,
@@ -239,8 +239,8 @@ fn read_endings<R: Wait>(
     Ok(String::from_str(alloc, "end fault")?)
 }
 
-/// What reads come to that end and that fail after each count of the octets of the peer's Hello and
-/// Have, from this one on to all of them, of which there are `to`.
+/// The results of reads that end and that fail after each count of the octets of the peer's Hello
+/// and Have, from this one on to all `to` of them.
 pub fn reads<R: Wait>(
     rt: &R,
     bench: &Bench,

@@ -113,7 +113,7 @@ fn hands(bench: &mut Bench, alloc: Global, of: usize) -> io::Result<String> {
     records_text(alloc, &handed)
 }
 
-/// What a line about records that are handed out answers, or None where it is about something else.
+/// What a line about records that are handed out answers, or None if it is about something else.
 pub fn answer(bench: &mut Bench, alloc: Global, words: Words) -> io::Result<Option<String>> {
     if words.is("hands") {
         return Ok(Some(hands(bench, alloc, words.index(1)?)?));

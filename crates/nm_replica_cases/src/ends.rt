@@ -65,7 +65,7 @@ pub fn messages_of<R: Wait>(rt: &R, end: &mut End) -> u64 {
     end.book.look(rt, &mut end.pass).messages
 }
 
-/// A shared replica is told all that another one knows of a channel.
+/// A shared replica gets all that another one knows of a channel.
 fn tell_known<R: Wait>(rt: &R, end: &mut End, channel: ChanNo, know: &Know) -> io::Result<()> {
     let count = know.len() as u64;
     for number in 0..count {
@@ -84,7 +84,7 @@ fn tell_known<R: Wait>(rt: &R, end: &mut End, channel: ChanNo, know: &Know) -> i
     Ok(())
 }
 
-/// A shared replica that was told all that another one knows, and did what is safe.
+/// A shared replica that got all that another one knows, and did what is safe.
 pub fn end_like<R: Wait>(
     rt: &R,
     alloc: Global,
@@ -137,13 +137,13 @@ pub fn open(source: &[u8]) -> Script<'_> {
     }
 }
 
-/// A wire that does what a script says.
+/// A wire with a script.
 pub fn wire_of(alloc: Global, script: Script) -> io::Result<MemWire> {
     let source = script.source.to_vec(alloc)?;
     Ok(MemWire::new(alloc, source, script.ending, script.room, 1_000)?)
 }
 
-/// What a link came to: its last turn that was no progress, the octets that its wire took, and its
+/// The result of a link: its last turn that was no progress, the octets that its wire took, and its
 /// session.
 #[derive(Drop)]
 pub struct Came {
@@ -169,7 +169,7 @@ pub fn turns<R: Wait>(
     Ok(Turn::Progress)
 }
 
-/// What a link comes to.
+/// The result of a link.
 fn outcome<R: Wait>(rt: &R, alloc: Global, end: &mut End, link: Link<MemWire>) -> io::Result<Came> {
     let mut link = link;
     let turn = turns(rt, alloc, end, &mut link)?;

@@ -49,7 +49,7 @@ fn meet<R: Wait>(
     Ok(format!(in alloc; "{turn} {messages}")?)
 }
 
-/// A wire that takes so many octets, and whose peer sends these and no more.
+/// A wire that takes so many octets, and gives these and no more.
 fn closing(source: &[u8], room: usize) -> Script<'_> {
     Script {
         source,
@@ -58,7 +58,7 @@ fn closing(source: &[u8], room: usize) -> Script<'_> {
     }
 }
 
-/// What a link that a partition accepted comes to.
+/// The result of a link that a partition accepted.
 fn greet<R: Wait>(
     rt: &R,
     alloc: Global,
@@ -78,7 +78,7 @@ fn greet<R: Wait>(
     Ok(format!(in alloc; "{turn} {count} {session}")?)
 }
 
-/// What a link comes to in its last turn and in one turn more, and how many octets it gave.
+/// The result of a link's last turn and of one turn more, and how many octets it gave.
 fn fails<R: Wait>(
     rt: &R,
     alloc: Global,
@@ -96,7 +96,7 @@ fn fails<R: Wait>(
     Ok(format!(in alloc; "{last} {more} {}", wire.octets().len())?)
 }
 
-/// What a line about links with octets of a peer answers, or None where it is about something else.
+/// What a line about links with octets of a peer answers, or None if it is about something else.
 fn answer_peer<R: Wait>(
     rt: &R,
     bench: &Bench,
@@ -130,7 +130,7 @@ fn answer_peer<R: Wait>(
 /// The commands with octets of a peer.
 const PEER: &[&str] = &["meet", "close", "greet", "fails", "turns"];
 
-/// What a line about links answers, or None where it is about something else.
+/// What a line about links answers, or None if it is about something else.
 pub fn answer<R: Wait>(
     rt: &R,
     bench: &Bench,

@@ -1,7 +1,7 @@
 //! Compares the layers from replicas up to certificates and links with the cases in `data/cases/`.
 //!
-//! A case is a file `NAME.case` of lines. A line is a command, ` -> ` and what it answers; where the
-//! answer is left out it is `ok`. Empty lines, and lines that begin with `#`, say nothing.
+//! A case is a file `NAME.case` of lines. A line is a command, ` -> ` and what it answers; without
+//! an answer it is `ok`. Empty lines, and lines that begin with `#`, are skipped.
 //!
 //! ```text
 //! text split.toml
@@ -13,7 +13,7 @@
 //!
 //! | Command | Does and answers |
 //! |---|---|
-//! | `text NAME` | begins anew with the network of `data/texts/NAME` |
+//! | `text NAME` | begins again with the network of `data/texts/NAME` |
 //! | module `books` | replicas, by their numbers in the order in which they were made |
 //! | module `drains` | records that replicas hand out |
 //! | module `certificates` | certificates of some of these replicas |

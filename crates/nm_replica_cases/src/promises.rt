@@ -8,7 +8,7 @@ use std::io;
 /// The promise, the old one, and how many messages were sent.
 type Promised = (Time, Time, u64);
 
-/// Whether a null message says this.
+/// Whether a null message has these fields.
 fn says(null: Option<Null>, clock: Time, count: u64) -> bool {
     match null {
         Some(null) => null.clock == clock && null.count == count,
@@ -16,7 +16,7 @@ fn says(null: Option<Null>, clock: Time, count: u64) -> bool {
     }
 }
 
-/// What is promised where the channel goes out.
+/// The promise, if the channel goes out.
 fn promised(book: &Book, channel: ChanNo) -> Option<Promised> {
     let tight = book.promise(channel)?;
     let old = book.old_promise(channel)?;
@@ -24,8 +24,8 @@ fn promised(book: &Book, channel: ChanNo) -> Option<Promised> {
     Some((tight, old, count))
 }
 
-/// The promise, the old promise and how many messages were sent, where both null messages say the
-/// same; `inward` where nothing is promised at all.
+/// The promise, the old promise and how many messages were sent, if both null messages agree;
+/// `inward` if nothing is promised at all.
 pub fn promises(alloc: Global, book: &Book, channel: ChanNo) -> io::Result<String> {
     let (null, old_null) = (book.null(channel), book.old_null(channel));
     let Some((tight, old, count)) = promised(book, channel) else {

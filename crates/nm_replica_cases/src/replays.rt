@@ -66,7 +66,7 @@ fn line(bench: &Bench, alloc: Global, number: usize) -> io::Result<String> {
     }
 }
 
-/// What rounds came to, and their replicas.
+/// The result of rounds, and their replicas.
 fn outcome(alloc: Global, text: &str, max: u64) -> io::Result<(String, Vec<Book>)> {
     match run_rounds(alloc, text.as_bytes(), max.clamp(1, 1_000)) {
         Ok(Rounds::Done { rounds, books }) => Ok((format!(in alloc; "done {rounds}")?, books)),
@@ -116,7 +116,7 @@ pub fn add_step(bench: &mut Bench, alloc: Global, step: &str) -> io::Result<Stri
     Ok(String::from_str(alloc, "ok")?)
 }
 
-/// What a line about replays and rounds answers, or None where it is about something else.
+/// What a line about replays and rounds answers, or None if it is about something else.
 pub fn answer(bench: &mut Bench, alloc: Global, words: Words) -> io::Result<Option<String>> {
     if words.is("replay") {
         return Ok(Some(do_replay(bench, alloc)?));

@@ -174,7 +174,7 @@ fn names<R: Files + AllocGlobal + Clone + Drop>(rt: &R) -> io::Result<Vec<String
 ///
 /// # Errors
 ///
-/// Where a line is answered otherwise than it should be, or a file cannot be read.
+/// If a line is answered otherwise than it should be, or a file cannot be read.
 pub fn run_all<R: Files + AllocGlobal + Print + Wait + Clone + Drop>(rt: &R) -> io::Result<()> {
     let mut differing = 0u64;
     for name in names(rt)?.iter() {

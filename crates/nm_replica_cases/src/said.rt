@@ -5,7 +5,7 @@ use nm_knowledge::{Accepted, KnowFault};
 use nm_rounds::CertFault;
 use std::alloc::{AllocError, Global};
 
-/// A word, and a number where it has one.
+/// A word, and a number if it has one.
 pub type Word = (&'static str, Option<u64>);
 
 /// The text of a word with its number.
@@ -45,7 +45,7 @@ pub fn refused(fault: &KnowFault) -> Word {
     }
 }
 
-/// What a merge answers: where a channel refuses it, which one does.
+/// What a merge answers: if a channel refuses it, which one does.
 pub fn merged(alloc: Global, answer: &Result<(), MergeFault>) -> Result<String, AllocError> {
     match answer {
         Ok(()) => String::from_str(alloc, "merged"),

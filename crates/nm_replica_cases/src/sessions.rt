@@ -106,7 +106,7 @@ fn breaks(bench: &mut Bench, alloc: Global, at: usize) -> io::Result<String> {
     Ok(String::from_str(alloc, "ok")?)
 }
 
-/// What a line about sessions answers, or None where it is about something else.
+/// What a line about sessions answers, or None if it is about something else.
 pub fn answer(bench: &mut Bench, alloc: Global, words: Words) -> io::Result<Option<String>> {
     if words.is("session") {
         return Ok(Some(add(bench, alloc, words.short(1)?, words.short(2)?)?));

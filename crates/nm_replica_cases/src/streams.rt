@@ -89,7 +89,7 @@ fn greatest(alloc: Global) -> io::Result<Vec<u8>> {
     Ok(octets)
 }
 
-/// What a line about streams answers, or None where it is about something else.
+/// What a line about streams answers, or None if it is about something else.
 pub fn answer(alloc: Global, words: Words) -> io::Result<Option<String>> {
     if words.is("pieces") {
         let octets = octets_of(alloc, words.from(2), &[])?;

@@ -5,7 +5,7 @@
 //! | `talk P Q` | replicas of two partitions talk until both have taken Bye, without a break: the events of both |
 //! | `breaks P Q` | the same, with one break at each octet of either direction: `alike` or `unlike` |
 //!
-//! They are alike where both are done after each break, and their records are those of the talk
+//! They are alike if both are done after each break, and their records are those of the talk
 //! without a break, one by one, and of the one event list.
 
 use crate::bench::{Bench, book_of};
@@ -140,7 +140,7 @@ fn until_bye(alloc: Global, zero: &mut End, one: &mut End, left: &mut Left) -> i
     Err(io::Error::other("they talk for ever"))
 }
 
-/// What a talk comes to: the octets that each gave, and both replicas.
+/// The result of a talk: the octets that each gave, and both replicas.
 #[derive(Drop)]
 struct Outcome {
     octets: (usize, usize),
@@ -176,7 +176,7 @@ fn talk(alloc: Global, zero: End, one: End, left: Left) -> io::Result<Outcome> {
     })
 }
 
-/// A talk of two partitions that breaks once, where one of them has given so many octets.
+/// A talk of two partitions that breaks once, after one of them has given so many octets.
 fn talk_of(
     alloc: Global,
     topology: &Arc<Topology>,
@@ -194,7 +194,7 @@ const WHOLE: Left = Left {
     of_one: usize::MAX,
 };
 
-/// Whether a talk that breaks there comes to what the whole one comes to.
+/// Whether a talk that breaks there has the result of the whole one.
 fn is_like_whole(
     alloc: Global,
     topology: &Arc<Topology>,
@@ -206,7 +206,7 @@ fn is_like_whole(
     Ok(found.is_like(whole))
 }
 
-/// Whether all talks with one break come to what the whole one comes to.
+/// Whether all talks with one break have the result of the whole one.
 fn are_like_whole(
     alloc: Global,
     topology: &Arc<Topology>,
@@ -228,7 +228,7 @@ fn are_like_whole(
     Ok(true)
 }
 
-/// The same, where the whole one has the records of the one event list.
+/// The same, if the whole one has the records of the one event list.
 fn are_alike(alloc: Global, topology: &Arc<Topology>, who: (u32, u32)) -> io::Result<bool> {
     let records = one_list(alloc, topology, topology.stop())?;
     let whole = talk_of(alloc, topology, who, WHOLE)?;
@@ -256,7 +256,7 @@ fn breaks_text(bench: &Bench, alloc: Global, who: (u32, u32)) -> io::Result<Stri
     Ok(String::from_str(alloc, alike_word(alike))?)
 }
 
-/// What a line about talks answers, or None where it is about something else.
+/// What a line about talks answers, or None if it is about something else.
 pub fn answer(bench: &Bench, alloc: Global, words: Words) -> io::Result<Option<String>> {
     if words.is("talk") {
         return Ok(Some(talk_text(bench, alloc, (words.short(1)?, words.short(2)?))?));

@@ -1,4 +1,4 @@
-//! Replicas that tell each other all.
+//! Replicas that exchange all that they know.
 
 use nm_base::ChanNo;
 use nm_book::{Book, ChannelMessage};
@@ -13,14 +13,14 @@ pub fn channels_of(topology: &Topology) -> u32 {
     topology.receivers().len() as u32
 }
 
-/// All replicas are told this, and refuse it where the channel does not come in.
+/// All replicas get this, and refuse it if the channel does not come in.
 fn tell_all(books: &mut [Book], told: &ChannelMessage) {
     for book in books.iter_mut() {
         let _answer = book.accept(told);
     }
 }
 
-/// All are told a message that a replica sent.
+/// All get a message that a replica sent.
 fn tell_message(books: &mut [Book], sender: usize, channel: ChanNo, at: u64) -> io::Result<()> {
     let Some(book) = books.get(sender) else {
         return Ok(());
@@ -31,7 +31,7 @@ fn tell_message(books: &mut [Book], sender: usize, channel: ChanNo, at: u64) -> 
     Ok(())
 }
 
-/// All are told what a replica sent on a channel, and its promise.
+/// All get what a replica sent on a channel, and its promise.
 fn tell_channel(books: &mut [Book], sender: usize, channel: ChanNo) -> io::Result<()> {
     let Some(book) = books.get(sender) else {
         return Ok(());
@@ -46,7 +46,7 @@ fn tell_channel(books: &mut [Book], sender: usize, channel: ChanNo) -> io::Resul
     Ok(())
 }
 
-/// A round: each replica does what is safe, and then all are told all.
+/// A round: each replica does what is safe, and then all get all.
 pub fn do_round(alloc: Global, books: &mut [Book], channels: u32) -> io::Result<()> {
     for book in books.iter_mut() {
         let _ran = book.run_safe(alloc, 1000);

@@ -57,7 +57,7 @@ impl<'w> Words<'w> {
         }
     }
 
-    /// The number of something that stands in a list.
+    /// The number of something in a list.
     pub fn index(&self, at: usize) -> io::Result<usize> {
         Ok(self.short(at)? as usize)
     }

@@ -91,7 +91,7 @@ fn push_flow(text: &mut Vec<u8>, source: SourceNo, flow: &FlowCounts, times: &Fl
     )
 }
 
-/// The values of a source to whose packets there may be echo replies.
+/// The values of a source that may have echo replies.
 fn push_replies(text: &mut Vec<u8>, source: SourceNo, astray: u64, trips: &Delays) -> Appended
     requires { AreWholeLines text.old.items }
     ensures { OnOk result (AreWholeLines text.new.items) }
@@ -232,12 +232,12 @@ fn sources_text(alloc: Global, topology: &Topology, measured: &Measured) -> Made
     Ok(text)
 }
 
-/// A line for each value: what has it, its name, which measure it is, and the value. A source's
-/// name is its number. Then, after an empty line, a row for each source with all its measures.
+/// A line for each value: its owner's kind and name, the measure, and the value. A source's name is
+/// its number. Then, after an empty line, a row for each source with all its measures.
 ///
 /// # Errors
 ///
-/// Where memory was refused.
+/// If memory was refused.
 pub fn csv_text(alloc: Global, topology: &Topology, measured: &Measured) -> MadeText
     ensures lines { IfOk result (λ text. EndsLine text.items) }
     ensures values { (until : ℕ) (m : IsMeasuredBefore topology.now until measured.now)

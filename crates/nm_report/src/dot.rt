@@ -95,7 +95,7 @@ fn push_link(text: &mut Vec<u8>, topology: &Topology, link: Link) -> Appended {
 ///
 /// # Errors
 ///
-/// Where memory was refused.
+/// If memory was refused.
 pub fn dot_text(alloc: Global, topology: &Topology) -> Result<Vec<u8>, AllocError>
     ensures { IfOk result (λ text. EndsLine text.items) }
 {

@@ -39,7 +39,7 @@ const HEAD: [&str; 8] = [
     "busy",
 ];
 
-/// An interface that packets came to, went from or were dropped at.
+/// An interface at which packets came, went or were dropped.
 #[derive(Clone, Copy, Drop)]
 struct Rank {
     iface: IfaceNo,
@@ -47,7 +47,7 @@ struct Rank {
     busy: u64,
 }
 
-/// What came to an interface and what it transmitted, which is nothing where it is not there.
+/// What came to an interface and what it transmitted; nothing if it is not there.
 pub(crate) fn traffic_at(measured: &Measured, iface: IfaceNo) -> IfaceTraffic
     ensures { (t : TopologyValue) (until : ℕ) (m : IsMeasuredBefore t until measured.now)
         → iface < length t.ifaces
@@ -56,7 +56,7 @@ pub(crate) fn traffic_at(measured: &Measured, iface: IfaceNo) -> IfaceTraffic
     measured.traffic(iface).unwrap_or(NO_TRAFFIC)
 }
 
-/// The rank of an interface. `None` where it is idle.
+/// The rank of an interface. `None` if it is idle.
 fn rank_of(measured: &Measured, iface: IfaceNo) -> Option<Rank> {
     let IfaceTraffic { came, went } = traffic_at(measured, iface);
     let dropped = measured.dropped(iface).unwrap_or(0);

@@ -1,4 +1,4 @@
-//! The colours of busy shares, and what says them in a picture.
+//! The colours of busy shares, and their meaning in a picture.
 
 use nm_base::push_text;
 use nm_measure::Appended;
@@ -56,7 +56,7 @@ pub(crate) fn colour_of(share: Option<u64>) -> &'static str {
     NO_SHARE
 }
 
-/// Appends a row of the legend: a colour and what it says.
+/// Appends a row of the legend: a colour and its meaning.
 fn push_shade(text: &mut Vec<u8>, colour: &str, words: &str) -> Appended {
     push_text(text, b"<tr><td bgcolor=\"")?;
     push_text(text, colour.as_bytes())?;

@@ -1,4 +1,4 @@
-//! What a run of a whole network comes to, for people and for programs: its measures, as tables or
+//! The results of a run of a whole network, for people and for programs: its measures, as tables or
 //! comma-separated values, the network as a graph, and packets as lines.
 #![tactic(auto)]
 

@@ -22,8 +22,8 @@ fn push_field(text: &mut Vec<u8>, word: &[u8], value: u64) -> Appended {
     push_number(text, value)
 }
 
-/// What messages of ICMP say, in words (RFC 792): of a type and a code, or of a type whatever its
-/// code.
+/// The meaning of ICMP messages, in words (RFC 792): of a type and a code, or of a type whatever
+/// its code.
 const WORDS: &[(u8, Option<u8>, &str)] = &[
     (icmp::ECHO_REPLY, Some(icmp::ECHO_CODE), "echo reply"),
     (
@@ -62,7 +62,7 @@ const WORDS: &[(u8, Option<u8>, &str)] = &[
     (icmp::PARAMETER_PROBLEM, None, "parameter problem"),
 ];
 
-/// What a message of ICMP says, in words.
+/// The meaning of an ICMP message, in words.
 fn words_of(message_type: u8, code: u8) -> Option<&'static str> {
     for (kind, of, words) in WORDS {
         if *kind == message_type && of.unwrap_or(code) == code {
@@ -72,7 +72,7 @@ fn words_of(message_type: u8, code: u8) -> Option<&'static str> {
     None
 }
 
-/// Appends what a message of ICMP says.
+/// Appends the meaning of an ICMP message.
 fn push_message(text: &mut Vec<u8>, message: &IcmpView<'_>) -> Appended {
     push_text(text, b": ICMP ")?;
     match words_of(message.message_type(), message.code()) {
@@ -92,7 +92,7 @@ fn push_message(text: &mut Vec<u8>, message: &IcmpView<'_>) -> Appended {
     Ok(())
 }
 
-/// Appends an address, and a port where there is one.
+/// Appends an address, and a port if there is one.
 fn push_place(text: &mut Vec<u8>, address: nm_packet::Address, port: Option<u16>) -> Appended {
     push_address(text, address)?;
     match port {
@@ -101,7 +101,7 @@ fn push_place(text: &mut Vec<u8>, address: nm_packet::Address, port: Option<u16>
     }
 }
 
-/// Appends where a packet comes from and where it goes.
+/// Appends the source and the destination of a packet.
 fn push_way(text: &mut Vec<u8>, header: &Ipv4View<'_>, ports: Option<(u16, u16)>) -> Appended {
     let (from, to) = match ports {
         Some((from, to)) => (Some(from), Some(to)),
@@ -112,7 +112,7 @@ fn push_way(text: &mut Vec<u8>, header: &Ipv4View<'_>, ports: Option<(u16, u16)>
     push_place(text, header.destination(), to)
 }
 
-/// Appends what is said of a UDP datagram.
+/// Appends the words for a UDP datagram.
 fn push_datagram(text: &mut Vec<u8>, header: &Ipv4View<'_>, payload: &[u8]) -> Appended {
     match Udp::read(header.source(), header.destination(), payload) {
         Ok(datagram) => {
@@ -127,7 +127,7 @@ fn push_datagram(text: &mut Vec<u8>, header: &Ipv4View<'_>, payload: &[u8]) -> A
     }
 }
 
-/// Appends what is said of a payload of ICMP.
+/// Appends the words for a payload of ICMP.
 fn push_control(text: &mut Vec<u8>, payload: &[u8]) -> Appended {
     match Icmp::read(payload) {
         Ok(message) => {
@@ -138,13 +138,13 @@ fn push_control(text: &mut Vec<u8>, payload: &[u8]) -> Appended {
     }
 }
 
-/// Appends what is said of a payload of another protocol.
+/// Appends the words for a payload of another protocol.
 fn push_other(text: &mut Vec<u8>, protocol: u8, payload: &[u8]) -> Appended {
     push_field(text, b": protocol ", u64::from(protocol))?;
     push_field(text, b", length ", payload.len() as u64)
 }
 
-/// Appends what a packet carries, which is no fragment.
+/// Appends what a packet carries, if it is no fragment.
 fn push_payload(text: &mut Vec<u8>, header: &Ipv4View<'_>) -> Appended {
     let (protocol, payload) = (header.protocol(), header.payload());
     if protocol == udp::PROTOCOL {
@@ -187,11 +187,11 @@ fn fault_of(fault: HeaderFault) -> &'static str {
 
 /// Appends a record as a line: its time in nanoseconds, whether the packet came in or went out,
 /// from where to where it goes, what it carries and how many octets of that, and its time to live.
-/// Of a packet with a bad header it says what is wrong, and how many octets it has.
+/// Of a packet with a bad header it has the fault, and the number of octets.
 ///
 /// # Errors
 ///
-/// Where memory was refused. A part of the line may have been appended.
+/// If memory was refused. A part of the line may have been appended.
 pub fn push_packet_line(text: &mut Vec<u8>, record: &Record) -> Appended
     ensures { OnOk result (EndsLine text.new.items) }
 {

@@ -37,7 +37,7 @@ struct Load {
     dropped: u64,
     /// Busy thousandths of the time before `stop`.
     busy: u64,
-    /// Busy thousandths of the time from the first packet to the last, where there are two.
+    /// Busy thousandths of the time from the first packet to the last, if there are two.
     share: Option<u64>,
 }
 
@@ -66,7 +66,7 @@ fn all_dropped(topology: &Topology, measured: &Measured) -> u64 {
     dropped
 }
 
-/// Appends the title. It stands behind the partitions, whose words would be as large otherwise.
+/// Appends the title. It comes after the partitions, whose words would be as large otherwise.
 fn push_title(text: &mut Vec<u8>, topology: &Topology, measured: &Measured) -> Appended {
     push_text(text, b"  graph [labelloc=t, fontsize=16, label=\"Use of ")?;
     push_number(text, topology.nodes().len() as u64)?;
@@ -79,8 +79,8 @@ fn push_title(text: &mut Vec<u8>, topology: &Topology, measured: &Measured) -> A
     push_text(text, b" packets dropped\"];\n")
 }
 
-/// Appends what stands at a direction: on the way there the rate and the delay of the link, and
-/// then its busy share and its drops. Spaces keep lines away from the words.
+/// Appends the label of a direction: on the way there the rate and the delay of the link, and then
+/// its busy share and its drops. Spaces keep lines away from the words.
 fn push_label(text: &mut Vec<u8>, link: Link, way: Way, load: &Load) -> Appended {
     push_text(text, b"label=\"")?;
     if let Way::There = way {
@@ -122,7 +122,7 @@ fn push_look(text: &mut Vec<u8>, load: &Load) -> Appended {
     push_text(text, b", ")
 }
 
-/// Appends how a direction was used in words, which are shown where a pointer rests on it.
+/// Appends how a direction was used in words, which a viewer shows under the pointer.
 fn push_words(
     text: &mut Vec<u8>,
     topology: &Topology,
@@ -187,7 +187,7 @@ fn push_way(
 ///
 /// # Errors
 ///
-/// Where memory was refused.
+/// If memory was refused.
 pub fn load_text(alloc: Global, topology: &Topology, measured: &Measured) -> MadeText
     ensures { IfOk result (λ text. EndsLine text.items) }
 {

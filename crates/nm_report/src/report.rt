@@ -52,12 +52,12 @@ fn push_nodes(
 
 /// Tables with an empty line between: what passed the interfaces, those first that dropped most or
 /// were busiest; what nodes counted; what became of the packets of sources, how late they were, and
-/// what was answered to echo requests. A table without rows is left out, all but the first, and so
-/// are rows of what was idle; how many these are is said.
+/// the answers to echo requests. A table without rows is left out, all but the first, and so are
+/// idle rows, with their number.
 ///
 /// # Errors
 ///
-/// Where memory was refused.
+/// If memory was refused.
 pub fn report_text(alloc: Global, topology: &Topology, measured: &Measured) -> MadeText
     ensures { IfOk result (λ text. EndsLine text.items) }
 {

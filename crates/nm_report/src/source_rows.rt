@@ -23,7 +23,7 @@ fn push_more(text: &mut Vec<u8>, value: u64) -> Appended {
     push_number(text, value)
 }
 
-/// Appends how long packets took, and 1 where the percentiles are rounded, 0 where they are exact.
+/// Appends how long packets took, and 1 if the percentiles are rounded, 0 if they are exact.
 fn push_delays(text: &mut Vec<u8>, delays: &Delays) -> Appended {
     push_more(text, delays.least())?;
     for percentile in PERCENTILES {

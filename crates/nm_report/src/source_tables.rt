@@ -61,7 +61,7 @@ const ECHO_HEAD: [&str; 15] = [
     "jitter",
 ];
 
-/// What became of the packets of a source, which is nothing where it is not there.
+/// What became of the packets of a source; nothing if it is not there.
 pub(crate) fn flow_of(measured: &Measured, source: SourceNo) -> FlowCounts {
     measured.flow(source).unwrap_or(FlowCounts::NONE)
 }
@@ -75,7 +75,7 @@ pub(crate) fn kind_of(source: &Source) -> &'static str {
     }
 }
 
-/// Appends where the packets of a source go; `-` for raw packets, which say it themselves.
+/// Appends the destination of a source's packets; `-` for raw packets, which have their own.
 pub(crate) fn push_destination(text: &mut Vec<u8>, source: &Source) -> Appended {
     match &source.traffic {
         Traffic::Cbr(cbr) => push_address(text, cbr.to),
@@ -84,7 +84,7 @@ pub(crate) fn push_destination(text: &mut Vec<u8>, source: &Source) -> Appended 
     }
 }
 
-/// The cells of a row that say which source it is.
+/// The cells of a row that name its source.
 fn add_source(
     alloc: Global,
     table: &mut Table,
@@ -110,7 +110,7 @@ fn add_percentile(alloc: Global, table: &mut Table, delays: &Delays, thousandths
     table.text(cell.as_slice())
 }
 
-/// The cells of a row that say how long packets took.
+/// The cells of a row with the times that packets took.
 fn add_delays(alloc: Global, table: &mut Table, delays: &Delays) -> Appended {
     table.number(delays.least())?;
     for percentile in PERCENTILES {
@@ -172,7 +172,7 @@ pub(crate) fn push_sources(
     push_left_out(text, "sources", idle)
 }
 
-/// Which way it is told how long packets took.
+/// The way for which times are shown.
 #[derive(Clone, Copy)]
 pub(crate) enum Trip {
     /// From where they were sent to where they were delivered.
@@ -189,8 +189,8 @@ fn trip_head(trip: Trip) -> &'static [&'static str] {
     }
 }
 
-/// Whether echo replies are told of a source: of an `echo` source that sent requests, and of a
-/// `raw` one where some replies came to a node.
+/// Whether echo replies are shown for a source: for an `echo` source that sent requests, and for a
+/// `raw` one if some replies came to a node.
 fn has_replies(source: &Source, flow: &FlowCounts, times: &FlowTimes) -> bool {
     match &source.traffic {
         Traffic::Cbr(_) => false,
@@ -200,7 +200,7 @@ fn has_replies(source: &Source, flow: &FlowCounts, times: &FlowTimes) -> bool {
 }
 
 /// Adds the row of how long packets of a source took: one way, if something of it was delivered,
-/// and there and back, if replies are told of it.
+/// and there and back, if replies are shown.
 fn add_trips(
     alloc: Global,
     table: &mut Table,
@@ -230,7 +230,7 @@ fn add_trips(
     }
 }
 
-/// How long packets of sources took, after an empty line, where it is told of any.
+/// How long packets of sources took, after an empty line, if it is known of any.
 pub(crate) fn push_trips(
     alloc: Global,
     text: &mut Vec<u8>,

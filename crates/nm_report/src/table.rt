@@ -4,8 +4,8 @@ use nm_base::{push_number, push_text};
 use nm_measure::{Appended, end_line};
 use std::alloc::{AllocError, Global};
 
-/// A table of cells, row by row. Its first columns are texts, which stand at the left, and all
-/// others numbers, which stand at the right.
+/// A table of cells, row by row. Its first columns are texts, aligned to the left, and all others
+/// numbers, aligned to the right.
 #[derive(Drop)]
 pub(crate) struct Table {
     alloc: Global,
@@ -23,7 +23,7 @@ fn push_spaces(text: &mut Vec<u8>, count: usize) -> Appended {
 }
 
 impl Table {
-    /// A table with a head, the first of whose columns are texts.
+    /// A table with a head; so many of its first columns are texts.
     pub(crate) fn new(alloc: Global, head: &[&str], texts: usize) -> Result<Self, AllocError> {
         let mut table = Table {
             alloc,
@@ -103,7 +103,7 @@ impl Table {
         self.print(text)
     }
 
-    /// Appends the table, whose rows end with line feeds.
+    /// Appends the table; its rows end with line feeds.
     pub(crate) fn print(&self, text: &mut Vec<u8>) -> Appended {
         let widths = self.widths()?;
         let mut column = 0;
@@ -117,7 +117,7 @@ impl Table {
     }
 }
 
-/// Appends how many rows of a table were left out since they would say nothing, if any were.
+/// Appends how many rows of a table were left out since they are idle, if any were.
 pub(crate) fn push_left_out(text: &mut Vec<u8>, rows: &str, count: u64) -> Appended {
     if count == 0 {
         return Ok(());

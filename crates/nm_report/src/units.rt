@@ -14,11 +14,11 @@ const RATES: [(u64, &[u8]); 3] = [
 /// Units of times, in nanoseconds.
 const TIMES: [(u64, &[u8]); 3] = [(1_000_000_000, b" s"), (1_000_000, b" ms"), (1_000, b" us")];
 
-/// The percentiles that are told, in thousandths.
+/// The percentiles that are shown, in thousandths.
 pub(crate) const PERCENTILES: [u64; 4] = [500, 900, 990, 999];
 
 /// Appends a quantity in the greatest unit of which it is a whole number, or in the least one.
-/// Units stand from the greatest down, each with how many of the least it has.
+/// Units come from the greatest down, each with how many of the least it has.
 fn push_quantity(
     text: &mut Vec<u8>,
     quantity: u64,

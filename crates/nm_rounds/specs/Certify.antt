@@ -30,7 +30,7 @@ abbrev pub AreOf : TopologyValue → List BookValue → Type 0
 AreOf t books = All (λ b. SaysSame b.topology t) books
 
 -- All are books of this topology, each partition has one, each is done, and on each channel what
--- the receiver knows is what the sender says. Then each one's trace is the network's, whole.
+-- the receiver knows is what the sender has. Then each one's trace is the network's, whole.
 pub record AreCertified (t : TopologyValue) (books : List BookValue) : Type 0 where
   pub ours : AreOf t books
   pub certified : IsCertified (net_of t) Tight (books_of books)
@@ -83,7 +83,7 @@ is_same_entry None o = false
 is_same_entry (Some x) None = false
 is_same_entry (Some x) (Some y) = same_message same_octets x y
 
--- the fault of channel c, of which a is known and on which this was sent and promised
+-- the fault of channel c, with a known and this sent and promised on it
 abbrev pub list_fault : ℕ → Know (List ℕ) → List (ℕ × List ℕ) → ℕ → Option CertificateFault
 list_fault c a sent promised =
     or_else (prefix_fault same_octets c 0 a.list sent)

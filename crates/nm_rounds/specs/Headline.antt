@@ -93,9 +93,9 @@ pub record HaveJoin (a b : Know (List ℕ)) : Type 0 where
   pub least : (d : Know (List ℕ)) → IsUnder a d → IsUnder b d → IsUnder (join a b) d
 
 -- The headline. Whatever ran, was sent, came late, again, out of order or never, was merged or
--- began anew: of each replica all is true of the network that the one event list runs; only a gap
--- is refused, and no merge; equal knowledge makes equal replicas; and what two replicas of a
--- partition know has a join.
+-- restarted: of each replica all is true of the network that the one event list runs; only a gap is
+-- refused, and no merge; equal knowledge makes equal replicas; and what two replicas of a partition
+-- know has a join.
 pub record Headline (t : TopologyValue) (answers : List StepAnswer)
     (books : List BookValue) : Type 0 where
   pub true_books : (i : ℕ) (b : BookValue) → slice_get books i ≡ Some b → IsTrue t b

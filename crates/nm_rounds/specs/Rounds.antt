@@ -1,4 +1,4 @@
--- What rounds of all partitions come to: each runs all that is safe, and then hears all that the
+-- The result of rounds of all partitions: each runs all that is safe, and then gets all that the
 -- others have for it.
 use Rattle.std.specs.Prelude.{◌≡◌, ℕ, suc, ◌+◌, ◌-◌, ◌^◌, min, ◌<◌, ◌≤◌, Bool, true, false, List, [], ◌∷◌, length, map, slice_get, Option, Some, None, Result, Ok, Err}
 use Rattle.std.specs.List.{fold}
@@ -31,18 +31,18 @@ pub record AreBooks (t : TopologyValue) (n : ℕ) (x : ℕ → Replica (List ℕ
   pub count : length books ≡ n
   pub each : (p : ℕ) (b : BookValue) → slice_get books p ≡ Some b → IsReplicaOf t p 0 b (x p)
 
--- the replicas of all partitions after each round, where null messages make the tight promise
+-- the replicas of all partitions after each round, with null messages that carry the tight promise
 abbrev pub AreRounds : TopologyValue → (ℕ → ℕ → Replica (List ℕ)) → Type 0
 AreRounds t by_round = IsRounds (net_of t) same_octets Tight by_round
 
--- in the round after j of them, once all have run and before any hears
+-- in the round after j of them, once all have run and before any delivery
 abbrev pub after_runs : (ℕ → ℕ → Replica (List ℕ)) → ℕ → ℕ → Replica (List ℕ)
 after_runs by_round j p = record {
   knowledge = (by_round j p).knowledge;
   ran = (by_round (suc j) p).ran;
 }
 
--- once all have heard
+-- after all deliveries
 abbrev pub after_hearing : TopologyValue → (ℕ → Replica (List ℕ)) → ℕ → Replica (List ℕ)
 after_hearing t x p = record {
   knowledge = heard_on (net_of t) same_octets Tight x p;
@@ -54,7 +54,7 @@ pub record RunsAll (old new : BookValue) : Type 0 where
   pub count : IsCount (net_of old.topology) old.partition (knowledge old) new.events
   pub same : new ≡ record old { events = new.events }
 
--- what is known of a channel once a message of it was told
+-- what is known of a channel after a message of it came
 abbrev pub told_message : Know (List ℕ) → ChannelMessage → Know (List ℕ)
 told_message a (Data d) = (accept.accept_data same_octets a d.number (d.time, d.packet)).after
 told_message a (Null n) = (accept.accept_null a n.count n.clock).after
@@ -73,8 +73,8 @@ abbrev pub AreOfChannel : ℕ → List ChannelMessage → Type 0
 AreOfChannel c messages =
     (i : ℕ) (m : ChannelMessage) → slice_get messages i ≡ Some m → message_channel m ≡ c
 
--- told to who knows a of channel c, the messages make what it hears of the sender: all new
--- messages, and then the null message
+-- to a receiver that knows a of channel c, the messages bring the sender's news: all new messages,
+-- and then the null message
 pub record AreNews (a : Know (List ℕ)) (sender : BookValue) (c : ℕ)
     (messages : List ChannelMessage) : Type 0 where
   pub told : told_all a messages
@@ -112,8 +112,8 @@ abbrev pub IsLeft : TopologyValue → (ℕ → ℕ → Replica (List ℕ)) → �
 IsLeft t by_round j =
     (p : ℕ) × (p < t.partitions) × (is_done (net_of t) p (after_runs by_round j p) ≡ false)
 
--- The books in the round after j of them: all are done, and none heard anything more; or one is not
--- done, and all have heard.
+-- The books in the round after j of them: all are done, and nothing more was delivered; or one is
+-- not done, and all was delivered.
 abbrev pub EndsRound : TopologyValue → (ℕ → ℕ → Replica (List ℕ)) → ℕ → Bool → List BookValue
     → Type 0
 EndsRound t by_round j true books =
@@ -140,8 +140,8 @@ pub record AreDoneWithin (t : TopologyValue) (max rounds : ℕ)
   pub whole : (p : ℕ) (b : BookValue) → slice_get books p ≡ Some b → IsWhole t p b
 
 -- In each of the rounds some book was not done, and there were as many rounds as were asked for.
--- That is so only where there is a channel, and where stop divided by any lookahead that each
--- channel has, rounded up, and one more are past the rounds.
+-- That is so only if there is a channel, and if stop divided by any lookahead that each channel
+-- has, rounded up, and one more are past the rounds.
 pub record AreUnfinished (t : TopologyValue) (max rounds : ℕ)
     (books : List BookValue) : Type 0 where
   pub all : rounds ≡ max
@@ -159,7 +159,7 @@ abbrev pub AreEnded : TopologyValue → ℕ → Option ℕ → List BookValue �
 AreEnded t max (Some rounds) books = AreDoneWithin t max rounds books
 AreEnded t max None books = AreUnfinished t max max books
 
--- What rounds over a network come to, of which at most so many are asked for.
+-- The result of rounds over a network, at most so many.
 abbrev pub RunsTo : TopologyValue → ℕ → Rounds → Type 0
 RunsTo t max (Done rounds books) = AreDoneWithin t max rounds books.items
 RunsTo t max (Unfinished rounds books) = AreUnfinished t max rounds books.items

@@ -1,8 +1,8 @@
--- When two topologies say the same.
+-- When two topologies are the same.
 use Rattle.std.specs.Prelude.{◌≡◌, []}
 use Rattle.nm_topology.specs.TopologyValue.{TopologyValue}
 
--- all that a text says, without the digest of its octets
+-- all that a text has, without the digest of its octets
 abbrev pub without_digest : TopologyValue → TopologyValue
 without_digest t = record t { digest = [] }
 

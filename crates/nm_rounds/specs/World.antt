@@ -54,7 +54,7 @@ frame_of t (DataMessage d) =
     model.DataFrame (receiving_iface t d.channel) d.number (d.time, d.packet)
 frame_of t (NullMessage n) = model.NullFrame (receiving_iface t n.channel) n.count n.clock
 
--- what a step answers where a replica refused a frame
+-- what a step answers if a replica refused a frame
 abbrev pub refusal_of : KnowFault → Result StepAnswer Stop
 refusal_of NoMemory = Err Memory
 refusal_of f = Ok (Refused f)

@@ -247,7 +247,7 @@ pub(crate) fn merge(
     merge_answer(result)
 }
 
-/// A replica is made anew.
+/// A replica is made again.
 pub(crate) fn restart(
     alloc: Global,
     topology: &Arc<Topology>,

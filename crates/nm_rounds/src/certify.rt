@@ -1,5 +1,5 @@
-//! The certificate: whether books, however they came to know what they know, have the traces of
-//! the whole network.
+//! The certificate: whether books, however they came to know it, have the traces of the whole
+//! network.
 
 ghost use Rattle.std.specs.Prelude.{◌≡◌, ◌↔◌, ℕ, ◌<◌, true, false, if◌then◌else◌, All, Contains};
 ghost use Rattle.std.specs.Prelude.{List, length, map, Some, None, IsOk, OnOk};
@@ -248,8 +248,8 @@ fn check_channel(
     Ok(())
 }
 
-/// Looks whether what is known of a channel that comes into a book is what this one says, if it
-/// sends on the channel.
+/// Compares what is known of an incoming channel of a book with what this one sent, if it sends on
+/// the channel.
 fn check_sender(
     topology: &Topology,
     channel: ChanNo,
@@ -326,15 +326,15 @@ fn check_channels(topology: &Topology, books: &[&Book]) -> Result<(), CertFault>
     Ok(())
 }
 
-/// Looks whether books, whoever told them what they know, have the traces of the whole network.
-/// Where they do, each book's trace is its partition's part of the trace of `one_list`. It takes no
+/// Whether books, wherever they know from what they know, have the traces of the whole network. If
+/// they do, each book's trace is its partition's part of the trace of `one_list`. It takes no
 /// memory, and goes once through the lists of each two books that share a channel.
 ///
 /// # Errors
 ///
-/// The first fault in this order. `Topology` where a book is of another topology, of which all but
-/// the digest is compared. `Missing` with the least partition that has no book. `Unfinished` with
-/// the partition of the first book that is not done. Then by receiving book in the order given, by
+/// The first fault in this order. `Topology` if a book is of another topology; all but the digest
+/// is compared. `Missing` with the least partition that has no book. `Unfinished` with the
+/// partition of the first book that is not done. Then by receiving book in the order given, by
 /// incoming channel and by sending book in the order given: `Prefix`, `Clock` or `Promise`.
 pub fn certify(topology: &Topology, books: &[&Book]) -> Result<(), CertFault>
     ensures answer { Certifies topology.now (map (λ b. b.now) books.now) result }

@@ -1,4 +1,4 @@
-//! The messages of a channel, as they are told again.
+//! The messages of a channel, given again.
 
 ghost use Rattle.std.specs.Prelude.{◌≡◌, ◌<◌, true, IfOk, OnOk, length};
 ghost use Rattle.nm_book.specs.Book.{is_outgoing, sent_over};

@@ -1,4 +1,4 @@
-//! Where the replicas of a world stand.
+//! The places of the replicas of a world.
 
 ghost use Rattle.std.specs.Prelude.{◌≡◌, ◌+◌, ◌*◌, ◌<◌, ◌&&◌, true, is_some, length};
 ghost use Rattle.nm_book.specs.Book.{is_replica, only_if};
@@ -35,8 +35,8 @@ impl Outlet {
     }
 }
 
-/// Where a replica of a partition stands among all: replica r of partition p is the one of number
-/// 2p + r. `None` where there is no such replica.
+/// The place of a replica of a partition among all: replica r of partition p is the one of number
+/// 2p + r. `None` if there is no such replica.
 pub(crate) fn place_of(topology: &Topology, partition: PartNo, replica: u8) -> Option<usize>
     ensures { result
         ≡ only_if (is_replica topology.now partition replica) (2 * partition + replica) }
@@ -47,7 +47,7 @@ pub(crate) fn place_of(topology: &Topology, partition: PartNo, replica: u8) -> O
     Some(2 * partition.index() + replica as usize)
 }
 
-/// Where a replica stands that sends on a channel. `None` where there is no such replica, or the
+/// The place of a replica that sends on a channel. `None` if there is no such replica, or the
 /// channel does not go out of its partition.
 pub(crate) fn sending_place(
     topology: &Topology,

@@ -82,18 +82,18 @@ fn read(alloc: Global, text: &[u8]) -> Result<Arc<Topology>, ReplayFault>
     Ok(Arc::new(alloc, topology)?)
 }
 
-/// Lets replicas 0 and 1 of each partition of the network do these steps, one after another, from
-/// where none knows anything and no frame was sent.
+/// Replicas 0 and 1 of each partition of the network do these steps, one after another, from where
+/// none knows anything and no frame was sent.
 ///
 /// The report's answers and books are those of the model's world over these steps, up to the ending
 /// (`IsReplay`). So the headline holds of them (`Headline`): what each replica knows, did, sent and
 /// promises is what one event list does in its partition, whatever was lost, repeated, late, out of
-/// order, merged or begun anew.
+/// order, merged or restarted.
 ///
 /// # Errors
 ///
-/// `Refused` where the text is refused, with its first fault. `Memory` where memory was refused
-/// before the first step.
+/// `Refused` if the text is refused, with its first fault. `Memory` if memory was refused before
+/// the first step.
 pub fn replay(alloc: Global, text: &[u8], steps: &[WorldStep]) -> Result<WorldReport, ReplayFault>
     ensures report { Reports text.now steps.now result }
     ensures headline { IfOk result (λ report. Headline (arc_value report.topology)

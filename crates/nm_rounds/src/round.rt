@@ -1,4 +1,4 @@
-//! One round: each partition runs all that is safe, and then hears all that the others have for it.
+//! One round: each partition runs all that is safe, and then gets all that the others have for it.
 
 ghost use Rattle.std.specs.Prelude.{◌≡◌, ◌<◌, ℕ, true, IfOk, OnOk, List, length, map};
 ghost use Rattle.std.specs.Prelude.{slice_index_or, slice_set};
@@ -25,8 +25,8 @@ use nm_topology::Topology;
 use nm_topology::topology::channels_are_numbered_by_their_receivers;
 use std::alloc::{AllocError, Global};
 
-/// A book does all that is safe. `Book::run_safe` ends a run as for want of memory at 2^62 events,
-/// so the limit is not reached; it would be an error as well.
+/// A book does all that is safe. `Book::run_safe` ends a run at 2^62 events as if memory was
+/// refused, so the limit is not reached; it would be an error as well.
 fn run_book(alloc: Global, book: &mut Book) -> Result<(), AllocError>
     ensures { OnOk result (RunsAll book.old book.new) }
 {
@@ -65,7 +65,7 @@ fn all_done(books: &[Book]) -> bool
     true
 }
 
-/// How many messages of a channel that comes in are known, which is the number of the next one.
+/// How many messages of an incoming channel are known, which is the number of the next one.
 fn next_number(receiver: &Book, channel: ChanNo) -> u64
     requires { is_incoming receiver.now channel ≡ true }
     ensures { result ≡ length (slice_index_or receiver.now.knows channel nothing_known).list }
@@ -98,7 +98,7 @@ fn news(
     Ok(messages)
 }
 
-/// What is to be told of a channel.
+/// The news of a channel.
 fn news_of(
     alloc: Global,
     topology: &Topology,
@@ -125,7 +125,7 @@ fn news_of(
     )
 }
 
-/// What is to be told of each channel, in the order of their numbers.
+/// The news of each channel, in the order of their numbers.
 fn all_news(
     alloc: Global,
     topology: &Topology,
@@ -146,7 +146,7 @@ fn all_news(
     Ok(news)
 }
 
-/// What a refusal comes to: nothing, unless it was for want of memory.
+/// The result of a refusal: nothing, unless memory was refused.
 fn unless_memory(fault: KnowFault) -> Result<(), AllocError>
     ensures { OnOk result (fault ≡ Memory → ⊥) }
 {
@@ -156,7 +156,7 @@ fn unless_memory(fault: KnowFault) -> Result<(), AllocError>
     }
 }
 
-/// A book is told a message. Where it refuses it, nothing changes.
+/// A book gets a message. If it refuses it, nothing changes.
 fn tell_one(book: &mut Book, message: &ChannelMessage) -> Result<(), AllocError>
     ensures { OnOk result (is_incoming book.old (message_channel message.now) ≡ true
         → book.new ≡ record book.old {
@@ -172,7 +172,7 @@ fn tell_one(book: &mut Book, message: &ChannelMessage) -> Result<(), AllocError>
     }
 }
 
-/// A book is told messages, one after another.
+/// A book gets messages, one after another.
 fn tell_all(book: &mut Book, messages: &[ChannelMessage]) -> Result<(), AllocError>
     ensures { OnOk result ((c : ℕ) → is_incoming book.old c ≡ true → c < length book.old.knows
         → AreOfChannel c messages.now
@@ -187,7 +187,7 @@ fn tell_all(book: &mut Book, messages: &[ChannelMessage]) -> Result<(), AllocErr
     Ok(())
 }
 
-/// Each book hears what is told of the channels that come in.
+/// Each book gets the news of its incoming channels.
 fn hear_all(
     topology: &Topology,
     books: &mut Vec<Book>,
@@ -215,7 +215,7 @@ fn hear_all(
 }
 
 /// Does a round, and answers whether all books are done in it. All null messages are made before
-/// any is told.
+/// any is delivered.
 pub(crate) fn do_round(
     alloc: Global,
     topology: &Topology,

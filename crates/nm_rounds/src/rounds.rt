@@ -22,7 +22,7 @@ use nm_topology::{TopoFault, Topology};
 use std::alloc::{AllocError, Global};
 use std::sync::Arc;
 
-/// What rounds come to. The book of number p is replica 0 of partition p.
+/// The result of rounds. The book of number p is replica 0 of partition p.
 #[derive(Drop)]
 pub enum Rounds {
     /// In this round, counted from 1, and in none before it, each book was done: it has the whole
@@ -114,18 +114,18 @@ fn do_rounds(
     Ok(None)
 }
 
-/// Lets all partitions of a network run and hear each other, in rounds, until all is done, but in
+/// Runs all partitions of a network in rounds, with deliveries between, until all is done, but in
 /// at most so many rounds.
 ///
 /// In a round each partition runs all that is safe. If all are done then, that is the last round.
-/// Else the new messages of each channel and its null message, which makes the promise of the
-/// moment, are first gathered of all channels, and only then told. Where there is no channel all is
-/// done in the first round; and always after `stop` divided by the least lookahead of a channel,
-/// rounded up, and one round more. After each round it is noted how far all are.
+/// Else the new messages of each channel and its null message, with the promise of the moment, are
+/// first gathered of all channels, and only then delivered. If there is no channel all is done in
+/// the first round; and always after `stop` divided by the least lookahead of a channel, rounded
+/// up, and one round more. After each round it is noted how far all are.
 ///
 /// # Errors
 ///
-/// Where memory was refused.
+/// If memory was refused.
 pub fn run_rounds_over(
     alloc: Global,
     topology: &Arc<Topology>,
@@ -147,7 +147,7 @@ pub fn run_rounds_over(
 ///
 /// # Errors
 ///
-/// `Refused` where the text is refused, with its first fault. `Memory` where memory was refused.
+/// `Refused` if the text is refused, with its first fault. `Memory` if memory was refused.
 pub fn run_rounds(alloc: Global, text: &[u8], max: u64) -> Result<Rounds, TopoFault>
     requires some { 1 ≤ max }
     requires few { max ≤ MAX_ROUNDS }

@@ -1,4 +1,4 @@
-//! Whether two topologies say the same.
+//! Whether two topologies are the same.
 
 ghost use Rattle.std.specs.Prelude.{◌≡◌, ◌↔◌, IsTrue};
 ghost use Rattle.nm_rounds.specs.SameTopology.{SaysSame};
@@ -98,7 +98,7 @@ fn are_same<T: Same>(a: &[T], b: &[T]) -> bool
     true
 }
 
-/// Whether two topologies say the same: all is compared but the digests of their texts, which also
+/// Whether two topologies are the same: all is compared but the digests of their texts, which also
 /// count comments and blanks. It takes no memory.
 pub fn same_topology(a: &Topology, b: &Topology) -> bool
     ensures { IsTrue result ↔ SaysSame a.now b.now }

@@ -50,7 +50,7 @@ pub enum WorldStep {
         partition: PartNo,
         replica: u8,
     },
-    /// A replica is made anew, and knows nothing.
+    /// A replica is made again, and knows nothing.
     Restart {
         partition: PartNo,
         replica: u8,
@@ -75,6 +75,6 @@ pub enum StepAnswer {
     /// What both know of this channel cannot be joined; it is the first such channel. The replica
     /// is unchanged. It is never for want of memory.
     MergeRefused { channel: ChanNo, fault: KnowFault },
-    /// The replica was made anew.
+    /// The replica was made again.
     Emptied,
 }

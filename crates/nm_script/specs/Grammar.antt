@@ -1,4 +1,4 @@
--- What a line of a script says. A line stands here without its line feed.
+-- The meaning of a line of a script, given without its line feed.
 use Rattle.std.specs.Prelude.{◌≡◌, ℕ, ◌<◌, ◌^◌, ◌==◌, Bool, true, List, [], ◌∷◌, map, decimal, Some}
 use Rattle.std.specs.List.{All}
 use Rattle.std.specs.Str.{IsAscii}
@@ -26,7 +26,7 @@ abbrev pub is_idle : List ℕ → Bool
 is_idle [] = true
 is_idle (c ∷ cs) = c == 35
 
--- what a line says: nothing, which must be ASCII, or a step
+-- the meaning of a line: nothing, which must be ASCII, or a step
 abbrev pub Says : List ℕ → Line → Type 0
 Says line Skipped = (is_idle line ≡ true) × IsAscii line
 Says line (Step s) = IsStep line s

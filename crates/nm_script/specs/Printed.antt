@@ -23,7 +23,7 @@ fault_text NotRising = codes "notrising"
 fault_text Memory = codes "memory"
 fault_text (Contrary count) = codes "contrary " ++ decimal count
 
--- of a merge that is refused the channel is not told
+-- of a refused merge the channel is not printed
 abbrev pub answer_text : StepAnswer → List ℕ
 answer_text (All n) = codes "all " ++ decimal n
 answer_text (Limit n) = codes "limit " ++ decimal n
@@ -38,7 +38,7 @@ answer_text Emptied = codes "empty"
 abbrev pub answer_line : ℕ × StepAnswer → List ℕ
 answer_line answer = decimal answer.0 ++ codes " " ++ answer_text answer.1 ++ codes "\n"
 
--- the lines of answers, the first of which has number 0
+-- the lines of answers, from number 0 on
 abbrev pub answer_lines : List StepAnswer → List ℕ
 answer_lines answers = flat_map answer_line (enumerate_from 0 answers)
 

@@ -1,4 +1,4 @@
--- What a script says, line by line.
+-- The meaning of a script, line by line.
 use Rattle.std.specs.Prelude.{◌≡◌, ◌⊎◌, ℕ, ◌+◌, ◌<◌, ◌≤◌, List, [], ◌∷◌, ◌++◌, length, codes, Result, Ok, Err}
 use Rattle.std.specs.List.{All, flat_map}
 use Rattle.std.specs.declared.vec.Vec.{Vec}
@@ -13,17 +13,17 @@ use Rattle.nm_script.specs.declared.line.Line.TheVariants.{Skipped, Step}
 use Rattle.nm_base.specs.declared.limits.TheConstants.{MAX_SCRIPT_STEPS}
 use Rattle.nm_script.specs.Grammar.{Says}
 
--- the steps that a line says: none, or one
+-- the steps of a line: none, or one
 abbrev pub steps_in : Line → List WorldStep
 steps_in Skipped = []
 steps_in (Step s) = s ∷ []
 
--- a line, and what it says
+-- a line, and its meaning
 abbrev pub Said : Type 0
 Said = List ℕ × Line
 
--- The text is these lines, each with its line feed, and they say these steps, of which there are
--- not too many.
+-- The text is these lines, each with its line feed, and they mean these steps, which are not too
+-- many.
 pub record AreLines (lines : List Said) (text : List ℕ) (steps : List WorldStep) : Type 0 where
   pub whole : text ≡ flat_map (λ l. l.0 ++ codes "\n") lines
   pub ended : All (λ l. HasNo 10 l.0) lines
@@ -31,8 +31,7 @@ pub record AreLines (lines : List Said) (text : List ℕ) (steps : List WorldSte
   pub all : steps ≡ flat_map (λ l. steps_in l.1) lines
   pub few : length steps ≤ MAX_SCRIPT_STEPS
 
--- Behind so many steps no line like this may come: it says nothing that a script may have, or a
--- step too many.
+-- After so many steps no line like this may come: it is no line of a script, or a step too many.
 abbrev pub IsBadLine : ℕ → List ℕ → Type 0
 IsBadLine count line =
     (said : Line) → Says line said → MAX_SCRIPT_STEPS < count + length (steps_in said)

@@ -1,4 +1,4 @@
-//! What the definitions say by themselves.
+//! What follows from the definitions alone.
 
 ghost use Rattle.std.specs.Prelude.{◌≡◌, ℕ, List};
 ghost use Rattle.nm_rounds.specs.declared.step.WorldStep.{WorldStep as AStep};

@@ -10,7 +10,7 @@ use crate::tokens::step_of;
 use nm_base::split_once;
 use nm_rounds::WorldStep;
 
-/// What a line of a script says.
+/// The meaning of a line of a script.
 #[derive(Clone, Copy)]
 pub enum Line {
     /// Nothing: it is empty, or a comment.
@@ -39,8 +39,7 @@ fn step_on(line: &[u8]) -> Option<WorldStep>
     step_of(word, &numbers)
 }
 
-/// What a line says, which stands here without its line feed. `None` where it says nothing that a
-/// script may have.
+/// The meaning of a line, given without its line feed. `None` if no line of a script may be so.
 pub fn read_line(line: &[u8]) -> Option<Line>
     ensures found { IfSome result (Says line.now) }
     ensures only { (said : LineValue) → Says line.now said → result ≡ Some said }

@@ -11,7 +11,7 @@ use nm_base::{number_of, split_once};
 /// The greatest number of numbers that a step has.
 pub(crate) const MAX_NUMBERS: usize = 4;
 
-/// The numbers that a text writes in decimal, parted by one space. `None` where it writes no such
+/// The numbers that a text writes in decimal, parted by one space. `None` if it writes no such
 /// numbers, or more than any step has.
 pub(crate) fn numbers_of(text: &[u8]) -> Option<ArrayVec<u64, MAX_NUMBERS>>
     ensures found { IfSome result (λ v. parts_at 32 text.now ≡ map decimal v.items) }

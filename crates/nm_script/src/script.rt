@@ -11,7 +11,7 @@ use nm_base::split_once;
 use nm_rounds::WorldStep;
 use std::alloc::Global;
 
-/// Adds what a line says to the steps of the lines before it.
+/// Adds the step of a line, if it is one, to the steps of the lines before it.
 fn take_line(steps: &mut Vec<WorldStep>, line: &[u8], number: u64) -> Result<(), ScriptFault>
     requires { length steps.old.items ≤ MAX_SCRIPT_STEPS }
     ensures { AddsStep steps.old.items line.now number result steps.new.items }
@@ -28,8 +28,8 @@ fn take_line(steps: &mut Vec<WorldStep>, line: &[u8], number: u64) -> Result<(),
 ///
 /// # Errors
 ///
-/// `Refused` with the first line that is no such line, or one step too many. `Memory` where memory
-/// was refused.
+/// `Refused` with the first line that is no such line, or one step too many. `Memory` if memory was
+/// refused.
 pub fn read_script(alloc: Global, text: &[u8]) -> Result<Vec<WorldStep>, ScriptFault>
     ensures { Tells text.now result }
 {

@@ -31,8 +31,8 @@ pub record AreTotals (t : TopologyValue) (s : State (List ℕ) NodeStateValue)
   pub each : (i : ℕ) (x : IfaceTotals) → slice_get all i ≡ Some x
       → (x.traffic ≡ (had i s).traffic) × (x.dropped ≡ (had i s).dropped)
 
--- for how many nanoseconds packets, or octets, waited at interface i before a time, before which so
--- many events are, all together; it stops at the greatest of its type
+-- for how many nanoseconds packets, or octets, waited at interface i before a time with so many
+-- events before it, all together; it stops at the greatest of its type
 abbrev pub waited_by : (amount : List (List ℕ) → ℕ) → TopologyValue → (i time events : ℕ) → ℕ
 waited_by amount t i time events =
     min (waited_before (net_of t) amount i time events) (2 ^ 128 - 1)
@@ -52,14 +52,14 @@ pub record HadIfaces (t : TopologyValue) (time : ℕ) (all : List IfaceTotals) :
       × (x.octets_waited ≡ waited_by in_octets t i time events)
       × (x.busy ≡ busy_by t i time events)
 
--- how many waited in the mean in so many nanoseconds, rounded down, where all waited for so many
+-- how many waited in the mean in so many nanoseconds, rounded down, if all waited for so many
 -- together; 0 in no time
 abbrev pub mean_in : (waited time : ℕ) → ℕ
 mean_in waited zero = 0
 mean_in waited (suc n) = waited / suc n
 
--- in thousandths, where they waited for so many before and after; both products and quotients stop
--- at the greatest of their types
+-- in thousandths, if they waited for so many before and after; both products and quotients stop at
+-- the greatest of their types
 abbrev pub mean_between : (before after time : ℕ) → ℕ
 mean_between before after time =
     saturated (mean_in (min ((after - before) * 1000) (2 ^ 128 - 1)) time)
@@ -68,7 +68,7 @@ mean_between before after time =
 abbrev pub whole_mean_between : (before after time : ℕ) → ℕ
 whole_mean_between before after time = saturated (mean_in (after - before) time)
 
--- What was seen of interface i in a step from a time to a time, before which so many events are:
+-- What was seen of interface i in a step from a time to a time, with so many events before each:
 -- the most packets, and octets, that waited at one time, how many of them waited in the mean over
 -- time, the packets in thousandths, and the share of the time in which it transmitted, in
 -- thousandths. Means and the share are rounded down.

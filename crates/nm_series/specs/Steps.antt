@@ -1,7 +1,7 @@
 -- The steps of a run: each begins where the last one ended, and the last one ends at `stop`.
 use Rattle.std.specs.Prelude.{◌≡◌, ℕ, zero, suc, ◌+◌, ◌/◌, ◌-◌, ◌<◌, min, List, ◌++◌}
 
--- where step k begins, and where step k - 1 ends, in nanoseconds
+-- the begin of step k, and the end of step k - 1, in nanoseconds
 abbrev pub step_time : (step stop : ℕ) → ℕ → ℕ
 step_time step stop zero = 0
 step_time step stop (suc k) = min (step_time step stop k + step) stop

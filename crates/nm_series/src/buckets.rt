@@ -34,12 +34,12 @@ fn push_delays(text: &mut Vec<u8>, source: u32, delays: &Delays) -> Result<(), A
 }
 
 /// A row for each delay of what was delivered of a source, with how often it came: the delay by
-/// itself, where up to 1,024 different ones came, or else all that have the same eight highest
-/// bits. Both ends belong to the row.
+/// itself, if up to 1,024 different ones came, or else all that have the same eight highest bits.
+/// Both ends belong to the row.
 ///
 /// # Errors
 ///
-/// Where memory was refused.
+/// If memory was refused.
 pub fn delays_text(alloc: Global, topology: &Topology, measured: &Measured) -> MadeText
     ensures { IfOk result (λ text. EndsLine text.items) }
 {

@@ -11,7 +11,7 @@ use nm_measure::{FlowTotals, Measured, end_line};
 use nm_topology::Topology;
 use std::alloc::{AllocError, Global};
 
-/// The mean delay of what was delivered between, in nanoseconds, rounded down; 0 where nothing was.
+/// The mean delay of what was delivered between, in nanoseconds, rounded down; 0 if nothing was.
 fn mean_delay(before: &FlowTotals, after: &FlowTotals) -> u64 {
     let count = after.delivered.saturating_sub(before.delivered);
     if count == 0 {
@@ -65,7 +65,7 @@ fn push_rows(
 }
 
 impl Totals for FlowTotals {
-    // Nothing is said of what sources had.
+    // No contract states what sources had.
     ghost had = { λ t time all. Unit {0} };
 
     ghost are_rows = { λ t from until text. AreLines text };

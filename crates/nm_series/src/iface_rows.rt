@@ -38,7 +38,7 @@ pub struct IfaceSeen {
     pub busy: u64,
 }
 
-/// How many waited in the mean in a step, rounded down, where all waited for so many nanoseconds
+/// How many waited in the mean in a step, rounded down, if all waited for so many nanoseconds
 /// together.
 fn mean_of(waited: u128, length: u64) -> u64
     ensures { result ≡ saturated (mean_in waited length) }

@@ -16,7 +16,7 @@ use std::alloc::{AllocError, Global};
 /// The names of the columns.
 const HEAD: &[u8] = b"packet,sent_nanoseconds,outcome,reason,place,ended_nanoseconds,way";
 
-/// In so many steps the network is run, after each of which the packets that ended are told.
+/// The network is run in so many steps, with the rows of packets that ended after each.
 const STEPS: u64 = 4_096;
 
 /// The outcome in a word.
@@ -101,7 +101,7 @@ fn push_under_way(
     push_way(text, topology, course.hops.as_slice())
 }
 
-/// Appends the rows of all packets that ended and were not told yet.
+/// Appends the rows of all packets that ended and have no row yet.
 fn push_all_ended(
     text: &mut Vec<u8>,
     topology: &Topology,
@@ -180,12 +180,12 @@ fn rows_text(
     Ok(text)
 }
 
-/// A row for each packet that a source handed over: those that ended, in the order in which they
-/// did, and behind them those that are under way at `stop`.
+/// A row for each packet of a source: those that ended, in the order in which they did, and behind
+/// them those that are under way at `stop`.
 ///
 /// # Errors
 ///
-/// Where memory was refused.
+/// If memory was refused.
 pub fn packets_text(
     alloc: Global,
     topology: &Topology,

@@ -1,4 +1,4 @@
-//! What is told of a network over time, step by step.
+//! A network over time, step by step.
 
 ghost use Rattle.std.specs.Prelude.{◌≡◌, ℕ, ◌-◌, List, IfOk};
 ghost use Rattle.std.specs.Option.{option_map};
@@ -32,8 +32,8 @@ impl Span {
     }
 }
 
-/// What one of a kind had up to a time. The rows of a step say what all of the kind had more at its
-/// end than at its begin.
+/// The counts of one of a kind up to a time. The rows of a step have what was added from its begin
+/// to its end.
 pub trait Totals: Drop {
     // What all of the kind had before a time of the run, by number.
     ghost had: { TopologyValue → ℕ → List Self → Type 0 };
@@ -97,7 +97,7 @@ impl<T: Totals> Series<T> {
     ///
     /// # Errors
     ///
-    /// Where memory was refused.
+    /// If memory was refused.
     pub fn begin(alloc: Global, topology: &Topology, step: u64) -> Result<Self, AllocError>
         ensures series { IfOk result (IsSeries T.had topology.now) }
         ensures begin { IfOk result (λ s. (s.time ≡ 0) × (s.step ≡ step)) }
@@ -113,12 +113,12 @@ impl<T: Totals> Series<T> {
         })
     }
 
-    /// The rows of the next step, or `None` where there is none. Now and then it is noted how far
-    /// the run is.
+    /// The rows of the next step, or `None` if there is none. Now and then it is noted how far the
+    /// run is.
     ///
     /// # Errors
     ///
-    /// Where memory was refused: nothing is said of the series then.
+    /// If memory was refused: no contract states the series then.
     pub fn next(
         &mut self,
         alloc: Global,

@@ -11,8 +11,8 @@ use nm_topology::topology::accepted_topologies_are_in_order;
 /// The most rows of a series.
 pub const MAX_ROWS: u64 = 10_000_000;
 
-/// Where a step ends that begins at this time and is this long, in nanoseconds: at `stop`, where
-/// that comes first.
+/// The end of a step that begins at this time and is this long, in nanoseconds: `stop`, if that
+/// comes first.
 pub(crate) fn end_of(topology: &Topology, from: Time, step: u64) -> Time
     ensures { result ≡ min (from + step) topology.now.stop }
 {
@@ -21,7 +21,7 @@ pub(crate) fn end_of(topology: &Topology, from: Time, step: u64) -> Time
     Time::from_nanoseconds(end.min(topology.stop().nanoseconds()))
 }
 
-/// How many steps of so many nanoseconds a run has, of which the last may be shorter.
+/// How many steps of so many nanoseconds a run has; the last may be shorter.
 pub fn steps_in(topology: &Topology, step: u64) -> u64
     requires { 1 ≤ step }
     ensures { result ≡ steps_in step topology.now.stop }

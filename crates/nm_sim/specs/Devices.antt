@@ -12,8 +12,8 @@ use Rattle.nm_traffic.specs.SourceValues.{SourceValue}
 use Rattle.nm_sim.specs.Tables.{AllHere, AllSome}
 use Rattle.nm_sim.specs.Network.{far_of, is_iface_here, is_node_here, is_source_here, queue_of}
 
--- what contracts see of them: by number, where they are here, the port whose memory was used
--- since memory was last made, and of which interfaces records are wanted
+-- what contracts see of them: by number, if they are here, the port whose memory was used since
+-- memory was last made, and which interfaces have wanted records
 pub record DevicesValue : Type 0 where
   pub nodes : List (Option NodeStateValue)
   pub ports : List (Option PortValue)
@@ -52,7 +52,7 @@ pub record DevicesRepresent (t : TopologyValue) (states : DeviceStates)
   pub sources : AllHere (is_source_here t states.part) (λ j s. source_of t j ≡ Some s) d.sources
 
 -- each of these ports has memory for one more packet, but for the one whose memory was used, and
--- records what it transmits exactly where records of its interface are wanted
+-- records what it transmits exactly if records of its interface are wanted
 abbrev pub AreSound : Wanted → Option ℕ → List (Option PortValue) → Type 0
 AreSound wanted used ports =
     AllSome (λ i w. ((1 ≤ w.room) ⊎ (used ≡ Some i)) × (w.recorded ≡ is_wanted wanted i)) ports

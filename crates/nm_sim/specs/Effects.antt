@@ -63,9 +63,9 @@ TransmitsAt t part time s = IsIfaceHere t part s.0
 abbrev pub IsCopied : Wanted → ℕ × Start → Type 0
 IsCopied wanted s = is_wanted wanted s.0 ≡ true → HasCopy s.1
 
--- What was done beside the change of a node and of one port: the packet that arrived, and where,
--- the transmission that starts, and where, and the packet that a source hands over next: which
--- source, when, and which packet.
+-- What was done beside the change of a node and of one port: the packet that arrived, and where;
+-- the transmission that starts, and where; and the source's next packet: which source, when, and
+-- which packet.
 pub record Done : Type 0 where
   pub came : Option (ℕ × List ℕ)
   pub transmission : Option (ℕ × Start)
@@ -93,7 +93,7 @@ states_after t states entry = record states {
   port = turned states.port (effect_in t states entry).turn;
 }
 
--- an event was done, where nodes and ports had these states
+-- an event was done, when nodes and ports had these states
 pub record Does (t : TopologyValue) (states : DeviceStates) (entry : Key × Event (List ℕ))
     (d : DevicesValue) (e : Done) : Type 0 where
   pub represented : DevicesRepresent t (states_after t states entry) d
@@ -114,7 +114,7 @@ pub record Sends (t : TopologyValue) (states : DeviceStates) (time : ℕ)
       ≡ (sent_on (net_of t) states.port time came n sent follows).transmission
   pub transmits : IfSome sending (TransmitsAt t states.part time)
 
--- what node v does with what it was given: where a packet came from, and the packet
+-- what node v does with its input: where a packet came from, and the packet
 abbrev pub reaction_in : TopologyValue → DeviceStates → ℕ → Origin × List ℕ
     → NodeStateValue × Option (ℕ × List ℕ)
 reaction_in t states v given = reaction t v (states.node v) given.0 given.1

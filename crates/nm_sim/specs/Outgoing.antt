@@ -25,7 +25,7 @@ pub record OutgoingRepresents (t : TopologyValue) (part : Option ℕ) (o : Outgo
   pub count : length o.channels ≡ channel_count t part
   pub messages : AllAt (λ c v. v.messages ≡ sent (receiving_iface t c)) o.channels
 
--- the messages of a channel; none where there is no such channel
+-- the messages of a channel; none if there is no such channel
 abbrev pub messages_in : Option ChannelValue → List (ℕ × List ℕ)
 messages_in None = []
 messages_in (Some v) = v.messages

@@ -67,8 +67,8 @@ abbrev pub RepresentsNext : {L : Type 0} → (L → FinMap key_cmp (Event (List 
 RepresentsNext pending t part p s =
     Represents pending t part p (step (net_of t) (here_of t part) s)
 
--- a fact of each run that the part may stand in, on this network: of the part of the network and
--- the state of its run
+-- a fact of each run that the part may be in, on this network: of the part of the network and the
+-- state of its run
 abbrev pub OfTheRunIn : {L : Type 0} → (L → FinMap key_cmp (Event (List ℕ))) → TopologyValue
     → PartValue L
     → (Option ℕ → State (List ℕ) NodeStateValue → Type 0) → Type 0
@@ -81,7 +81,7 @@ abbrev pub OfTheRun : {L : Type 0} → (L → FinMap key_cmp (Event (List ℕ)))
 OfTheRun pending p Fact = (t : TopologyValue) (part : Option ℕ) (s : State (List ℕ) NodeStateValue)
     → Represents pending t part p s → Fact t part s
 
--- the part stands in some run, on this network or on any
+-- the part is in some run, on this network or on any
 abbrev pub IsOfARunIn : {L : Type 0} → (L → FinMap key_cmp (Event (List ℕ))) → TopologyValue
     → PartValue L → Type 0
 IsOfARunIn pending t p =
@@ -180,7 +180,7 @@ pub record IsUnderWay {L : Type 0} (pending : L → FinMap key_cmp (Event (List 
   pub does : Does t (states_in doing.part doing.state) (keyed time doing.number doing.event)
       p.devices (done_with doing start)
 
--- what became of it: it was done, or is back where it was
+-- the result: it was done, or is back where it was
 abbrev pub Performed : {L : Type 0} → (L → FinMap key_cmp (Event (List ℕ))) → TopologyValue
     → Key × Event (List ℕ) → PartValue L → PartValue L → Result Unit AllocError → Type 0
 Performed pending t entry old new (Ok u) =
@@ -202,8 +202,8 @@ pub record RunUntil : Type 0 where
 abbrev pub is_event_due : RunUntil → Bool
 is_event_due run = pends_before run.until run.state
 
--- what a step answers, and what the part represents after it: that memory was refused only where
--- an event was due
+-- what a step answers, and what the part represents after it: memory was refused only if an event
+-- was due
 abbrev pub Stepped : {L : Type 0} → (L → FinMap key_cmp (Event (List ℕ))) → TopologyValue → RunUntil
     → PartValue L → PartValue L → Result (Option Key) AllocError → Type 0
 Stepped pending t run old new (Ok None) = (new ≡ old) × (is_event_due run ≡ false)
@@ -218,13 +218,13 @@ events_done (Ok None) = 0
 events_done (Ok (Some k)) = 1
 events_done (Err e) = 0
 
--- how many events were done where only whether there was one is answered
+-- how many events were done if the answer is only whether there was one
 abbrev pub events_counted : Result Bool AllocError → ℕ
 events_counted (Ok false) = 0
 events_counted (Ok true) = 1
 events_counted (Err e) = 0
 
--- the same where only whether there was an event is answered
+-- the same if the answer is only whether there was an event
 abbrev pub Advanced : {L : Type 0} → (L → FinMap key_cmp (Event (List ℕ))) → TopologyValue
     → RunUntil → PartValue L → PartValue L → Result Bool AllocError → Type 0
 Advanced pending t run old new (Ok false) = (new ≡ old) × (is_event_due run ≡ false)
@@ -267,8 +267,8 @@ messages_out t None s c = []
 messages_out t (Some p) s c =
     if ltb c (length t.receivers) then s.sent (receiving_iface t c) else []
 
--- when the interface that sends on a channel completes its transmission; 0 where it is idle, or
--- not here
+-- when the interface that sends on a channel completes its transmission; 0 if it is idle, or not
+-- here
 abbrev pub completes_at : Option (Busy (List ℕ)) → ℕ
 completes_at None = 0
 completes_at (Some b) = b.completes

@@ -11,7 +11,7 @@ use Rattle.nm_sim.specs.Tables.{AllAt}
 use Rattle.nm_sim.specs.Totals.{totals_of}
 use Rattle.nm_sim.specs.declared.transmitted.Transmitted.{Transmitted}
 
--- of which interfaces records are kept, and how many of those were handed out
+-- which interfaces have kept records, and how many of those were handed out
 pub record Keeping : Type 0 where
   pub wanted : Wanted
   pub handed : ℕ
@@ -38,7 +38,7 @@ pub record RecordsRepresent (t : TopologyValue) (r : RecordsValue)
   pub count : length r.totals ≡ length t.ifaces
   pub totals : AllAt (λ i a. a ≡ totals_of i trace) r.totals
 
--- what is said of a transmission is of this one: at which interface, and of which packet
+-- these fields are of this transmission: its interface, and its packet
 abbrev pub SaysTransmission : Option Transmitted → Option (ℕ × List ℕ) → Type 0
 SaysTransmission None None = Unit {0}
 SaysTransmission None (Some s) = ⊥

@@ -16,7 +16,7 @@ IsThere false P o = o ≡ None
 abbrev pub AllHere : {X : Type 0} → (ℕ → Bool) → (ℕ → X → Type 0) → List (Option X) → Type 0
 AllHere here P xs = AllAt (λ i o. IsThere (here i) (P i) o) xs
 
--- P holds of each number and its member, where it has one
+-- P holds of each number and its member, if it has one
 abbrev pub AllSome : {X : Type 0} → (ℕ → X → Type 0) → List (Option X) → Type 0
 AllSome P xs = AllAt (λ i o. IfSome o (P i)) xs
 

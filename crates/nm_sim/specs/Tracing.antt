@@ -18,15 +18,15 @@ pub record IsTracing {L : Type 0} (pending : L → FinMap key_cmp (Event (List �
   pub early : (m : ℕ) → m < events → pends_before t.stop (one_list (net_of t) m) ≡ true
   pub represents : Represents pending t None p (one_list (net_of t) events)
 
--- what is shown of this trace, of which the first records were let go: those that come next; at the
--- end and where memory was refused nothing, and at the end all were let go
+-- what is shown of this trace, after the first records were dropped: those that come next; at the
+-- end and if memory was refused nothing, and at the end all were dropped
 abbrev pub ShowsAt : List (Record (List ℕ)) → Result Bool AllocError → RecordsValue → Type 0
 ShowsAt trace (Ok true) now =
     now.kept ≡ take (length now.kept) (drop now.keeping.handed trace)
 ShowsAt trace (Ok false) now = (now.kept ≡ []) × (now.keeping.handed ≡ length trace)
 ShowsAt trace (Err e) now = now.kept ≡ []
 
--- a run goes on: what it showed of this trace is let go, and it shows what comes next
+-- a run goes on: what it showed of this trace is dropped, and it shows what comes next
 abbrev pub ShowsNext : List (Record (List ℕ)) → RecordsValue → Result Bool AllocError → RecordsValue
     → Type 0
 ShowsNext trace before outcome after =

@@ -205,7 +205,7 @@ fn reserve_at(port: &mut Option<Port>) -> Result<(), AllocError>
     }
 }
 
-/// A transmission that starts, and where.
+/// A transmission that starts, and at which interface.
 fn transmission_at(iface: IfaceNo, start: Option<Start>) -> Option<(IfaceNo, Start)>
     ensures { result ≡ transmission_at_iface iface start }
 {
@@ -303,7 +303,7 @@ impl Devices {
         }
     }
 
-    /// When the transmission under way at the interface completes; 0 where it is idle, or not here.
+    /// When the transmission under way at the interface completes; 0 if it is idle, or not here.
     pub fn busy(&self, iface: IfaceNo) -> Time
         ensures value { result ≡ completes_at
             (option_and_then (option_and_then (λ w. w.busy)) (slice_get self.now.ports iface)) }
@@ -320,7 +320,7 @@ impl Devices {
     ///
     /// # Errors
     ///
-    /// `AllocError` where a queue could not grow. Nothing else changed then.
+    /// `AllocError` if a queue could not grow. Nothing else changed then.
     #[inline(always)]
     pub fn reserve(&mut self) -> Result<(), AllocError>
         ensures same { IsSame self.old self.new }
@@ -335,8 +335,8 @@ impl Devices {
         Ok(())
     }
 
-    /// What a node sends is offered to its interface: the transmission that starts, and where, if
-    /// one does.
+    /// Offers what a node sends to its interface: the transmission that starts, and where, if one
+    /// does.
     #[inline(always)]
     pub fn offer(
         &mut self,
@@ -366,7 +366,7 @@ impl Devices {
         }
     }
 
-    /// A packet is offered to an interface: the transmission that starts, and where, if one does.
+    /// Offers a packet to an interface: the transmission that starts, and where, if one does.
     #[inline(always)]
     fn offer_packet(
         &mut self,
@@ -392,7 +392,7 @@ impl Devices {
         transmission_at(iface, start)
     }
 
-    /// The same of a packet of which no record is wanted.
+    /// The same for a packet without a wanted record.
     #[inline(always)]
     fn offer_alone(
         &mut self,
@@ -419,7 +419,7 @@ impl Devices {
         transmission_at(iface, start)
     }
 
-    /// A packet that the port of this interface drops where it is offered now is dropped.
+    /// A packet that the port of this interface would drop now is dropped.
     #[inline(always)]
     fn drop_at(&mut self, topology: &Topology, iface: IfaceNo)
         requires { IsMember (slice_get self.old.ports iface) }
@@ -450,7 +450,7 @@ impl Devices {
         requires fits { FitsOrigin topology.now origin packet.now }
         requires represented { DevicesRepresentSome topology.now self.old }
 
-        // Ports stay as they are, and where memory is refused all does.
+        // Ports stay as they are, and if memory is refused all does.
         ensures err { OnErr result (self.new ≡ self.old) }
         ensures ports { self.new.ports ≡ self.old.ports }
 
@@ -486,7 +486,7 @@ impl Devices {
         requires place { IsMember (slice_get self.old.ports iface) }
         requires represented { DevicesRepresentSome topology.now self.old }
 
-        // Ports stay as they are, and where memory is refused all does.
+        // Ports stay as they are, and if memory is refused all does.
         ensures err { OnErr result (self.new ≡ self.old) }
         ensures ports { self.new.ports ≡ self.old.ports }
 
@@ -507,8 +507,8 @@ impl Devices {
         self.react(alloc, topology, node, origin, packet)
     }
 
-    /// What a node does with a packet that arrives, of which no record is wanted. An `Err` changes
-    /// nothing, and gives the packet back.
+    /// What a node does with a packet that arrives and needs no record. An `Err` changes nothing,
+    /// and gives the packet back.
     #[inline(always)]
     fn react_alone(
         &mut self,
@@ -522,7 +522,7 @@ impl Devices {
         requires node { IsMember (slice_get self.old.nodes node) }
         requires represented { DevicesRepresentSome topology.now self.old }
 
-        // Ports stay as they are, and where memory is refused all does.
+        // Ports stay as they are, and if memory is refused all does.
         ensures err { OnErr result (self.new ≡ self.old) }
         ensures back { IfErr result (λ same. same ≡ packet) }
         ensures ports { self.new.ports ≡ self.old.ports }
@@ -545,8 +545,8 @@ impl Devices {
         react_in_place(alloc, topology, ports, state, &self.wanted, iface, packet)
     }
 
-    /// What the node of an interface does with a packet that arrives there, of which no record is
-    /// wanted. An `Err` changes nothing, and gives the packet back.
+    /// What the node of an interface does with a packet that arrives there and needs no record. An
+    /// `Err` changes nothing, and gives the packet back.
     #[inline(always)]
     pub fn react_in_place(
         &mut self,
@@ -559,7 +559,7 @@ impl Devices {
         requires place { IsMember (slice_get self.old.ports iface) }
         requires represented { DevicesRepresentSome topology.now self.old }
 
-        // Ports stay as they are, and where memory is refused all does.
+        // Ports stay as they are, and if memory is refused all does.
         ensures err { OnErr result (self.new ≡ self.old) }
         ensures back { IfErr result (λ same. same ≡ packet) }
         ensures ports { self.new.ports ≡ self.old.ports }
@@ -580,7 +580,7 @@ impl Devices {
         self.react_alone(alloc, topology, node, iface, packet)
     }
 
-    /// A transmission is complete, and that of the packet that waits first starts, if one does:
+    /// A transmission is complete, and that of the first waiting packet starts, if there is one:
     /// which, and where.
     #[inline(always)]
     pub fn complete(
@@ -605,8 +605,8 @@ impl Devices {
         transmission_at(iface, start)
     }
 
-    /// What the node of a source does with a packet that the source hands over, and the source's
-    /// next packet. An `Err` changes nothing.
+    /// What the node of a source does with the source's packet, and the source's next packet. An
+    /// `Err` changes nothing.
     pub fn react_to_source(
         &mut self,
         alloc: Global,
@@ -615,13 +615,13 @@ impl Devices {
         number: u64,
         packet: &Packet,
     ) -> Result<Fired, AllocError>
-        // The source is here, and can hand over this packet.
+        // The source is here, and can make this packet.
         requires place { IsMember (slice_get self.old.sources source) }
         requires fits { FitsOrigin topology.now (FromSource source) packet.now }
         requires number { number < 2 ^ 63 }
         requires represented { DevicesRepresentSome topology.now self.old }
 
-        // Ports stay as they are, and where memory is refused all does.
+        // Ports stay as they are, and if memory is refused all does.
         ensures err { OnErr result (self.new ≡ self.old) }
         ensures ports { self.new.ports ≡ self.old.ports }
 

@@ -1,10 +1,10 @@
-//! What follows when a source hands a packet over.
+//! What follows when a source makes a packet.
 
 use nm_base::Time;
 use nm_forward::Reaction;
 use nm_traffic::SourcePacket;
 
-/// What follows when a source hands a packet over.
+/// What follows when a source makes a packet.
 #[derive(Drop)]
 pub struct Fired {
     /// What its node does with the packet.

@@ -14,7 +14,7 @@ use nm_topology::topology::{
 };
 use nm_traffic::laws::source_times_rise;
 
-/// An accepted topology describes a network of which the laws of `nm_model` hold.
+/// An accepted topology describes a network for which the laws of `nm_model` hold.
 pub fn every_topology_is_a_network(topology: &Topology)
     ensures network { IsNet (net_of topology.now) }
     ensures parted { IsParted (net_of topology.now) }
@@ -44,7 +44,7 @@ pub fn channels_are_those_of_the_network(topology: &Topology)
     channels_are_numbered_by_their_receivers(topology); // law: numbers past the last channel
 }
 
-/// The network does not depend on the digest, which is no part of what a text says.
+/// The network does not depend on the digest, which is no part of the text.
 pub fn the_digest_is_no_part_of_the_network()
     ensures { (t : TopologyValue) (digest : List ℕ)
         → net_of (record t { digest = digest }) ≡ net_of t }

@@ -104,7 +104,7 @@ impl Outgoing {
     ///
     /// # Errors
     ///
-    /// `AllocError` where a list could not grow. Nothing else changed then.
+    /// `AllocError` if a list could not grow. Nothing else changed then.
     pub fn reserve(&mut self) -> Result<(), AllocError>
         ensures count { length self.new.channels ≡ length self.old.channels }
         ensures messages { (c : ℕ) → messages_in (slice_get self.new.channels c)
@@ -134,7 +134,7 @@ impl Outgoing {
         self.channels[channel.index()].put(time, packet);
     }
 
-    /// The messages of a channel; none where there is no such channel.
+    /// The messages of a channel; none if there is no such channel.
     pub fn messages(&self, channel: ChanNo) -> &[(Time, Packet)]
         ensures { result.now ≡ messages_in (slice_get self.now.channels channel) }
     {

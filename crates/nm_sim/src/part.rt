@@ -59,8 +59,8 @@ use std::alloc::{AllocError, Global};
 use std::marker::Model;
 
 /// A simulation that goes on event by event, in the order of their keys: of a whole network, or of
-/// one partition (a logical process: J. Misra, 1986, section 2), which is fed with the messages of
-/// the channels that come in. Nodes, ports and sources of other partitions are not kept.
+/// one partition (a logical process: J. Misra, 1986, section 2), which gets the messages of its
+/// incoming channels. Nodes, ports and sources of other partitions are not kept.
 #[derive(Drop)]
 pub struct Part<L> {
     part: Option<PartNo>,
@@ -124,7 +124,7 @@ impl<L: EventList> Part<L> {
     ///
     /// # Errors
     ///
-    /// `AllocError` where memory was refused.
+    /// `AllocError` if memory was refused.
     pub fn start(
         alloc: Global,
         topology: &Topology,
@@ -141,12 +141,13 @@ impl<L: EventList> Part<L> {
         Part::start_with(alloc, topology, part, Wanted::All)
     }
 
-    /// The part at the start of a run, which keeps the records that are wanted. Where none is, a
-    /// packet that a node sends on is changed where it lies, if nobody else has its octets.
+    /// The part at the start of a run, which keeps the wanted records. If none is wanted at an
+    /// interface, a packet that a node sends on there is changed where it lies, if nobody else has
+    /// its octets.
     ///
     /// # Errors
     ///
-    /// `AllocError` where memory was refused.
+    /// `AllocError` if memory was refused.
     pub fn start_with(
         alloc: Global,
         topology: &Topology,
@@ -181,9 +182,9 @@ impl<L: EventList> Part<L> {
     ///
     /// # Errors
     ///
-    /// `AllocError` where the event list could not grow. The part is as it was then.
+    /// `AllocError` if the event list could not grow. The part is as it was then.
     pub fn reserve(&mut self, count: usize) -> Result<(), AllocError>
-        // The part stands in the same runs.
+        // The part is in the same runs.
         ensures same { OfTheRun L.pending self.old
             (λ t part s. Represents L.pending t part self.new s) }
         ensures events { L.pending self.new.timeline.events ≡ L.pending self.old.timeline.events }
@@ -200,7 +201,7 @@ impl<L: EventList> Part<L> {
     }
 
     /// A message of a channel: the packet with this number on the channel is to arrive at this
-    /// time, at the interface where the channel comes in. It takes no memory.
+    /// time, at the channel's receiving interface. It takes no memory.
     pub fn put_arrival(
         &mut self,
         topology: &Topology,
@@ -220,7 +221,7 @@ impl<L: EventList> Part<L> {
             (key_of time (Arrive (receiving_iface topology.now channel)) number)
             (Delivery (Arrival (receiving_iface topology.now channel)) packet) }
 
-        // Where the channel comes in here, it is to come in each run that the part stands in.
+        // If the channel comes in here, the arrival is to come in each run that the part is in.
         ensures arrival { (p : ℕ) → self.old.part ≡ Some p
             → comes_in (net_of topology.now) p (receiving_iface topology.now channel) ≡ true
             → OfTheRunIn L.pending topology.now self.old
@@ -241,12 +242,12 @@ impl<L: EventList> Part<L> {
     }
 
     /// Does the event of the least key, if its time is before `before`, which is at most the
-    /// network's `stop`: `Some` of that key, or `None` where nothing before `before` is to come.
+    /// network's `stop`: `Some` of that key, or `None` if nothing before `before` is to come.
     ///
     /// # Errors
     ///
-    /// `AllocError` where an event was to be done, and memory was refused or 2^62 events were done:
-    /// no part of it was done.
+    /// `AllocError` if an event was to be done, and memory was refused or 2^62 events were done: no
+    /// part of it was done.
     pub fn step(
         &mut self,
         alloc: Global,
@@ -365,8 +366,8 @@ impl<L: EventList> Part<L> {
         Some(key.time)
     }
 
-    /// What was put on a channel that goes out from here, each packet with the time at which it
-    /// arrives; its place in the list is its number. Nothing is ever put on other channels.
+    /// What was put on an outgoing channel, each packet with its time of arrival; its place in the
+    /// list is its number. Nothing is ever put on other channels.
     pub fn out(&self, channel: ChanNo) -> &[(Time, Packet)]
         ensures { OfTheRun L.pending self.now
             (λ t part s. result.now ≡ messages_out t part s channel) }
@@ -375,7 +376,7 @@ impl<L: EventList> Part<L> {
     }
 
     /// When the transmission of the interface that sends on a channel completes, before 2^51 ns; 0
-    /// where it is idle, or not here. It takes no memory.
+    /// if it is idle, or not here. It takes no memory.
     pub fn busy(&self, topology: &Topology, channel: ChanNo) -> Time
         ensures value { OfTheRunIn L.pending topology.now self.now
             (λ part s. result ≡ busy_at topology.now part s channel) }
@@ -389,8 +390,8 @@ impl<L: EventList> Part<L> {
         self.devices.busy(sender)
     }
 
-    /// The trace so far, in the order of events, of the interfaces whose records are wanted,
-    /// without the records that were handed out.
+    /// The trace so far, in the order of events, of the interfaces with wanted records, without the
+    /// records that were handed out.
     pub fn trace(&self) -> &[Record]
         ensures kept { result.now ≡ self.now.records.kept }
         ensures trace { OfTheRun L.pending self.now
@@ -429,8 +430,9 @@ impl<L: EventList> Part<L> {
         self.records.hand_out()
     }
 
-    /// Takes all records of the trace out that are kept. Those to come are kept in the list that
-    /// comes in, which is empty. It takes no memory, and gives that of the records to the caller.
+    /// Takes all kept records out of the trace: one by one would cost a blank each. Those to come
+    /// are kept in the list that comes in, which is empty. It takes no memory, and gives that of
+    /// the records to the caller.
     pub fn hand_out_all(&mut self, room: Vec<Record>) -> Vec<Record>
         requires empty { room.items ≡ [] }
         requires represents { IsOfARun L.pending self.old }
@@ -447,7 +449,7 @@ impl<L: EventList> Part<L> {
         self.records.hand_out_all(room)
     }
 
-    /// Lets all records of the trace go that are kept: they count as handed out.
+    /// Drops all kept records of the trace: they count as handed out.
     #[inline(always)]
     pub fn let_go(&mut self)
         requires { IsOfARun L.pending self.old }
@@ -469,8 +471,8 @@ impl<L: EventList> Part<L> {
         self.records.handed()
     }
 
-    /// How many records the trace has of the interfaces whose records are wanted, with those that
-    /// were handed out.
+    /// How many records the trace has of the interfaces with wanted records, with those that were
+    /// handed out.
     pub fn records(&self) -> u64
         requires { IsOfARun L.pending self.now }
         ensures { OfTheRun L.pending self.now
@@ -479,8 +481,7 @@ impl<L: EventList> Part<L> {
         self.records.records()
     }
 
-    /// How many records there were of all interfaces, wanted or not, for who shows how far a run
-    /// is.
+    /// How many records there were of all interfaces, wanted or not, to show how far a run is.
     pub fn made(&self) -> u64 {
         self.records.made()
     }
@@ -580,7 +581,7 @@ impl<L: EventList> Part<L> {
         }
     }
 
-    /// A packet arrives of which no record is kept. An `Err` puts the event back.
+    /// A packet arrives without a kept record. An `Err` puts the event back.
     #[inline(always)]
     fn arrive_alone(
         &mut self,
@@ -614,7 +615,7 @@ impl<L: EventList> Part<L> {
         }
     }
 
-    /// A packet arrives of which a record is kept. An `Err` puts the event back.
+    /// A packet arrives with a kept record. An `Err` puts the event back.
     #[inline(always)]
     fn arrive_recorded(
         &mut self,
@@ -660,7 +661,7 @@ impl<L: EventList> Part<L> {
         self.finish(topology, due.time, start);
     }
 
-    /// A source hands a packet over. An `Err` puts the event back.
+    /// A source makes a packet. An `Err` puts the event back.
     #[inline(always)]
     fn fire(
         &mut self,

@@ -22,13 +22,13 @@ use std::marker::Model;
 /// Of so many records at most, those of one event, the others move up when the first is taken.
 const FEW_RECORDS: usize = 2;
 
-/// The records of a trace that are wanted, in the order of events. Those that were handed out, from
-/// the first on, are not kept.
+/// The wanted records of a trace, in the order of events. Those that were handed out, from the
+/// first on, are not kept.
 #[derive(Drop)]
 pub struct Records {
     wanted: Wanted,
     list: Vec<Record>,
-    /// How many at the front of the list were handed out: blanks stand there.
+    /// How many at the front of the list were handed out, and are blanks.
     blanks: usize,
     /// How many were handed out in all.
     handed: u64,
@@ -56,7 +56,7 @@ impl Model for Records {
     ghost invariant = { λ r. r.blanks ≤ vec_len r.list };
 }
 
-/// A packet that nobody sent.
+/// A packet for blanks.
 fn no_packet(alloc: Global) -> Result<Packet, AllocError> {
     Packet::from_octets(alloc, Bytes::from_static(&[0]))
 }
@@ -85,7 +85,7 @@ fn count_one(totals: &mut [(u64, u64)], iface: IfaceNo, octets: usize)
 }
 
 impl Records {
-    /// No records, of so many interfaces, and of which those that are wanted will be kept.
+    /// No records, for so many interfaces; those of `wanted` will be kept.
     pub fn new(alloc: Global, ifaces: usize, wanted: Wanted) -> Result<Self, AllocError>
         ensures kept { IfOk result (λ r. r.kept ≡ []) }
         ensures keeping { IfOk result (λ r. r.keeping ≡ record { wanted = wanted; handed = 0 }) }
@@ -106,7 +106,7 @@ impl Records {
     ///
     /// # Errors
     ///
-    /// `AllocError` where the list could not grow. Nothing else changed then.
+    /// `AllocError` if the list could not grow. Nothing else changed then.
     #[inline(always)]
     pub fn reserve(&mut self) -> Result<(), AllocError>
         ensures same { self.new ≡ record self.old { spare = self.new.spare } }
@@ -158,7 +158,7 @@ impl Records {
         self.passed = self.passed.saturating_add(1);
     }
 
-    /// A packet of so many octets arrived, of which no record is kept.
+    /// A packet of so many octets arrived; its record is not kept.
     #[inline(always)]
     pub fn count_arrival(&mut self, iface: IfaceNo, octets: u16)
         requires { is_wanted self.old.keeping.wanted iface ≡ false }
@@ -171,7 +171,7 @@ impl Records {
         self.pass_over(iface, octets);
     }
 
-    /// A packet arrived, of which a record is kept.
+    /// A packet arrived; its record is kept.
     #[inline(always)]
     pub fn record_arrival(&mut self, time: Time, iface: IfaceNo, packet: Packet)
         requires wanted { is_wanted self.old.keeping.wanted iface ≡ true }
@@ -258,8 +258,8 @@ impl Records {
         Some(first)
     }
 
-    /// Takes all records out that are kept. Those to come are kept in the list that comes in, which
-    /// is empty. It takes no memory, and gives that of the records to the caller.
+    /// Takes all kept records out. Those to come are kept in the list that comes in, which is
+    /// empty. It takes no memory, and gives that of the records to the caller.
     pub fn hand_out_all(&mut self, room: Vec<Record>) -> Vec<Record>
         requires few { self.old.keeping.handed + length self.old.kept < 2 ^ 64 }
         requires empty { room.items ≡ [] }
@@ -279,7 +279,7 @@ impl Records {
         all
     }
 
-    /// Lets all records go that are kept: they count as handed out. It gives their memory back.
+    /// Drops all kept records: they count as handed out. It gives their memory back.
     #[inline(always)]
     pub fn let_go(&mut self)
         requires { self.old.keeping.handed + length self.old.kept < 2 ^ 64 }
@@ -294,8 +294,8 @@ impl Records {
         self.blanks = 0;
     }
 
-    /// What stands for a record that was handed out. It takes no memory, and is refused only where
-    /// its packet has no room for one owner more.
+    /// The blank in place of a record that was handed out. It takes no memory, and is refused only
+    /// if its packet has no room for one owner more.
     fn blank(&self) -> Result<Record, AllocError> {
         Ok(Record {
             time: Time::from_nanoseconds(0),
@@ -305,8 +305,8 @@ impl Records {
         })
     }
 
-    /// Takes the first record out. Of at most two records the other moves up; else a blank stands
-    /// in its place.
+    /// Takes the first record out. Of at most two records the other moves up; else a blank takes
+    /// its place.
     #[inline(always)]
     fn take_first(&mut self) -> Record
         // There is a record, and the count does not overflow.
@@ -336,8 +336,8 @@ impl Records {
         self.list.remove(self.blanks)
     }
 
-    /// Gives the places of blanks back to the list where they are half of it at least, so that a
-    /// record is moved once on the average.
+    /// Gives the places of blanks back to the list once they are half of it at least, so that a
+    /// record is moved once on average.
     #[inline(always)]
     fn give_back(&mut self)
         ensures same { self.new ≡ record self.old { spare = self.new.spare } }
@@ -366,7 +366,7 @@ impl Records {
         self.handed + (self.list.len() - self.blanks) as u64
     }
 
-    /// How many records there were of all interfaces, for who shows how far a run is.
+    /// How many records there were of all interfaces, to show how far a run is.
     pub fn made(&self) -> u64 {
         self.handed
             .saturating_add((self.list.len() - self.blanks) as u64)

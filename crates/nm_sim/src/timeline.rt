@@ -39,7 +39,8 @@ use std::alloc::{AllocError, Global};
 use std::marker::Model;
 
 /// What lies ahead: the events to come, and how many packets were put on each interface so far, by
-/// the interface that receives them, whose next arrival has that number.
+/// the interface that receives them; the next arrival there has that number. They are counted for
+/// every interface, within a part too, since the model numbers arrivals by the receiving interface.
 #[derive(Drop)]
 pub struct Timeline<L> {
     events: L,
@@ -72,7 +73,7 @@ impl<L: EventList> Timeline<L> {
     ///
     /// # Errors
     ///
-    /// `AllocError` where the list could not grow. Nothing else changed then.
+    /// `AllocError` if the list could not grow. Nothing else changed then.
     pub fn reserve(&mut self, count: usize) -> Result<(), AllocError>
         ensures events { L.pending self.new.events ≡ L.pending self.old.events }
         ensures sent { self.new.sent ≡ self.old.sent }
@@ -181,7 +182,7 @@ impl<L: EventList> Timeline<L> {
     }
 
     /// A packet that an interface here sends is to arrive at the far end of its link: an event to
-    /// come where that is here too, and else a message on its channel.
+    /// come if that is here too, else a message on its channel.
     #[inline(always)]
     fn schedule_arrival(
         &mut self,
@@ -202,7 +203,7 @@ impl<L: EventList> Timeline<L> {
         requires fresh { get (L.pending self.old.events)
             (key_of flight.due.time (Arrive flight.to) flight.due.number) ≡ None }
 
-        // Where the far end is here, the arrival is to come. It takes one place at most.
+        // If the far end is here, the arrival is to come. It takes one place at most.
         ensures events { L.pending self.new.events
             ≡ schedule (here_of topology.now part.now)
             (keyed flight.due.time flight.due.number

@@ -38,7 +38,7 @@ fn earlier(a: Time, b: Time) -> Time
     if a < b { a } else { b }
 }
 
-/// Does the events of a part that stands at the start of a run, as far as they are before a time.
+/// Does the events of a part at the start of a run, up to a time.
 fn run(
     alloc: Global,
     topology: &Topology,
@@ -62,11 +62,11 @@ fn run(
 }
 
 /// The whole trace of a network before a time and before its `stop`, by one event list (J. Misra,
-/// 1986, section 1): what every other way of running it is compared with.
+/// 1986, section 1): every other way of running it is compared with this.
 ///
 /// # Errors
 ///
-/// `AllocError` where memory was refused, or after more than 2^62 events.
+/// `AllocError` if memory was refused, or after more than 2^62 events.
 pub fn one_list(alloc: Global, topology: &Topology, until: Time) -> Result<Vec<Record>, AllocError>
     ensures { IfOk result (λ r. IsTraceBefore topology.now until r.items) }
 {

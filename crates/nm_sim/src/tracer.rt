@@ -20,9 +20,9 @@ use nm_topology::Topology;
 use std::alloc::{AllocError, Global};
 use std::marker::Model;
 
-/// A run of a whole network by one event list (J. Misra, 1986, section 1), which shows the records
-/// of one event after another, as far as they are wanted. It keeps the network, what is to come and
-/// the records of the last event, however long the run is.
+/// A run of a whole network by one event list (J. Misra, 1986, section 1), which shows the wanted
+/// records of one event after another. It keeps the network, what is to come and the records of the
+/// last event, however long the run is.
 #[derive(Drop)]
 pub struct Tracer {
     part: Part<HeapList>,
@@ -42,7 +42,7 @@ impl Tracer {
     ///
     /// # Errors
     ///
-    /// `AllocError` where memory was refused.
+    /// `AllocError` if memory was refused.
     pub fn start(alloc: Global, topology: &Topology) -> Result<Self, AllocError>
         ensures tracing { IfOk result (λ r. IsTracing pending_of topology.now r) }
         ensures keeping { IfOk result (λ r. r.records.keeping
@@ -52,11 +52,11 @@ impl Tracer {
         Tracer::start_with(alloc, topology, Wanted::All)
     }
 
-    /// The same, of which the records that are wanted are shown.
+    /// The same, which shows these records.
     ///
     /// # Errors
     ///
-    /// `AllocError` where memory was refused.
+    /// `AllocError` if memory was refused.
     pub fn start_with(
         alloc: Global,
         topology: &Topology,
@@ -71,12 +71,12 @@ impl Tracer {
         Ok(Tracer { part })
     }
 
-    /// Does the next event, and shows its records: whether there was one. The records that were
-    /// shown are let go.
+    /// Does the next event, and shows its records: whether there was one. The records shown before
+    /// are dropped.
     ///
     /// # Errors
     ///
-    /// `AllocError` where memory was refused, or after 2^62 events: no event was done, and the call
+    /// `AllocError` if memory was refused, or after 2^62 events: no event was done, and the call
     /// may be made again.
     pub fn go_on(&mut self, alloc: Global, topology: &Topology) -> Result<bool, AllocError>
         requires { IsTracing pending_of topology.now self.old }
@@ -92,7 +92,7 @@ impl Tracer {
         self.part.advance(alloc, topology, topology.stop())
     }
 
-    /// The records of the last event, which come next in the trace behind those that were let go.
+    /// The records of the last event, which come next in the trace after those that were dropped.
     pub fn trace(&self) -> &[Record]
         ensures { result.now ≡ self.now.records.kept }
     {
@@ -114,13 +114,12 @@ impl Tracer {
         self.part.least()
     }
 
-    /// How many records there were of all interfaces, wanted or not, for who shows how far a run
-    /// is.
+    /// How many records there were of all interfaces, wanted or not, to show how far a run is.
     pub fn made(&self) -> u64 {
         self.part.made()
     }
 
-    /// How many records were let go.
+    /// How many records were dropped.
     pub fn handed(&self) -> u64
         ensures { result ≡ self.now.records.keeping.handed }
     {

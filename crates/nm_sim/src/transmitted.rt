@@ -8,6 +8,6 @@ pub struct Transmitted {
     pub iface: IfaceNo,
     /// How many octets the packet has.
     pub octets: u16,
-    /// A copy of the packet, where it is to be recorded.
+    /// A copy of the packet, if it is to be recorded.
     pub copy: Option<Packet>,
 }

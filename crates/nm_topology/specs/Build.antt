@@ -1,5 +1,5 @@
--- What hangs together: the routes of each node, the far end of each interface, the receivers of
--- channels, the partitions.
+-- The wiring: the routes of each node, the far end of each interface, the receivers of channels,
+-- the partitions.
 use Rattle.nm_topology.specs.Parse.DocumentValue.{DocumentValue}
 use Rattle.nm_topology.specs.PartValues.{NodeValue, IfaceValue}
 use Rattle.nm_topology.specs.Parse.TableValues.{IfaceTableValue, NodeTableValue}
@@ -22,7 +22,7 @@ abbrev pub routes_at : ℕ → List PlacedRoute → List Route
 routes_at j [] = []
 routes_at j (r ∷ rs) = if r.node == j then r.route ∷ routes_at j rs else routes_at j rs
 
--- what interface i is linked to
+-- the far end of interface i
 abbrev pub far_by_links : ℕ → List Link → Far
 far_by_links i [] = record { iface = i; rate = 0; delay = 0 }
 far_by_links i (l ∷ ls) =
@@ -47,7 +47,7 @@ far_ends n links = map (λ i. far_by_links i links) (numbers_from 0 n)
 abbrev pub routes_of_nodes : ℕ → List PlacedRoute → List (List Route)
 routes_of_nodes n routes = map (λ j. routes_at j routes) (numbers_from 0 n)
 
--- the interface that interface i is linked to
+-- the interface to which interface i is linked
 abbrev pub far_end_at : List Far → ℕ → ℕ
 far_end_at far i = (get_or far i (far_by_links i [])).iface
 
@@ -87,7 +87,7 @@ placed_ifaces (i ∷ is) (o ∷ os) (f ∷ fs) =
 abbrev pub receivers_of : List ℕ → List ℕ → List Far → List ℕ
 receivers_of parts owners far = filter (is_receiver parts owners far) (numbers_from 0 (length far))
 
--- a document and its numbers, put together
+-- a document and its numbers, as a network
 abbrev pub put_together : List ℕ → DocumentValue → ResolvedValue → TopologyValue
 put_together digest d t = record {
   stop = d.stop;

@@ -1,4 +1,4 @@
--- The keys of a topology text, as they stand in one, and its arrays of tables.
+-- The keys of a topology text, as a text has them, and its arrays of tables.
 use Rattle.std.specs.Prelude.{ℕ, ◌-◌, ◌≤◌, List, [], ◌∷◌, codes, map}
 use Rattle.nm_base.specs.declared.limits.TheConstants.{MAX_IFACES, MAX_LINKS, MAX_NODES, MAX_ROUTES, MAX_SOURCES, MAX_TIME}
 use Rattle.nm_topology.specs.declared.keys.array.Array.{Array}
@@ -60,7 +60,7 @@ array_limit array.Link = MAX_LINKS
 array_limit array.Route = MAX_ROUTES
 array_limit array.Source = MAX_SOURCES
 
--- the keys of these fields, as they stand in a text
+-- the keys of these fields, as a text has them
 abbrev pub keys_of : List Field → List (List ℕ)
 keys_of fields = map (λ f. key_text f.key) fields
 

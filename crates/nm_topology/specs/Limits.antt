@@ -1,4 +1,4 @@
--- The ranges of what an accepted topology says.
+-- The ranges of the values of an accepted topology.
 use Rattle.std.specs.Prelude.{ℕ, ◌+◌, ◌<◌, ◌≤◌, All, List, [], ◌∷◌, length, IfSome}
 use Rattle.nm_base.specs.declared.limits.TheConstants.{MAX_COUNT, MAX_DELAY, MAX_INTERVAL, MAX_MTU, MAX_PORTS_OF_NODE, MAX_QUEUE, MAX_QUEUE_OCTETS, MAX_RATE, MAX_RAW_PACKETS, MAX_TIME, MIN_MTU, MIN_RATE}
 use Rattle.nm_topology.specs.declared.traffic.Flow.{Flow}

@@ -6,7 +6,7 @@ use Rattle.std.specs.Prelude.{ℕ, Bool, false, ◌||◌, if◌then◌else◌, L
 use Rattle.std.specs.Prelude.{Err}
 use Rattle.std.specs.Str.{bytes_eq}
 
--- an element equals one that stands before it, or one of those seen
+-- an element equals one before it, or one of those seen
 abbrev pub repeats : {X : Type 0} → (X → X → Bool) → List X → List X → Bool
 repeats same seen [] = false
 repeats same seen (x ∷ xs) = list_any (same x) seen || repeats same (seen ++ x ∷ []) xs

@@ -27,7 +27,7 @@ without key no_members = no_members
 without key (member k d ms) =
     if bytes_eq key k then without key ms else member k d (without key ms)
 
--- each of these keys is missed where it alone is left out
+-- each of these keys is missed if it alone is left out
 abbrev pub AreMissed : {X : Type 0} → (Members → Result X Refusal) → Members → List (List ℕ)
     → Type 0
 AreMissed read t keys =
@@ -94,7 +94,7 @@ route_value = record {
   via = codes "a0";
 }
 
--- what the packets of a source are, which nothing but its kind precedes
+-- the packets of a source, with no table member before its kind
 abbrev pub flow : Members
 flow =
     number (codes "size") 72

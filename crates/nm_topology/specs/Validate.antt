@@ -1,4 +1,4 @@
--- The tests of a topology whose names are replaced by numbers, in their order.
+-- The tests of a topology with numbers in place of names, in their order.
 use Rattle.nm_base.specs.declared.limits.TheConstants.{MAX_CHANNELS, MAX_ROUTES_OF_NODE}
 use Rattle.nm_topology.specs.Fault.{◌>>=◌, demand}
 use Rattle.nm_topology.specs.declared.fault.Refusal.{Refusal}
@@ -21,7 +21,7 @@ abbrev pub uses : ℕ → List Link → ℕ
 uses i [] = 0
 uses i (l ∷ ls) = one_if (l.a == i) + one_if (l.b == i) + uses i ls
 
--- a count of ends, of which one more is the interface a; counts stop at 255
+-- a count of ends, with one more for the interface a; counts stop at 255
 abbrev pub bump : List ℕ → ℕ → List ℕ
 bump counts a = slice_set counts a (min 255 (slice_index counts a + 1))
 

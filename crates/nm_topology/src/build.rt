@@ -19,8 +19,8 @@ use std::alloc::{AllocError, Global};
 pub mod partitions;
 pub mod wiring;
 
-/// What hangs together: the routes of each node, the far end of each interface, and the interfaces
-/// that receive a channel.
+/// The wiring: the routes of each node, the far end of each interface, and the interfaces that
+/// receive a channel.
 #[derive(Drop)]
 pub struct Wired {
     pub node_routes: Vec<NodeRoutes>,
@@ -28,7 +28,7 @@ pub struct Wired {
     pub receivers: Vec<IfaceNo>,
 }
 
-/// What hangs together of nodes in these partitions and `count` interfaces.
+/// The wiring of nodes in these partitions and `count` interfaces.
 fn wire(
     alloc: Global,
     parts: &[PartNo],
@@ -42,7 +42,7 @@ fn wire(
     requires links { All (λ l. (l.a < count) × (l.b < count)) resolved.now.links }
     requires routes { All (λ r. r.node < length parts.now) resolved.now.routes }
 
-    // What hangs together, as it is defined.
+    // The wiring, as it is defined.
     ensures node_routes { IfOk result (λ w. w.node_routes.items
         ≡ routes_of_nodes (length parts.now) resolved.now.routes) }
     ensures far { IfOk result (λ w. w.far.items ≡ far_ends count resolved.now.links) }
@@ -59,7 +59,7 @@ fn wire(
     })
 }
 
-/// What hangs together of these nodes and interfaces, once all tests have passed.
+/// The wiring of these nodes and interfaces, once all tests have passed.
 fn wire_tables(
     alloc: Global,
     nodes: &[NodeTable],
@@ -79,7 +79,7 @@ fn wire_tables(
     ensures tested { Gives (λ _. tt) result (tested (map (λ n. n.partition) nodes.now)
         (map (λ i. i.address) ifaces.now) (length nodes.now) (length ifaces.now) resolved.now) }
 
-    // What hangs together, as it is defined.
+    // The wiring, as it is defined.
     ensures node_routes { IfOk result (λ w. w.node_routes.items
         ≡ routes_of_nodes (length nodes.now) resolved.now.routes) }
     ensures far { IfOk result (λ w. w.far.items
@@ -139,7 +139,7 @@ fn ifaces(
     Ok(ifaces)
 }
 
-/// Nodes and interfaces that hang together.
+/// Nodes and interfaces with their wiring.
 #[derive(Drop)]
 pub struct Placed {
     pub nodes: Vec<Node>,
@@ -147,7 +147,7 @@ pub struct Placed {
     pub receivers: Vec<IfaceNo>,
 }
 
-/// Puts each node with its routes and each interface with its far end, once all tests have passed.
+/// Gives each node its routes and each interface its far end, once all tests have passed.
 pub fn place(
     alloc: Global,
     node_tables: Vec<NodeTable>,
@@ -169,7 +169,7 @@ pub fn place(
         (map (λ i. i.address) iface_tables.items) (length node_tables.items)
         (length iface_tables.items) resolved.now) }
 
-    // What is put together, as it is defined.
+    // The result, as it is defined.
     ensures nodes { IfOk result (λ p. p.nodes.items
         ≡ placed_nodes node_tables.items
         (routes_of_nodes (length node_tables.items) resolved.now.routes)) }

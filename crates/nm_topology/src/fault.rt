@@ -77,7 +77,7 @@ impl fmt::Display for Refusal {
     }
 }
 
-/// The number of a fault: that of the refusal, or 14 for want of memory.
+/// The number of a fault: that of the refusal, or 14 if memory was refused.
 pub fn fault_number(fault: TopoFault) -> u8
     ensures { result ≡ fault_number fault }
 {

@@ -40,8 +40,8 @@ pub fn format_two_says_what_format_one_says()
     ensures { (t : Members) → IsFormatOne t → LimitsNoOctets t → SaysTheSameInFormatTwo t }
 {}
 
-/// The numbers that stand behind the keys of a topology text, each range from its least to its
-/// greatest number. (Times are in nanoseconds, rates in bits per second.)
+/// The ranges of the numbers in a topology text, each from its least to its greatest. (Times are in
+/// nanoseconds, rates in bits per second.)
 pub fn ranges_of_numbers()
     ensures head { (FORMAT ≡ record { least = 1; greatest = 2 })
         × (STOP ≡ record { least = 1; greatest = 10 ^ 15 })
@@ -105,9 +105,8 @@ pub fn counts_of_things()
         × (time_from 7 ≡ record { least = 7; greatest = 10 ^ 15 }) }
 {}
 
-/// What stands behind each key, on a table of each kind that is written out in `Samples`: what is
-/// read of it, and which keys are missed where they are left out. The others may be absent, and
-/// have then the value that is said here.
+/// The value of each key, on a table of each kind that is written out in `Samples`: what is read of
+/// it, and which keys must be there. The others may be absent, and then have the value given here.
 #[tactic(auto, using(crate::proofs::Samples::texts))]
 pub fn what_tables_say()
     ensures top { (document_of top ≡ Ok top_value)

@@ -1,7 +1,7 @@
 //! From the topology text to the network, or to the first fault, in the passes of a compiler:
 //! `parse` (the text, then its tables, with names), `names` (names and their numbers), `resolve`
-//! (numbers in place of names), `build` (what hangs together) and `validate` (the tests of the
-//! whole, in their order).
+//! (numbers in place of names), `build` (the wiring) and `validate` (the tests of the whole, in
+//! their order).
 #![tactic(auto)]
 
 pub mod build;

@@ -13,7 +13,7 @@ use std::alloc::{AllocError, Global};
 use std::hash::Hash;
 use std::marker::Model;
 
-/// The items as a set in their order, or `None` where one of them stands there twice.
+/// The items as a set in their order, or `None` if one of them comes twice.
 pub fn distinct<T: Eq + Hash + Copy>(
     alloc: Global,
     items: &[T],
@@ -30,9 +30,9 @@ pub fn distinct<T: Eq + Hash + Copy>(
     }
 }
 
-/// Puts the items into an empty set, in their order, up to the first that stands there already.
-/// Whether each is in it.
-// A function of its own, since a `?` is dear to prove where the set is owned.
+/// Puts the items into an empty set, in their order, up to the first that is there already. Whether
+/// each is in it.
+// A function of its own, since a `?` is dear to prove while the set is owned.
 fn insert_all<T: Eq + Hash + Copy>(set: &mut IndexSet<T>, items: &[T]) -> Result<bool, AllocError>
     requires { set.old.keys ≡ [] }
     ensures { IfOk result (λ all.
@@ -70,7 +70,8 @@ pub fn names_of<T: Named>(alloc: Global, items: &[T]) -> Result<Vec<&str>, Alloc
     Ok(names)
 }
 
-/// Distinct names, each with its number. A clause sees the list of names.
+/// Distinct names, each with its number. They are hashed, so that no search is quadratic. A clause
+/// sees the list of names.
 #[derive(Drop)]
 pub struct Names<'a> {
     set: IndexSet<&'a str>,
@@ -88,7 +89,7 @@ impl<'a> Model for Names<'a> {
 }
 
 impl<'a> Names<'a> {
-    /// These names, or the refusal of names of which two are the same.
+    /// These names, or the refusal if two are the same.
     pub fn new(alloc: Global, names: &[&'a str]) -> Result<Self, TopoFault>
         requires { length names.now ≤ MAX_IFACES }
         ensures len { IfOk result (λ n. length n ≡ length names.now) }
@@ -100,7 +101,7 @@ impl<'a> Names<'a> {
         }
     }
 
-    /// The names of these, or the refusal of names of which two are the same.
+    /// The names of these, or the refusal if two are the same.
     pub fn of_all<T: Named>(alloc: Global, items: &'a [T]) -> Result<Self, TopoFault>
         requires { length items.now ≤ MAX_IFACES }
         ensures len { IfOk result (λ n. length n ≡ length items.now) }

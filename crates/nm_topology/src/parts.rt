@@ -28,7 +28,7 @@ pub struct Route {
     pub via: IfaceNo,
 }
 
-/// A route, and whose it is.
+/// A route, and its node.
 #[derive(Clone, Copy)]
 pub struct PlacedRoute {
     pub node: NodeNo,
@@ -157,8 +157,7 @@ impl Node {
         self.partition
     }
 
-    /// The UDP ports at which something listens, in the order of the text. One may stand there
-    /// twice.
+    /// The UDP ports at which something listens, in the order of the text. One may come twice.
     pub fn ports(&self) -> &[u16]
         ensures { result.now ≡ self.now.ports }
     {
@@ -256,7 +255,7 @@ impl Iface {
         self.queue
     }
 
-    /// How many octets may wait, 0 to 655,350,000, or `None` where there is no such limit.
+    /// How many octets may wait, 0 to 655,350,000, or `None` without such a limit.
     pub fn queue_octets(&self) -> Option<u32>
         ensures { result ≡ self.now.queue_octets }
     {

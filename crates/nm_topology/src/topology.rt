@@ -71,7 +71,7 @@ impl Model for Topology {
     } };
 }
 
-/// The network that a document says.
+/// The network of a document.
 #[tactic(auto, unfolding(crate::specs::Topology::network_of))]
 fn network(alloc: Global, document: Document, digest: [u8; 32]) -> Result<Topology, TopoFault>
     requires { IsInRange document }
@@ -129,7 +129,7 @@ impl Topology {
         network(alloc, document, Sha256::digest(text))
     }
 
-    /// Where the simulation ends: nothing at this time or later is done.
+    /// The end of the simulation: nothing at this time or later is done.
     pub fn stop(&self) -> Time
         ensures { result ≡ self.now.stop }
     {
@@ -173,7 +173,7 @@ impl Topology {
         &self.ifaces[iface.index()]
     }
 
-    /// The name of the node with this number; `-` where there is none.
+    /// The name of the node with this number; `-` if there is none.
     pub fn node_name(&self, node: NodeNo) -> &str
         ensures { (found : NodeValue) → slice_get self.now.nodes node ≡ Some found
             → result.now ≡ found.name }
@@ -184,7 +184,7 @@ impl Topology {
         }
     }
 
-    /// The name of the interface with this number; `-` where there is none.
+    /// The name of the interface with this number; `-` if there is none.
     pub fn iface_name(&self, iface: IfaceNo) -> &str
         ensures { (found : IfaceValue) → slice_get self.now.ifaces iface ≡ Some found
             → result.now ≡ found.name }
@@ -195,7 +195,7 @@ impl Topology {
         }
     }
 
-    /// The number of the node that stands at this index in `nodes`.
+    /// The number of the node at this index in `nodes`.
     pub fn node_number(&self, index: usize) -> NodeNo
         requires { index < length self.now.nodes }
         ensures { result ≡ index }
@@ -204,7 +204,7 @@ impl Topology {
         NodeNo::new(index as u32)
     }
 
-    /// The number of the interface that stands at this index in `ifaces`.
+    /// The number of the interface at this index in `ifaces`.
     pub fn iface_number(&self, index: usize) -> IfaceNo
         requires { index < length self.now.ifaces }
         ensures { result ≡ index }
@@ -213,7 +213,7 @@ impl Topology {
         IfaceNo::new(index as u32)
     }
 
-    /// The number of the source that stands at this index in `sources`.
+    /// The number of the source at this index in `sources`.
     pub fn source_number(&self, index: usize) -> SourceNo
         requires { index < length self.now.sources }
         ensures { result ≡ index }
@@ -222,7 +222,7 @@ impl Topology {
         SourceNo::new(index as u32)
     }
 
-    /// The number of the channel whose receiver stands at this index in `receivers`.
+    /// The number of the channel whose receiver is at this index in `receivers`.
     pub fn channel_number(&self, index: usize) -> ChanNo
         requires { index < length self.now.receivers }
         ensures { result ≡ index }
@@ -321,7 +321,7 @@ pub fn accepted_topologies_are_in_order(topology: &Topology)
     ensures limits { IsWithinLimits topology.now }
     ensures octets { All (λ s. HasOctets s.traffic) topology.now.sources }
 
-    // Nothing stands there twice.
+    // Nothing is there twice.
     ensures doubles { HasNoDoubles topology.now.nodes topology.now.ifaces }
 {
     let _nodes = &topology.nodes;

@@ -39,14 +39,14 @@ pub struct Echo {
     pub flow: Flow,
 }
 
-/// Octets that are handed to an interface as they are.
+/// Octets that an interface gets as they are.
 #[derive(Drop)]
 pub struct RawPacket {
     pub at: Time,
     pub packet: Packet,
 }
 
-/// Packets that are handed to an interface as they are, one after another.
+/// Packets that an interface gets as they are, one after another.
 #[derive(Drop)]
 pub struct Raw {
     via: IfaceNo,

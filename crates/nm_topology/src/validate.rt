@@ -19,7 +19,7 @@ use std::alloc::Global;
 pub mod checks;
 
 /// Tests the whole, in the order of docs/FORMATS.md: nodes in these partitions, these interfaces,
-/// what their names resolved to and what hangs together. Names are tested where they are resolved.
+/// what their names resolved to and the wiring. Names are tested where they are resolved.
 pub fn validate(
     alloc: Global,
     parts: &[PartNo],
@@ -27,7 +27,7 @@ pub fn validate(
     resolved: &Resolved,
     wired: &Wired,
 ) -> Result<(), TopoFault>
-    // What the names resolved to is there, and what hangs together is of it.
+    // What the names resolved to is there, and the wiring is of it.
     requires owners { (length resolved.now.owners ≡ length ifaces.now)
         × All (λ o. o < length parts.now) resolved.now.owners }
     requires links { All (λ l. (l.a < length ifaces.now) × (l.b < length ifaces.now))

@@ -16,7 +16,7 @@ flow_time f n = f.start + n * f.interval
 abbrev pub flow_data : Flow → List ℕ
 flow_data f = replicate f.size f.fill
 
--- what a UDP source hands over: its data, or the octet that stands for none
+-- what a UDP source gives: its data, or the octet in their place
 abbrev pub cbr_octets : Flow → List ℕ
 cbr_octets f = if f.size == 0 then NO_DATA ∷ [] else flow_data f
 

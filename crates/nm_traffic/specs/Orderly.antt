@@ -45,7 +45,7 @@ pub record SendsWithinLimits (t : TopologyValue) : Type 0 where
   pub fit : FitTheMtu t
   pub greatest : ArePackets t
 
--- how the sources of any network send: where no raw packet is empty, no packet is
+-- how the sources of any network send: if no raw packet is empty, no packet is
 pub record SendsOrderly (t : TopologyValue) : Type 0 where
   pub before : ComeBeforeStop t
   pub limits : IsWithinLimits t → SendsWithinLimits t

@@ -8,7 +8,7 @@ use Rattle.nm_topology.specs.TopologyValue.{TopologyValue}
 use Rattle.nm_traffic.specs.Flow.{flow_time, cbr_octets, echo_message}
 use Rattle.nm_traffic.specs.SourceValues.{SourceValue}
 
--- a time and a packet, where that is before stop
+-- a time and a packet, if that is before stop
 abbrev pub before : ℕ → ℕ × List ℕ → Option (ℕ × List ℕ)
 before stop p = if nat_lt p.0 stop then Some p else None
 
@@ -30,6 +30,6 @@ source_of t j = option_map (λ s. record {
   traffic = s.traffic;
 }) (slice_get t.sources j)
 
--- packet n of source j, where there is such a source, and such a packet before stop
+-- packet n of source j, if there is such a source, and such a packet before stop
 unfoldable pub source_at : TopologyValue → ℕ → ℕ → Option (ℕ × List ℕ)
 source_at t j n = option_and_then (λ s. packet_at s.stop s.traffic n) (source_of t j)

@@ -11,11 +11,11 @@ use nm_base::Time;
 use nm_topology::traffic::{Cbr, Flow};
 use std::alloc::{AllocError, Global};
 
-/// The octet that a source hands over where it has no data: a packet has at least one octet. The
-/// node sends no data then.
+/// The octet that a source gives if it has no data: a packet has at least one octet. The node sends
+/// no data then.
 pub(crate) const NO_DATA: u8 = 0;
 
-/// A source, and the packet that it hands over each time.
+/// A source, and the packet that it gives each time.
 #[derive(Drop)]
 pub struct CbrSource {
     cbr: Cbr,
@@ -23,7 +23,7 @@ pub struct CbrSource {
     ghost made: { packet ≡ cbr_octets cbr.flow },
 }
 
-/// The data of the flow, or the octet that stands for none.
+/// The data of the flow, or the octet in their place if there are none.
 fn data_packet(alloc: Global, flow: &Flow) -> Result<SourcePacket, AllocError>
     ensures { IfOk result (λ p. p ≡ cbr_octets flow.now) }
 {

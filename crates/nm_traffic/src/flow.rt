@@ -6,7 +6,7 @@ ghost use Rattle.nm_traffic.specs.Flow.{flow_time};
 use nm_base::Time;
 use nm_topology::traffic::Flow;
 
-/// When packet `number` of the flow comes, or `None` where there is none before `stop`.
+/// When packet `number` of the flow comes, or `None` if there is none before `stop`.
 pub fn time_before(flow: &Flow, stop: Time, number: u64) -> Option<Time>
     ensures { MatchOption result (number < flow.now.count → stop ≤ flow_time flow.now number)
         (λ time. (number < flow.now.count) × (time ≡ flow_time flow.now number) × (time < stop)) }

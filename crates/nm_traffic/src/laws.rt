@@ -16,7 +16,7 @@ use nm_topology::topology::accepted_topologies_are_in_order;
 
 /// In every network within the limits the packets of a source come at rising times before the run
 /// stops, with no gap in their numbers; they fit the mtu with the headers that they get, and are no
-/// longer than a packet may be. Where no raw packet is empty, no packet is.
+/// longer than a packet may be. If no raw packet is empty, no packet is.
 pub fn times_rise_within_limits()
     ensures { (t : TopologyValue) → SendsOrderly t }
 {}
@@ -37,10 +37,10 @@ pub fn source_times_rise(topology: &Topology)
     times_rise_within_limits(); // law: so their times fit
 }
 
-/// The packets of a source of each kind, written out: packet n, for n from 0, is n intervals behind
+/// The packets of a source of each kind, written out: packet n, for n from 0, is n intervals after
 /// the start, and has no more than its data; an echo request has type 8, code 0, its checksum, the
-/// identifier and n modulo 65,536. Behind the last packet, and from stop on, there is none. Where
-/// there is no data, one octet stands for it, which is 0.
+/// identifier and n modulo 65,536. After the last packet, and from stop on, there is none. If there
+/// is no data, one octet takes its place, which is 0.
 #[tactic(auto, unfolding(crate::specs::Source::packet_at, crate::specs::Flow::echo_message))]
 pub fn packets_of_each_kind()
     ensures cbr { (packet_at 1_000 (Cbr cbr_source) 0 ≡ Some (5, 170 ∷ 170 ∷ 170 ∷ []))

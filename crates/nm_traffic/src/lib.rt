@@ -1,4 +1,4 @@
-//! The sources of traffic of an accepted topology: when their packets come, and what they hand to
+//! The sources of traffic of an accepted topology: when their packets come, and what they give to
 //! their nodes.
 #![tactic(auto)]
 

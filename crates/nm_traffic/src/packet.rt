@@ -1,4 +1,4 @@
-//! What a source hands to its node.
+//! What a source gives to its node.
 
 ghost use Rattle.std.specs.Prelude.{◌≡◌, ℕ, ◌≤◌, List, length, IfOk};
 
@@ -8,7 +8,7 @@ use std::alloc::{AllocError, Global};
 use std::marker::Model;
 
 /// The data of a UDP datagram, or `NO_DATA` for none; an ICMP message; or the octets of a raw
-/// packet: which of them it is the source says. A clause sees the octets.
+/// packet: the source decides which of them it is. A clause sees the octets.
 #[derive(Clone, Drop)]
 pub struct SourcePacket {
     packet: Packet,

@@ -11,7 +11,7 @@ use nm_topology::topology::accepted_topologies_are_in_order;
 use std::alloc::{AllocError, Global};
 use std::marker::Model;
 
-/// A source of traffic. A clause sees when the run stops, and the source as the topology says it.
+/// A source of traffic. A clause sees when the run stops, and the source of the topology.
 #[derive(Drop)]
 pub struct Source {
     stop: Time,
@@ -33,7 +33,7 @@ impl Source {
     pub fn new(alloc: Global, topology: &Topology, source: SourceNo) -> Result<Self, AllocError>
         requires { source < length topology.now.sources }
         ensures value { IfOk result (λ s. source_of topology.now source ≡ Some s) }
-        // So what `next` answers is what the topology says of this source.
+        // So what `next` answers is the packet of this source of the topology.
         ensures packets { IfOk result (λ s. (number : ℕ)
             → source_at topology.now source number ≡ packet_at s.stop s.traffic number) }
     {
@@ -45,7 +45,7 @@ impl Source {
         })
     }
 
-    /// Packet `number`, from 0, and its time; `None` where the source has no such packet, or none
+    /// Packet `number`, from 0, and its time; `None` if the source has no such packet, or none
     /// before the run stops. Nothing is changed: after an `Err` the same call may succeed.
     pub fn next(&self, alloc: Global, number: u64) -> TimedPacket
         ensures { IfOk result (λ p. p ≡ packet_at self.now.stop self.now.traffic number) }

@@ -8,11 +8,11 @@ use std::rc::Rc;
 /// The most octets that a write takes.
 const MAX_WRITTEN: usize = 4_096;
 
-/// The frame of a Bye, with which a side ends what it says.
+/// The frame of a Bye, which ends what a side sends.
 const BYE: [u8; 5] = [0, 0, 0, 1, 5];
 
-/// So long after it would have arrived a Bye that is lost shows as a break, in milliseconds: its
-/// reader may say Bye before.
+/// How long after it would have arrived a lost Bye shows as a break, in milliseconds: its reader
+/// may send Bye before.
 const UNSEEN: u64 = 50;
 
 /// The time of a world, in milliseconds.
@@ -30,7 +30,7 @@ struct Chunk {
 pub(crate) struct Reach {
     /// After so many octets the connection breaks.
     pub octets: usize,
-    /// It breaks at a Bye: who writes that takes it for said, and it does not arrive.
+    /// It breaks at a Bye, which does not arrive, though its writer takes it for sent.
     pub loses_bye: bool,
 }
 
@@ -68,7 +68,7 @@ pub(crate) struct Flow {
 /// A direction that both ends have.
 pub(crate) type Way = Rc<RefCell<Flow>>;
 
-/// A direction whose octets take so long, and which reaches so far.
+/// A direction in which octets take so long, and which reaches so far.
 pub(crate) fn way(alloc: Global, delay: u64, reach: Reach) -> Result<Way, AllocError> {
     let flow = Flow {
         alloc,
@@ -99,7 +99,7 @@ pub(crate) fn has_arrived(way: &Way, now: u64) -> bool {
 /// What a read of a direction found.
 #[derive(Clone, Copy)]
 pub(crate) enum Found {
-    /// So many octets stand at the front of the buffer.
+    /// So many octets are at the front of the buffer.
     Octets(usize),
     Nothing,
     Over,
@@ -126,8 +126,8 @@ impl Flow {
         }
     }
 
-    /// Puts the first of these octets on their way: how many, or `None` where the connection
-    /// breaks. Where it breaks at a Bye its writer learns that later.
+    /// Puts the first of these octets on their way: how many, or `None` if the connection breaks.
+    /// If it breaks at a Bye its writer learns that later.
     pub(crate) fn put(&mut self, now: u64, octets: &[u8]) -> Option<usize> {
         if self.is_held {
             return Some(0);

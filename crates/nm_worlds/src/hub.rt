@@ -186,7 +186,7 @@ impl Hub {
         }
     }
 
-    /// Whether a machine stands still.
+    /// Whether a machine is stopped.
     pub(crate) fn is_paused(&self, machine: usize) -> bool {
         self.weather.pause.is_of(machine, self.clock.get())
     }
@@ -196,7 +196,7 @@ impl Hub {
         self.weather.shortage.is_of(machine, self.clock.get())
     }
 
-    /// The next connection that somebody began to this machine, if it has arrived.
+    /// The next connection that a caller began to this machine, if it has arrived.
     pub(crate) fn accept(&mut self, machine: usize) -> Option<WorldWire>
         ensures { IfSome result IsNew }
     {

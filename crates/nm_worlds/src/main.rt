@@ -1,13 +1,13 @@
 //! Worlds of several machines in one thread, each drawn from a seed: a network of some partitions,
 //! of one or two replicas each, as the program serves them, over connections that are made,
-//! refused, held, cut and delayed as the seed says; machines vanish and are begun anew, and nothing
+//! refused, held, cut and delayed by the seed; machines vanish and are begun again, and nothing
 //! arrives for a while. From some time on the weather is calm. Then all replicas have to end as
 //! done soon, and their books are certified: their traces are that of the one event list.
 //!
-//! Two words are the first seed and how many there are. Before them come the worlds that have
-//! names, each told for what happens in it: calls that are held, a machine that vanishes, a Bye
-//! that is lost, a caller that comes late. It prints a line for each world that ended otherwise,
-//! and last how many seeds were tried.
+//! Two words are the first seed and how many there are. Before them come the worlds with names,
+//! each with its list of events: calls that are held, a machine that vanishes, a Bye that is lost,
+//! a caller that comes late. It prints a line for each world that ended otherwise, and last how
+//! many seeds were tried.
 #![tactic(auto)]
 
 mod chance;
@@ -71,7 +71,7 @@ impl Counts {
     }
 }
 
-/// What is said of a world that did not end as it should.
+/// The line of a world that did not end as it should.
 fn say(rt: &HostRuntime, name: &str, verdict: Verdict) -> Result<(), Error> {
     match verdict {
         Verdict::Fine(_) => {}

@@ -1,4 +1,4 @@
-//! What is told of a world that has a name.
+//! The events of a world that has a name.
 
 use crate::flow::Reach;
 use crate::weather::{Called, Fate, Loss, Spell};
@@ -7,8 +7,8 @@ use nm_replica::Served;
 /// Any machine.
 pub(crate) const ANY: usize = usize::MAX;
 
-/// What becomes of calls from the first of these machines to the second, of those with numbers from
-/// the first of these on and below the second, which are made before this time.
+/// The fate of calls from the first of these machines to the second, of those with numbers from the
+/// first of these on and below the second, which are made before this time.
 #[derive(Clone, Copy)]
 pub(crate) struct Rule {
     pub machines: [usize; 2],
@@ -17,7 +17,7 @@ pub(crate) struct Rule {
     pub fate: Fate,
 }
 
-/// What is told of a world, and what has to follow.
+/// The events of a world, and what has to follow.
 #[derive(Clone, Copy)]
 pub(crate) struct Script {
     pub name: &'static str,
@@ -26,7 +26,7 @@ pub(crate) struct Script {
     pub replicas: u8,
     /// How long an octet is on its way, in milliseconds.
     pub delay: u64,
-    /// The first that fits says what becomes of a call. Where none does it is made.
+    /// The first that fits decides about a call. If none does it is made.
     pub rules: &'static [Rule],
     /// No octet arrives from the first of these times to the second.
     pub outage: [u64; 2],

@@ -30,7 +30,7 @@ const GREETS: Fate = Fate::Made {
     back: HELLO,
 };
 
-/// A connection on which the callee says Bye in vain.
+/// A connection on which the callee's Bye is lost.
 const BYE_TO_CALLER_LOST: Fate = Fate::Made {
     delay: 40,
     there: Reach::WHOLE,
@@ -48,7 +48,7 @@ const EACH: Rule = Rule {
     fate: Fate::Hangs,
 };
 
-/// Two machines, of which the first calls the second, and nothing that goes wrong.
+/// Two machines; the first calls the second, and nothing goes wrong.
 const PAIR: Script = Script {
     name: "pair",
     network: SPLIT,
@@ -63,10 +63,9 @@ const PAIR: Script = Script {
     calls: 2,
 };
 
-/// The worlds that have names. Where there are two replicas of a partition, machines 0 and 1 call
-/// machines 2 and 3.
+/// The worlds with names. If a partition has two replicas, machines 0 and 1 call machines 2 and 3.
 pub(crate) const SCRIPTS: &[Script] = &[
-    // A forwarder takes what is written and hands nothing on, for 36 seconds.
+    // A forwarder takes what is written and passes nothing on, for 36 seconds.
     Script {
         name: "held",
         delay: 400,
@@ -133,7 +132,7 @@ pub(crate) const SCRIPTS: &[Script] = &[
         calls: 84,
         ..PAIR
     },
-    // Each connection breaks once the callee has said Hello: 60 ms after its call, and then the
+    // Each connection breaks once the callee has sent Hello: 60 ms after its call, and then the
     // caller rests.
     Script {
         name: "cut-after-the-greeting",
@@ -222,7 +221,7 @@ pub(crate) const SCRIPTS: &[Script] = &[
         calls: 36,
         ..PAIR
     },
-    // The caller says Bye in vain: it calls once more, and the callee stays for that.
+    // The caller's Bye is lost: it calls once more, and the callee stays for that.
     Script {
         name: "bye-of-caller-lost",
         delay: 400,
@@ -239,7 +238,7 @@ pub(crate) const SCRIPTS: &[Script] = &[
         calls: 2,
         ..PAIR
     },
-    // The callee says Bye in vain: it stays for the caller, who calls at once.
+    // The callee's Bye is lost: it stays for the caller, who calls at once.
     Script {
         name: "bye-to-caller-lost",
         delay: 400,
@@ -268,7 +267,7 @@ pub(crate) const SCRIPTS: &[Script] = &[
         calls: 4,
         ..PAIR
     },
-    // The same where the caller comes back later than the callee knows that its end is sure.
+    // The same, but the caller comes back later than the callee knows that its end is sure.
     Script {
         name: "bye-to-caller-lost-twice-and-slow",
         delay: 150,
@@ -420,8 +419,8 @@ pub(crate) const SCRIPTS: &[Script] = &[
         calls: 44,
         ..PAIR
     },
-    // A peer whose link has surely ended is begun anew: a caller that waits for others finds it so
-    // within a second, and tells it all.
+    // A peer is begun again after its link has surely ended: a caller that waits for others finds
+    // it so within a second, and sends it all.
     Script {
         name: "peer-begun-anew-after-its-end",
         replicas: 2,
@@ -448,8 +447,8 @@ pub(crate) const SCRIPTS: &[Script] = &[
         calls: 46,
         ..PAIR
     },
-    // The same where the peer has to wait for another, too: nothing comes from it for long, and its
-    // caller lets it.
+    // The same, but the peer has to wait for another, too: nothing comes from it for long, and its
+    // caller accepts that.
     Script {
         name: "peer-begun-anew-waits",
         network: RING,
@@ -488,8 +487,8 @@ pub(crate) const SCRIPTS: &[Script] = &[
         calls: 18,
         ..PAIR
     },
-    // A callee serves a caller to whom it said Bye in vain, and that is slow; another one calls
-    // meanwhile, again and again.
+    // A callee serves a slow caller after its Bye to it was lost; another one calls meanwhile,
+    // again and again.
     Script {
         name: "served-while-another-calls",
         replicas: 2,

@@ -1,4 +1,4 @@
-//! What a world does to calls and connections, drawn from its seed or told by its script.
+//! What a world does to calls and connections, by its seed or its script.
 
 use crate::chance::Chance;
 use crate::flow::Reach;
@@ -22,7 +22,7 @@ const CALM_DELAY: u64 = 50;
 
 const MAX_LIFE: u64 = 2_000;
 
-/// The longest that a machine stands still, and that it has too little for one more connection, in
+/// The longest that a machine stops, and that it has too little for one more connection, in
 /// milliseconds. A second of that would end its replica.
 const MAX_PAUSE: u64 = 10_000;
 
@@ -86,14 +86,14 @@ pub(crate) struct Weather {
     pub calm_at: u64,
     /// From the first of these times to the second no octet arrives.
     outage: [u64; 2],
-    /// A machine stands still, and one has too little for one more connection.
+    /// A machine stops, and one has too little for one more connection.
     pub pause: Spell,
     pub shortage: Spell,
     pub loss: Option<Loss>,
     schedule: Schedule,
 }
 
-/// A machine that vanishes, and is begun anew.
+/// A machine that vanishes, and is begun again.
 #[derive(Clone, Copy)]
 pub(crate) struct Loss {
     pub machine: usize,
@@ -101,16 +101,16 @@ pub(crate) struct Loss {
     pub back_at: u64,
     /// Nobody learns it.
     pub is_silent: bool,
-    /// It is lost even where it is done: others that wait for it have not ended then.
+    /// It is lost even if it is done: others that wait for it have not ended then.
     pub may_be_done: bool,
 }
 
-/// What is drawn, or told by name.
+/// What is drawn, or listed by name.
 #[derive(Clone, Copy)]
 pub(crate) enum Schedule {
     /// All is drawn from this seed.
     Drawn(u64),
-    /// All is told.
+    /// All is listed.
     Told(Script),
 }
 
@@ -241,7 +241,7 @@ impl Weather {
         }
     }
 
-    /// What becomes of a call as the seed says.
+    /// The fate of a call by the seed.
     fn drawn_fate(&mut self, now: u64) -> Fate {
         if now >= self.calm_at {
             let delay = self.chance.below(CALM_DELAY);

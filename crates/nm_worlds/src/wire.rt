@@ -42,7 +42,7 @@ impl WorldWire {
         }
     }
 
-    /// This end is let go: the other end learns it.
+    /// This end is closed: the other end learns it.
     pub(crate) fn close(&self) {
         if let Ok(mut flow) = self.to.try_borrow_mut() {
             flow.is_over = true;

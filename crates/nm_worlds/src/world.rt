@@ -28,13 +28,13 @@ const TICK: u64 = 10;
 /// So long after the weather has become calm all replicas have ended, in milliseconds.
 const LAST: u64 = 20_000;
 
-/// What a world came to.
+/// The result of a world.
 #[derive(Clone, Copy)]
 pub(crate) enum Verdict {
     /// All replicas are done, and their books are certified. So many had not ended: one was done
-    /// while the weather was bad, their Bye was lost then, and who said it left.
+    /// while the weather was bad, their Bye was lost then, and the peer that sent it left.
     Fine(u64),
-    /// The replica of this machine ended otherwise, as is said, or had not ended at last.
+    /// The replica of this machine ended otherwise, with this line, or had not ended at last.
     NotDone(usize, &'static str),
     /// The replica of this machine ended at this time, before it was to.
     Early(usize, u64),
@@ -62,7 +62,7 @@ struct Given {
     topology: Arc<Topology>,
     names: Vec<ReplicaName>,
     peers: Vec<Peers>,
-    /// Two of each replica: the second one is for a machine that is begun anew.
+    /// Two of each replica: the second one is for a machine that is begun again.
     books: Vec<SharedBook<Plain>>,
     lending: Lending,
 }
@@ -93,7 +93,7 @@ fn port_of(machine: usize) -> u16 {
     machine as u16
 }
 
-/// Where they listen: each at its number as a port.
+/// Their addresses: each at its number as a port.
 fn listeners_of(alloc: Global, names: &[ReplicaName]) -> Result<Vec<Listener>, AllocError> {
     let mut listeners = Vec::new(alloc);
     for number in 0..names.len() {
@@ -187,7 +187,7 @@ impl Given {
     }
 }
 
-/// Whether a machine stands still.
+/// Whether a machine is stopped.
 fn is_paused(hub: &Shared, machine: usize) -> bool {
     match hub.try_borrow_mut() {
         Ok(hub) => hub.is_paused(machine),
@@ -214,7 +214,7 @@ struct Life {
 #[derive(Drop)]
 struct Fleet<'x> {
     machines: Vec<Option<Machine<'x>>>,
-    /// The life of each: 0, or 1 where it was begun anew.
+    /// The life of each: 0, or 1 if it was begun again.
     lives: Vec<usize>,
     loss: Option<Loss>,
     /// The seats of the board that nobody has.
@@ -259,7 +259,7 @@ impl<'x> Fleet<'x> {
         self.served(number).is_none() && !self.is_done(rt, given, number)
     }
 
-    /// Loses a machine, or begins it anew, where that is due.
+    /// Loses a machine, or begins it again, if that is due.
     fn lose<R: Wait>(
         &mut self,
         rt: &R,
@@ -305,7 +305,7 @@ impl<'x> Fleet<'x> {
         Ok(())
     }
 
-    /// Each machine makes a poll, unless it stands still.
+    /// Each machine makes a poll, unless it is stopped.
     fn poll_all<R: Wait>(&mut self, rt: &R, alloc: Global, given: &Given, hub: &Shared, now: u64) {
         for number in 0..self.machines.len() {
             if is_paused(hub, number) {
@@ -444,7 +444,7 @@ fn calls_in(hub: &Shared) -> usize {
     }
 }
 
-/// The world of a schedule, whose seats are these.
+/// The world of a schedule, with these seats.
 fn begun<'x, R: Wait>(
     rt: &R,
     alloc: Global,
@@ -523,8 +523,8 @@ impl<'x> World<'x> {
         Ok(late)
     }
 
-    /// Where all was told each machine ended as it was to and when it was to, and no more calls
-    /// were made than are to be; or what is wrong.
+    /// If all was listed each machine ended as it was to and when it was to, and no more calls were
+    /// made than are to be; or what is wrong.
     fn check(&self, script: &Script) -> Result<(), Verdict> {
         for number in 0..self.fleet.machines.len() {
             if !script.expects(self.fleet.served(number)) {
@@ -545,7 +545,7 @@ impl<'x> World<'x> {
     }
 }
 
-/// A world of this schedule over a network, of which each partition has so many replicas.
+/// A world of this schedule over a network with so many replicas of each partition.
 pub(crate) fn try_world<R: Wait>(
     rt: &R,
     alloc: Global,

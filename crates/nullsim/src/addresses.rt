@@ -1,5 +1,5 @@
-//! The list of addresses of `node`, read again for who reads further lines: its first wrong line,
-//! and with whom a replica speaks.
+//! The list of addresses of `node`, read again for further lines: its first wrong line, and with
+//! whom a replica speaks.
 
 use crate::differing::read_network;
 use nm_base::{PartNo, number_of};
@@ -31,7 +31,7 @@ fn replica_of(line: &[u8]) -> Option<(u32, u8)> {
     Some((partition as u32, replica as u8))
 }
 
-/// The listener that a line says by itself, which stands here with its line feed.
+/// The listener of a single line, given with its line feed.
 fn listener_of(alloc: Global, line: &[u8], partitions: u32) -> Option<Listener> {
     let (partition, replica) = replica_of(line)?;
     let read = read_listeners(alloc, line, partitions, PartNo::new(partition), replica);
@@ -45,7 +45,7 @@ fn listener_of(alloc: Global, line: &[u8], partitions: u32) -> Option<Listener> 
 ///
 /// # Errors
 ///
-/// Where it cannot be read again, or memory was refused.
+/// If it cannot be read again, or memory was refused.
 pub fn address_fault(
     rt: &HostRuntime,
     topology: &Topology,
@@ -123,7 +123,7 @@ fn read_node(
 ///
 /// # Errors
 ///
-/// Where an input cannot be read again, or memory was refused.
+/// If an input cannot be read again, or memory was refused.
 pub fn neighbours_of(rt: &HostRuntime, words: &NodeArguments<'_>) -> io::Result<Option<String>> {
     let alloc = rt.alloc();
     let Some((topology, listeners)) = read_node(rt, words)? else {
@@ -136,12 +136,12 @@ pub fn neighbours_of(rt: &HostRuntime, words: &NodeArguments<'_>) -> io::Result<
     Ok(Some(format!(in alloc; "nothing came for a minute; it speaks with {found}")?))
 }
 
-/// The partitions with which a node shares a channel and of which no replica is in its list, as a
+/// The partitions with which a node shares a channel but that have no replica in its list, as a
 /// sentence, if there are any.
 ///
 /// # Errors
 ///
-/// Where an input cannot be read again, or memory was refused.
+/// If an input cannot be read again, or memory was refused.
 pub fn absent_of(rt: &HostRuntime, words: &NodeArguments<'_>) -> io::Result<Option<String>> {
     let alloc = rt.alloc();
     let Some((topology, listeners)) = read_node(rt, words)? else {
@@ -172,7 +172,7 @@ pub fn absent_of(rt: &HostRuntime, words: &NodeArguments<'_>) -> io::Result<Opti
 ///
 /// # Errors
 ///
-/// Where an input cannot be read again, or memory was refused.
+/// If an input cannot be read again, or memory was refused.
 pub fn listening_fault<N: Net>(
     rt: &HostRuntime,
     system: &N,

@@ -1,5 +1,5 @@
-//! What stands where a trace file differs, for who sits at a terminal: the record of its trace, and
-//! the octets that the file has there.
+//! What is at the place where a trace file differs, for a terminal: the record of its trace, and
+//! the octets of the file.
 
 use nm_base::sink::write_all;
 use nm_base::{IfaceNo, Record, Sink, Wanted};
@@ -14,7 +14,7 @@ use std::io::{self, ErrorKind, Read, Seek, SeekFrom};
 /// How many octets of a file are shown at most.
 const SHOWN_OCTETS: u64 = 16;
 
-/// Where an octet of a trace file stands.
+/// The place of an octet of a trace file.
 #[derive(Drop)]
 enum Place {
     Header,
@@ -29,8 +29,8 @@ fn octets_of(record: &Record) -> u64 {
     RECORD_HEADER_OCTETS as u64 + record.packet.octet_count() as u64
 }
 
-/// The line of the record in which this octet stands, where `end` octets stand before the records:
-/// that, or where they end.
+/// The line of the record that has this octet, after `end` octets before the records: that, or
+/// where they end.
 fn find(
     alloc: Global,
     records: &[Record],
@@ -49,7 +49,7 @@ fn find(
     Ok((None, end))
 }
 
-/// Where an octet of the trace file of an interface stands.
+/// The place of an octet of an interface's trace file.
 fn place_of(
     alloc: Global,
     network: &Topology,
@@ -114,12 +114,12 @@ fn say_place<E: Sink>(place: &Place, errors: &mut E) {
     }
 }
 
-/// Says what stands at this octet of the trace file of an interface in the folder of `verify`: in
-/// the file, and in the trace of the topology's text.
+/// Prints what is at this octet of the trace file of an interface in the folder of `verify`: in the
+/// file, and in the trace of the topology's text.
 ///
 /// # Errors
 ///
-/// Where the text or the file cannot be read again, or memory was refused. Nothing was said then.
+/// If the text or the file cannot be read again, or memory was refused. Nothing was printed then.
 pub fn say_difference<E: Sink>(
     rt: &HostRuntime,
     words: &[String],

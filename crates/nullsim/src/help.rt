@@ -1,4 +1,4 @@
-//! What the program says of itself.
+//! The program's texts on itself.
 
 /// All words.
 pub const HELP: &str = "\
@@ -196,7 +196,7 @@ fn more_of(word: &str) -> Option<&'static str> {
     None
 }
 
-/// The form of a command: the first line of what is said of it.
+/// The form of a command: the first line of its help.
 pub fn form_of(word: &str) -> Option<&'static str> {
     more_of(word)?.lines().next()
 }
@@ -206,7 +206,7 @@ fn asks(word: &str) -> bool {
     ["help", "--help", "-h"].contains(&word)
 }
 
-/// What these words ask the program to say of itself, if they do.
+/// The text on itself that these words ask for, if they do.
 pub fn asked(words: &[String]) -> Option<&'static str> {
     let first = words.first()?;
     if words.len() == 1 && first.as_str() == "--version" {

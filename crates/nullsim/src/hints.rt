@@ -1,4 +1,4 @@
-//! Further lines of a fault, for who sits at a terminal or asked for them.
+//! Further lines of a fault, at a terminal or if asked for.
 
 use crate::noted::Noted;
 use crate::reasons::{file_reason, stalled_reason};
@@ -10,7 +10,7 @@ use nm_pcap::Form;
 use std::io::{self, IsTerminal};
 use std::net::Net;
 
-/// What is said where the program itself is at fault.
+/// The line for a fault of the program itself.
 const BROKEN: &str = "what cannot happen did: please report it, with the topology and the words\n";
 
 /// What helps with a fault.
@@ -26,7 +26,7 @@ fn hint(status: Status) -> &'static str {
     }
 }
 
-/// The reason of a fault in a sentence, if it is known. What cannot be read again is not said.
+/// The reason of a fault in a sentence, if it is known. What cannot be read again is left out.
 fn reason<N: Net>(
     rt: &HostRuntime,
     system: &N,
@@ -42,7 +42,7 @@ fn reason<N: Net>(
     }
 }
 
-/// What is said where a trace file went to a terminal.
+/// The line after a trace file went to a terminal.
 const OCTETS: &str =
     "that was a trace file: nullsim one TOPO IFACE > FILE saves one, and nullsim text \
     TOPO IFACE shows it in words\n";
@@ -55,7 +55,7 @@ fn asks_for_octets(words: &[String]) -> bool {
     }
 }
 
-/// Says how a trace file is saved, where one went to a terminal.
+/// Prints how a trace file is saved, if one went to a terminal.
 pub fn say_octets<E: Sink>(rt: &HostRuntime, words: &[String], status: Status, errors: &mut E) {
     if status == Status::Done && rt.stdout().is_terminal() && asks_for_octets(words) {
         let _ = write_all(errors, OCTETS.as_bytes());

@@ -42,12 +42,12 @@ use system::{SystemInputs, SystemOutputs};
 use uncertified::say_fault;
 use watching::{Over, watch};
 
-/// The octets of the lines that are said of errors, at most.
+/// The most octets of the lines on errors.
 const MAX_ERROR_OCTETS: usize = 8_192;
 
 /// The C library gives memory back to the system when 128 KiB at the end of its heap are free, and
-/// takes it anew for the next packets. A block of this size that was given back once has it wait
-/// for twice as much (mallopt(3), `M_MMAP_THRESHOLD`). Its pages are never touched.
+/// takes it again for the next packets. Once a block of this size was given back it waits for twice
+/// as much (mallopt(3), `M_MMAP_THRESHOLD`). Its pages are never touched.
 const FREED_OCTETS: usize = 16_777_216;
 
 /// The words after the program's name.
@@ -59,15 +59,15 @@ fn words<R: Env + Alloc>(rt: &R) -> io::Result<Vec<String<R::A>, R::A>> {
     Ok(words)
 }
 
-/// How the program ended, and whether nothing is said of it: nobody reads its output any more.
+/// How the program ended, and whether it is silent: nobody reads its output any more.
 #[derive(Clone, Copy)]
 struct Ended {
     status: Status,
     is_silent: bool,
 }
 
-/// Says where a fault is, if it is of a file that differs or of books that are not certified. What
-/// cannot be read again is not said.
+/// Prints where a fault is, if it is of a file that differs or of books that are not certified.
+/// What cannot be read again is left out.
 fn say_where<E: Sink>(
     rt: &HostRuntime,
     words: &[String],
@@ -83,10 +83,10 @@ fn say_where<E: Sink>(
     }
 }
 
-/// The variable of the environment that has more said of a fault wherever standard error goes.
+/// The variable of the environment with which further lines of a fault are printed anywhere.
 const EXPLAIN: &str = "NULLSIM_EXPLAIN";
 
-/// Whether more is to be said of a fault: who reads it sits at a terminal, or asked for it.
+/// Whether to print further lines of a fault: standard error is a terminal, or they were asked for.
 fn explains(rt: &HostRuntime) -> bool {
     rt.stderr().is_terminal()
         || match env::var(rt, EXPLAIN) {
@@ -106,8 +106,8 @@ fn say_absent<E: Sink>(rt: &HostRuntime, words: &[String], errors: &mut E) {
     }
 }
 
-/// The program up to its exit status. On a terminal, or where that is asked for, more is said of a
-/// fault.
+/// The program up to its exit status. Further lines of a fault are printed on a terminal, or if
+/// asked for.
 fn with_hint<N: Runtime, E: Sink>(
     rt: &HostRuntime,
     system: &N,
@@ -132,7 +132,7 @@ fn with_hint<N: Runtime, E: Sink>(
     }
 }
 
-/// The program over the files and the network of the system, where it is noted what went wrong.
+/// The program over the files and the network of the system, which note what went wrong.
 fn over_system<N: Runtime, E: Sink>(
     rt: &HostRuntime,
     system: &N,
@@ -164,7 +164,7 @@ fn over_system<N: Runtime, E: Sink>(
     conclude(status, out.flush().is_ok(), errors)
 }
 
-/// The same, while a line on the terminal says how far it is.
+/// The same, with a line on the terminal that shows how far it is.
 fn with_line<N: Runtime>(
     rt: &HostRuntime,
     system: &N,
@@ -184,7 +184,7 @@ fn with_line<N: Runtime>(
     ended
 }
 
-/// The same, while it is counted what each replica does, and told.
+/// The same, with counts of what each replica does, which it prints.
 fn with_stats<N: Runtime>(
     rt: &HostRuntime,
     system: &N,
@@ -217,8 +217,8 @@ fn with_stats<N: Runtime>(
     ended
 }
 
-/// The same. What is said of errors follows at the end, when a line on the terminal is gone; it
-/// does not where nobody reads the output any more.
+/// The same. Lines on errors follow at the end, after the line on the terminal is gone; there are
+/// none if nobody reads the output any more.
 fn unless_closed<N: Runtime>(
     rt: &HostRuntime,
     system: &N,
@@ -249,8 +249,8 @@ fn say(rt: &HostRuntime, text: &str) -> Status {
     }
 }
 
-/// What the program says of itself: where it is asked to by words that are no command, and where
-/// there are no words and nobody but a terminal gives a topology.
+/// The program's text on itself: if words that are no command ask for it, and if there are no words
+/// and only a terminal would give a topology.
 fn said_of_itself(rt: &HostRuntime, words: &[String]) -> Option<&'static str>
     ensures words { IfSome result (λ _. (length words.now ≡ 0)
         ⊎ (command_of (map (λ w. string_bytes w) words.now) ≡ None)) }
@@ -268,8 +268,8 @@ fn said_of_itself(rt: &HostRuntime, words: &[String]) -> Option<&'static str>
     }
 }
 
-/// The program, up to its exit status. `system` is the runtime too, with what `main` alone may
-/// hand on: the network, and waiting.
+/// The program, up to its exit status. `system` is the runtime too, with what `main` alone may pass
+/// on: the network, and waiting.
 fn status<N>(rt: &HostRuntime, system: &N) -> Status
 where
     N: Net<Stream = net::TcpStream, Listener = net::TcpListener>

@@ -1,4 +1,4 @@
-//! What went wrong at the system, for who reads further lines.
+//! What went wrong at the system, for further lines.
 
 use nm_program::Notes;
 use std::alloc::{AllocError, Global};
@@ -40,7 +40,7 @@ pub struct Noted {
     is_closed: Cell<bool>,
 }
 
-/// What is said of a file.
+/// The sentence on a file.
 fn text_of(alloc: Global, name: &str, error: &io::Error) -> Result<String, AllocError> {
     format!(in alloc; "{name}: {error}")
 }
@@ -58,7 +58,7 @@ impl Noted {
         }
     }
 
-    /// Notes that a file failed. Where memory is refused nothing is noted.
+    /// Notes that a file failed. If memory is refused nothing is noted.
     pub fn file(&self, alloc: Global, name: &str, error: &io::Error) {
         self.file.set(text_of(alloc, name, error).ok());
     }

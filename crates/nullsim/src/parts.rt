@@ -1,6 +1,6 @@
 //! Parts: files while they are written. Each is made new under a name that nobody else has, and is
-//! locked for as long as its process has it open, so that what a killed process left can be told
-//! from what another one writes.
+//! locked as long as its process has it open, so that parts of a killed process can be told from
+//! those that another one writes.
 
 use crate::noted::LastError;
 use std::alloc::{AllocError, Global};
@@ -9,17 +9,18 @@ use std::io::{self, ErrorKind, Write};
 use std::os::unix::fs::MetadataExt;
 use std::random::RandomSource;
 
-/// What stands behind the name of a file, before the letters of its part: of a trace file, and of
-/// one of what a replica knows.
+/// The end of a file's name before the letters of its part: of a trace file, and of one of what a
+/// replica knows.
 const PARTS: [&str; 2] = [".pcap.part-", ".known.part-"];
 
 /// How many letters are drawn for the parts of a process.
 const LETTERS: usize = 10;
 
-/// How often a part is made anew that another process took for one that was left.
+/// How often a part is made again after another process took it for one that was left.
 const MAX_TRIES: usize = 16;
 
-/// The letters of the parts of a process: nobody else has drawn the same, as good as surely.
+/// The letters of the parts of a process: it is as good as sure that nobody else has drawn the
+/// same.
 #[derive(Clone, Copy)]
 pub struct Letters {
     letters: [u8; LETTERS],
@@ -30,7 +31,7 @@ impl Letters {
     ///
     /// # Errors
     ///
-    /// Where the system has no random octets.
+    /// If the system has no random octets.
     pub fn draw(runtime: &HostRuntime) -> io::Result<Letters> {
         let mut letters = [0u8; LETTERS];
         runtime.fill_bytes(&mut letters)?;
@@ -67,8 +68,7 @@ fn is_part(name: &str) -> bool {
     false
 }
 
-/// A part that is open, how many octets the system took of it, and where it is noted why it took
-/// no more.
+/// A part that is open, how many octets the system took of it, and a note of why it took no more.
 #[derive(Drop)]
 pub struct PartFile<'a> {
     file: File,
@@ -95,8 +95,8 @@ impl<'a> Write for PartFile<'a> {
     }
 }
 
-/// Whether a part that was made is locked now and has its name still. Where the file system has no
-/// locks nobody removes one.
+/// Whether a part that was made is locked now and still has its name. If the file system has no
+/// locks, nobody removes one.
 fn is_kept(file: &File) -> bool {
     match file.try_lock() {
         Ok(()) => match file.metadata() {
@@ -114,7 +114,7 @@ fn is_same(one: &Metadata, other: &Metadata) -> bool {
 }
 
 impl<'a> PartFile<'a> {
-    /// Makes a part of this name: no file, and no link, that stands there is written.
+    /// Makes a part of this name. A file or a link that is there is not written.
     ///
     /// # Errors
     ///

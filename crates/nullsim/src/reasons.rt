@@ -1,4 +1,4 @@
-//! Why a file, a folder, an input or an address failed, for who reads further lines.
+//! Why a file, a folder, an input or an address failed, for further lines.
 
 use crate::addresses::{listening_fault, neighbours_of};
 use crate::noted::Noted;
@@ -8,7 +8,7 @@ use std::alloc::{AllocError, Global};
 use std::net::Net;
 use std::{fs, io};
 
-/// The words whose third is a folder.
+/// The words with a folder as their third.
 const OF_FOLDERS: [&str; 4] = ["all", "verify", "run", "node"];
 
 /// Why a name is that of no input, if it is none: it is a folder, or has too many octets.
@@ -74,7 +74,7 @@ fn node_of<'a>(words: &'a [String]) -> Option<NodeArguments<'a>> {
 ///
 /// # Errors
 ///
-/// Where an input cannot be read again, or memory was refused.
+/// If an input cannot be read again, or memory was refused.
 pub fn file_reason<N: Net>(
     rt: &HostRuntime,
     system: &N,
@@ -102,7 +102,7 @@ pub fn file_reason<N: Net>(
 ///
 /// # Errors
 ///
-/// Where an input cannot be read again, or memory was refused.
+/// If an input cannot be read again, or memory was refused.
 pub fn stalled_reason(rt: &HostRuntime, words: &[String]) -> io::Result<Option<String>> {
     match node_of(words) {
         Some(words) => neighbours_of(rt, &words),

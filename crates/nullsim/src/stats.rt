@@ -1,4 +1,4 @@
-//! What a run or a node does, told on standard error where the words ask for it.
+//! What a run or a node does, on standard error if the words ask for it.
 
 use crate::watching::Over;
 use nm_command::Command;
@@ -17,7 +17,7 @@ const MILLISECONDS_A_LOOK: u64 = 5;
 /// How many looks pass between two lines of a node: a second.
 const LOOKS_A_LINE: u64 = 200;
 
-/// Where the further words of `run` or `node` begin.
+/// The index of the first further word of `run` or `node`.
 fn first_further(words: &[String]) -> Option<usize> {
     match words.first()?.as_str() {
         "run" => Some(5),
@@ -40,7 +40,7 @@ pub fn take_stats(words: &mut Vec<String>) -> bool {
     false
 }
 
-/// The replica of a node, of which a line a second is told.
+/// The replica of a node, for its line a second.
 fn node_of<'a>(figures: &'a Figures, words: &[String]) -> Option<ReplicaFigures<'a>> {
     match Command::of(words) {
         Some(Command::Node(node)) => Some(figures.of(node.partition, node.replica)),
@@ -62,15 +62,15 @@ fn table_of(alloc: Global, figures: &Figures) -> Result<Vec<u8>, AllocError> {
     Ok(text)
 }
 
-/// Tells a text. Where there is no memory for it, or nobody takes it, nothing hangs on it.
+/// Writes a text, if it was made. Errors are ignored: statistics are best effort.
 fn tell<W: Write>(errors: &mut W, text: Result<Vec<u8>, AllocError>) {
     if let Ok(text) = text {
         let _ = errors.write_all(text.as_slice());
     }
 }
 
-/// Looks who works until all is over, and tells how far a node is once a second, and at the end
-/// what all did, if it has begun.
+/// Looks who works until all is over; prints how far a node is once a second, and at the end what
+/// all did, if it has begun.
 pub fn tell_figures<R: Wait + Clock, W: Write>(
     rt: &R,
     alloc: Global,

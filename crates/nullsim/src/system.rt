@@ -11,7 +11,7 @@ use std::fs::File;
 use std::io::{BufWriter, ErrorKind, StdinLock};
 use std::{fs, io};
 
-/// Standard input and the files of the system. What they have is not told.
+/// Standard input and the files of the system. Contracts do not know what they have.
 #[derive(Drop)]
 pub struct SystemInputs<'a> {
     pub runtime: &'a HostRuntime,
@@ -43,7 +43,7 @@ impl<'a> Inputs for SystemInputs<'a> {
 const HELD_BACK_OCTETS: usize = 16_384;
 
 /// The files of the system that are made or replaced: each is written as a part, and renamed once
-/// it is whole. What they have is not told.
+/// it is whole. Contracts do not know what they have.
 #[derive(Drop)]
 pub struct SystemOutputs<'a> {
     runtime: &'a HostRuntime,
@@ -71,7 +71,7 @@ fn fault_of(error: &io::Error) -> OutputFault {
     }
 }
 
-/// The folder in which a file of this name stands.
+/// The folder of a file of this name.
 fn folder_of(name: &str) -> &str {
     match name.rsplit_once('/') {
         Some((folder, _)) if folder.is_empty() => "/",
@@ -90,7 +90,7 @@ impl<'a> SystemOutputs<'a> {
         }
     }
 
-    /// What an error of the system at a file is, which is noted.
+    /// The fault for an error of the system at a file, which is noted.
     fn noted(&self, name: &str, error: &io::Error) -> OutputFault {
         self.noted.file(self.runtime.alloc(), name, error);
         fault_of(error)
@@ -115,7 +115,7 @@ impl<'a> SystemOutputs<'a> {
         PartFile::make(self.runtime, part.as_str(), &self.noted.writing)
     }
 
-    /// A closed file of this name, whose part is written.
+    /// A closed file of this name, with its part written.
     fn closed(&mut self, name: &str, sink: PartSink<'a>) -> io::Result<ClosedFile<'a>> {
         let letters = self.letters(name)?;
         let alloc = self.runtime.alloc();

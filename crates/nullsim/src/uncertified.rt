@@ -1,4 +1,4 @@
-//! What the certificate found, for who sits at a terminal: in words, and between which partitions.
+//! What the certificate found, for a terminal: in words, and between which partitions.
 
 use crate::differing::read_network;
 use nm_base::sink::write_all;
@@ -29,7 +29,7 @@ fn partition_of(fault: CertFault) -> Option<u32> {
     }
 }
 
-/// Where a fault is, in words: at which partition, or on which channel, which goes from which
+/// The place of a fault, in words: at which partition, or on which channel, which goes from which
 /// partition to which.
 fn place_of(
     alloc: Global,
@@ -57,7 +57,7 @@ fn place_of(
 ///
 /// # Errors
 ///
-/// Where the text cannot be read again, or memory was refused. Nothing was said then.
+/// If the text cannot be read again, or memory was refused. Nothing was printed then.
 pub fn say_fault<E: Sink>(
     rt: &HostRuntime,
     words: &[String],

@@ -1,5 +1,5 @@
-//! What is wrong with words that are no command, or that ask for what is not there, for who reads
-//! further lines.
+//! What is wrong with words that are no command, or that ask for what is not there, for further
+//! lines.
 
 use crate::addresses::address_fault;
 use crate::differing::read_network;
@@ -14,7 +14,7 @@ use nm_topology::Topology;
 use std::alloc::{AllocError, Global};
 use std::io;
 
-/// A number that a command takes: where it stands among the words, and which it may be.
+/// A number that a command takes: its index among the words, and its range.
 struct NumberWord {
     word: &'static str,
     place: usize,
@@ -191,11 +191,11 @@ fn missing(rt: &HostRuntime, command: &Command<'_>) -> io::Result<Option<String>
     }
 }
 
-/// What is wrong with the words, in a sentence, if that can be said.
+/// What is wrong with the words, in a sentence, if it is known.
 ///
 /// # Errors
 ///
-/// Where an input cannot be read again, or memory was refused.
+/// If an input cannot be read again, or memory was refused.
 pub fn usage_fault(rt: &HostRuntime, words: &[String]) -> io::Result<Option<String>> {
     let alloc = rt.alloc();
     let Some(first) = words.first() else {

@@ -1,4 +1,4 @@
-//! A line on a terminal that says how far a run is.
+//! A line on a terminal that shows how far a run is.
 
 use nm_base::push_text;
 use nm_progress::{Progress, push_line};
@@ -7,7 +7,7 @@ use std::io::Write;
 use std::sync::{Condvar, Mutex, Wait};
 use std::time::{Clock, Duration};
 
-/// How many milliseconds a line stands.
+/// How many milliseconds a line stays.
 const MILLISECONDS_A_LINE: u64 = 1_000;
 
 /// Goes to the first column.
@@ -58,8 +58,8 @@ fn line_of(alloc: Global, progress: &Progress, milliseconds: u64) -> Result<Vec<
     Ok(text)
 }
 
-/// Renews the line once a second, and wipes it when the run is over. A terminal that takes nothing
-/// is not told.
+/// Renews the line once a second, and wipes it when the run is over. Errors of the terminal are
+/// ignored.
 pub fn watch<R: Wait + Clock, W: Write>(
     rt: &R,
     alloc: Global,

@@ -59,7 +59,7 @@ fn inputs_of<R: Files + AllocGlobal + Clone + Drop>(rt: &R, stem: &str) -> io::R
     Ok(inputs)
 }
 
-/// The number after a word of a line, if it stands there.
+/// The number after a word of a line, if it is there.
 fn number_after(line: &str, name: &str, otherwise: usize) -> usize {
     let mut words = line.split_ascii_whitespace();
     while let Some(word) = words.next() {
@@ -167,7 +167,7 @@ fn push_block<R: Runtime + AllocGlobal>(
     push_ended(rt, found, topology, given, &ended)
 }
 
-/// What stands before and behind `words` in the first line of a block.
+/// What is before and after `words` in the first line of a block.
 fn head_of(line: &str) -> Option<(&str, &str)> {
     if line.starts_with("words") || line.starts_with("room ") || line.starts_with("makes ") {
         return line.split_once("words");

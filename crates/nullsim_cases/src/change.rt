@@ -7,11 +7,11 @@ use std::io;
 /// A change of a text.
 #[derive(Drop)]
 pub struct Change {
-    /// Whether the piece is replaced wherever it stands, and not at its first place alone.
+    /// Whether the piece is replaced wherever it is, and not at its first place alone.
     pub is_everywhere: bool,
     /// The piece.
     pub old: String,
-    /// What takes its place, if that was said yet.
+    /// What takes its place, if that is known yet.
     pub new: Option<String>,
 }
 
@@ -20,7 +20,7 @@ impl Change {
     ///
     /// # Errors
     ///
-    /// Where the text does not have the piece, or nothing was to take its place.
+    /// If the text does not have the piece, or nothing was to take its place.
     fn made(&self, alloc: Global, text: &str) -> io::Result<String> {
         let old = self.old.as_str();
         let Some(new) = &self.new else {

@@ -8,7 +8,7 @@ use nm_topology::Topology;
 use std::alloc::AllocError;
 use std::fmt::Write;
 
-/// The words that stand beside names and values.
+/// The words beside names and values.
 #[derive(Clone, Copy)]
 pub struct Words {
     before_counter: &'static str,

@@ -35,7 +35,7 @@ pub fn names_in<R: Files + AllocGlobal + Clone + Drop>(
     Ok(names)
 }
 
-/// What stands beside a topology text is run with it: the text has to be there.
+/// A file beside a topology text is run with it: the text has to be there.
 fn run_half<R: Files + AllocGlobal>(rt: &R, stem: &str) -> io::Result<Tally> {
     let path = format!(in rt.alloc(); "{stem}.toml")?;
     fs::metadata(rt, path.as_str())?;

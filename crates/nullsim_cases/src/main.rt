@@ -14,8 +14,8 @@
 //! - A *table* `NAME.cases` has many cases, each some changes of one text of `data/texts/` (module
 //!   `table`).
 //!
-//! The program prints for each folder how many cases were run and how many differ. Where a case
-//! differs it ends with an error, and where a file is not in its form it ends there and then.
+//! The program prints for each folder how many cases were run and how many differ. If a case
+//! differs it ends with an error, and if a file is not in its form it ends there and then.
 #![tactic(auto)]
 
 mod called;

@@ -37,7 +37,7 @@ pub fn network_text(alloc: Global, topology: &Topology) -> Result<String, AllocE
     Ok(text)
 }
 
-/// Adds what is said of the network as a whole.
+/// Adds the lines of the network as a whole.
 fn push_whole(text: &mut String, topology: &Topology) -> Result<(), AllocError> {
     let (stop, mtu) = (topology.stop().nanoseconds(), topology.mtu());
     let partitions = topology.partitions();
@@ -114,7 +114,7 @@ fn push_iface(text: &mut String, iface: &Iface) -> Result<(), AllocError> {
     )
 }
 
-/// Adds the channel of an interface, where it receives one.
+/// Adds the channel of an interface, if it receives one.
 fn push_channel(text: &mut String, channel: Option<ChanNo>) -> Result<(), AllocError> {
     match channel {
         Some(channel) => writeln!(text, "channel {}", channel.number()),

@@ -16,7 +16,7 @@ use std::alloc::{AllocError, Global};
 ///
 /// # Errors
 ///
-/// `AllocError` where memory was refused.
+/// `AllocError` if memory was refused.
 fn step_before<L: EventList>(
     alloc: Global,
     topology: &Topology,
@@ -35,7 +35,7 @@ fn step_before<L: EventList>(
 ///
 /// # Errors
 ///
-/// `AllocError` where memory was refused.
+/// `AllocError` if memory was refused.
 pub fn run_before<L: EventList + Drop>(
     alloc: Global,
     topology: &Topology,

@@ -8,7 +8,7 @@
 //! | `counts` | `NODE COUNTER VALUE` for each counter above 0, then `IFACE dropped VALUE` for each interface that dropped packets |
 //!
 //! Of a text that is refused, each of them is the line `fault N`, with the number of the first
-//! fault. Each run is made with both kinds of event list, and by `one_list`: where their traces are
+//! fault. Each run is made with both kinds of event list, and by `one_list`: if their traces are
 //! not the same, a line more says so.
 
 use crate::counted::{Words, push_counted};
@@ -116,8 +116,8 @@ impl View {
     }
 }
 
-/// Adds a line where the trace of one event list is not the part's, or that of a part whose events
-/// lie in a heap is not.
+/// Adds a line if the trace of one event list is not the part's, or that of a part with its events
+/// in a heap is not.
 fn push_difference(
     text: &mut String,
     alloc: Global,

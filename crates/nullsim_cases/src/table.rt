@@ -31,7 +31,7 @@
 //!
 //! The changes of a case are made one after another. A piece that is not there is an error, so no
 //! case is ever about another text than its lines say. No line ends with a space. Empty lines, and
-//! lines that begin with `#`, say nothing.
+//! lines that begin with `#`, are skipped.
 
 mod lines;
 
@@ -43,7 +43,7 @@ use std::alloc::Global;
 use std::rt::Files;
 use std::{fs, io};
 
-/// What a case of a table shows, whose text is this with the case's changes.
+/// What a case of a table shows: this text with the case's changes.
 fn found_of(alloc: Global, table: &Table, text: &str, case: &Case) -> io::Result<String> {
     let Some(show) = table.show else {
         return Err(io::Error::other("a table that shows nothing"));

@@ -32,7 +32,7 @@ impl Tally {
         self.differing = self.differing.saturating_add(other.differing);
     }
 
-    /// An error where a case differs.
+    /// An error if a case differs.
     pub fn conclude(self) -> io::Result<()> {
         if self.differing > 0 {
             return Err(io::Error::other("a case differs"));

@@ -40,7 +40,7 @@ fn trace_text(alloc: Global, topology: &Topology, iface: IfaceNo) -> io::Result<
 ///
 /// # Errors
 ///
-/// `OutOfMemory` also where a trace file has more than 1,048,576 hexadecimal digits.
+/// `OutOfMemory` also if a trace file has more than 1,048,576 hexadecimal digits.
 fn push_file(
     text: &mut String,
     alloc: Global,

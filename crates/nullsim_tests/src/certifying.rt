@@ -52,7 +52,7 @@ source = [
   {kind = "cbr", node = "a", to = "10.0.0.2", sport = 1000, dport = 9, size = 72, start = 0, interval = 1000000, count = 1} ]
 "#;
 
-/// What is said where all is certified.
+/// The output if all is certified.
 const CERTIFIED: &[u8] =
     b"certified\niface a0 records 1 octets 140\niface b0 records 1 octets 140\n";
 
@@ -61,7 +61,7 @@ fn left<R: Runtime + AllocGlobal>(rt: &R) -> io::Result<Ended> {
     left_by(rt, SPLIT, NAMES.len())
 }
 
-/// What `certify` says of what a run left, with one file in place of that of this number.
+/// The output of `certify` for what a run left, with one file in place of that of this number.
 fn certified<R: Runtime + AllocGlobal>(
     rt: &R,
     line: &str,
@@ -81,7 +81,7 @@ fn certified<R: Runtime + AllocGlobal>(
     run_line(rt, line, inputs, 0)
 }
 
-/// It says this line.
+/// It prints this line.
 fn refused<R: Runtime + AllocGlobal + Abort>(
     rt: &R,
     left: &Ended,
@@ -98,7 +98,7 @@ fn refused<R: Runtime + AllocGlobal + Abort>(
     Ok(())
 }
 
-/// It says that the trace file of this number differs at this octet.
+/// Its line says that the trace file of this number differs at this octet.
 fn differs<R: Runtime + AllocGlobal + Abort>(
     rt: &R,
     left: &Ended,
@@ -243,7 +243,7 @@ fn longer<R: AllocGlobal>(rt: &R, octets: &[u8]) -> io::Result<Vec<u8>> {
     Ok(copy)
 }
 
-/// `certify` says this line of the files of a network.
+/// `certify` ends with this line for the files of a network.
 fn says<R: Runtime + AllocGlobal + Abort>(
     rt: &R,
     network: &str,
@@ -269,8 +269,8 @@ fn left_by<R: Runtime + AllocGlobal>(rt: &R, network: &str, room: usize) -> io::
     run_line(rt, "run - d 1 1 keep", inputs, room)
 }
 
-/// `certify` says this line where these are the trace files beside what the replicas of both
-/// partitions left.
+/// `certify` ends with this line for these trace files beside what the replicas of both partitions
+/// left.
 fn says_beside<R: Runtime + AllocGlobal + Abort>(
     rt: &R,
     network: &str,
@@ -310,8 +310,8 @@ fn two_partitions<R: Runtime + AllocGlobal + Abort>(rt: &R) -> Result<(), Fail> 
     Ok(())
 }
 
-/// What is said of the files of `SHIFT` where these are those of the first two interfaces, which are
-/// of one partition.
+/// The line for the files of `SHIFT` with these as those of the first two interfaces, which are of
+/// one partition.
 fn shifted<R: Runtime + AllocGlobal + Abort>(
     rt: &R,
     left: &Ended,
@@ -371,7 +371,7 @@ fn forged_beside<R: Runtime + AllocGlobal + Abort>(rt: &R) -> Result<(), Fail> {
     Ok(())
 }
 
-/// Files with their names, of which one has these octets, and fails where they end.
+/// Files with their names; one has these octets, and fails where they end.
 #[derive(Clone, Copy)]
 struct Failing<'a> {
     files: &'a [(&'a str, &'a [u8])],
@@ -468,8 +468,8 @@ fn fails<R: Runtime + AllocGlobal + Abort>(
     fails_beside(rt, left, left.file(0), b0.as_slice(), name, octets)
 }
 
-/// A read of a trace file, or of a file of what is known, fails, also where only the end is left to
-/// be seen.
+/// A read of a trace file, or of a file of what is known, fails, also if only the end is left to be
+/// seen.
 fn unreadable<R: Runtime + AllocGlobal + Abort>(rt: &R) -> Result<(), Fail> {
     let left = left(rt)?;
     for number in 0..NAMES.len() {

@@ -29,7 +29,7 @@ pub struct Ended {
 }
 
 impl Ended {
-    /// The octets of a file that it made; none where it made less.
+    /// The octets of a file that it made; none if it made fewer files.
     pub fn file(&self, number: usize) -> &[u8] {
         match self.files.get(number) {
             Some(file) => file.octets.as_slice(),

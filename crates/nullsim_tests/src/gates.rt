@@ -6,8 +6,8 @@ use std::sync::atomic::{AtomicBool, AtomicU64, Ordering};
 /// How often a job looks whether the other has begun.
 const TURNS: u64 = 100_000_000;
 
-/// Answers each poll alike, and keeps the greatest number of octets that it was told of. Jobs 0 and
-/// 1 wait for each other where they are to.
+/// Answers each poll alike, and keeps the greatest number of octets that it got. Jobs 0 and 1 wait
+/// for each other if they are to.
 #[derive(Drop)]
 pub struct Watching {
     pub goes_on: bool,

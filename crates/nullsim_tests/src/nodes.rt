@@ -37,7 +37,7 @@ fn free_addresses<R: Net>(rt: &R, alloc: Global) -> io::Result<String> {
 }
 
 /// A node is done: it made one file, of this name and with the octets that `one` writes of the
-/// interface, and said the interface's line.
+/// interface, and printed the interface's line.
 fn is_done<R: Abort + AllocGlobal + Runtime>(
     rt: &R,
     ended: &Ended,

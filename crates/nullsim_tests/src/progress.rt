@@ -1,4 +1,4 @@
-//! The line that says how far a run is.
+//! The line that shows how far a run is.
 
 use nm_base::{PartNo, Time};
 use nm_progress::{Progress, push_line};

@@ -127,9 +127,9 @@ fn sum_of(figures: &Figures, figure: Figure) -> u64 {
     sum
 }
 
-/// What the replicas do is counted where it is asked for: a job each, their events, each of the
-/// four messages once, and a connection of each two at both ends. One that a peer lets go since
-/// all replicas are done may count as broken.
+/// What the replicas do is counted if it is asked for: a job each, their events, each of the four
+/// messages once, and a connection of each two at both ends. One that a peer lets go since all
+/// replicas are done may count as broken.
 #[test]
 fn what_replicas_do_is_counted(rt: HostRuntime) -> Result<(), Fail> {
     let progress = Progress::with_figures(rt.alloc())?;

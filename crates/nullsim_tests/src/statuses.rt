@@ -1,5 +1,5 @@
-//! What the program says on standard error, and its exit status. No case can have memory refused,
-//! or replicas that are not certified.
+//! The program's lines on standard error, and its exit status. No case can have memory refused, or
+//! replicas that are not certified.
 
 use nm_base::MemSink;
 use nm_command::Status;

@@ -1,4 +1,4 @@
-//! Trace files that are there, octet by octet: which of them differs first, and where.
+//! Existing trace files, octet by octet: which of them differs first, and where.
 
 use crate::fixtures::{Ended, change, front, run_line};
 use nm_fixtures::DUO;
@@ -16,7 +16,7 @@ const OCTETS: usize = 140;
 
 const HEADER_OCTETS: usize = 24;
 
-/// What is said of both files where they are whole.
+/// The output for both files if they are whole.
 const VERIFIED: &[u8] = b"verified\niface a0 records 1 octets 140\niface b0 records 1 octets 140\n";
 
 /// What `all` makes: the files of two interfaces.
@@ -28,7 +28,7 @@ fn made<R: Runtime + AllocGlobal>(rt: &R) -> io::Result<Ended> {
     run_line(rt, "all - d", inputs, 2)
 }
 
-/// What `verify` says of these files.
+/// The output of `verify` for these files.
 fn verified<R: Runtime + AllocGlobal>(
     rt: &R,
     line: &str,
@@ -43,7 +43,7 @@ fn verified<R: Runtime + AllocGlobal>(
     run_line(rt, line, inputs, 0)
 }
 
-/// `verify` says that the file of an interface differs at this octet.
+/// `verify` ends with the line that the file of an interface differs at this octet.
 fn differs<R: Runtime + AllocGlobal + Abort>(
     rt: &R,
     a0: &[u8],
@@ -182,7 +182,7 @@ impl<'a> Inputs for OneFile<'a> {
     }
 }
 
-/// A read fails after so many octets, also where only the end is left to be seen.
+/// A read fails after so many octets, also if only the end is left to be seen.
 fn unreadable<R: Runtime + AllocGlobal + Abort>(rt: &R) -> Result<(), Fail> {
     let made = made(rt)?;
     for count in [0, 1, HEADER_OCTETS, OCTETS - 1, OCTETS] {

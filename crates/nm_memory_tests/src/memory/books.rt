@@ -34,7 +34,7 @@ fn ran(answer: Ran) -> (&'static str, u64) {
     }
 }
 
-/// A replica, and its twin, which is told, does and merges the same.
+/// A replica, and its twin, which gets, does and merges the same.
 #[derive(Drop)]
 struct Pair {
     book: Book,
@@ -57,7 +57,7 @@ fn same(rt: &impl Abort, what: &str, pair: &Pair) {
     holds(rt, what, are_alike(&pair.book, &pair.twin, CHANNELS));
 }
 
-/// What a replica that is told something answers, asked again where memory was refused.
+/// What a replica answers to something that it gets, asked again if memory was refused.
 fn told_again(book: &mut Book, message: &ChannelMessage) -> (&'static str, u64) {
     let answer = accepted(&book.accept(message));
     if answer.0 == "memory" {
@@ -66,7 +66,7 @@ fn told_again(book: &mut Book, message: &ChannelMessage) -> (&'static str, u64) 
     answer
 }
 
-/// A replica is told something, again where memory was refused: then it is as it was.
+/// A replica gets something, again if memory was refused: then it is as it was.
 fn told(rt: &impl Abort, pair: &mut Pair, message: &ChannelMessage, want: &'static str) {
     let mut answer = accepted(&pair.book.accept(message));
     if answer.0 == "memory" {
@@ -78,7 +78,7 @@ fn told(rt: &impl Abort, pair: &mut Pair, message: &ChannelMessage, want: &'stat
     same(rt, "told", pair);
 }
 
-/// How many events a replica does, asked again where memory was refused.
+/// How many events a replica does, asked again if memory was refused.
 fn runs_again(alloc: Global, book: &mut Book) -> u64 {
     let (word, done) = ran(book.run_safe(alloc, 100));
     if word != "memory" {
@@ -88,8 +88,8 @@ fn runs_again(alloc: Global, book: &mut Book) -> u64 {
     done.saturating_add(more)
 }
 
-/// A replica runs, again where memory was refused: then it is as one that was to do as many events.
-/// So many events in all.
+/// A replica runs, again if memory was refused: then it is as one that was to do as many events. So
+/// many events in all.
 fn runs(rt: &(impl Abort + AllocGlobal), pair: &mut Pair, want: u64) {
     let (word, done) = ran(pair.book.run_safe(rt.alloc(), 100));
     let mut count = done;
@@ -104,7 +104,7 @@ fn runs(rt: &(impl Abort + AllocGlobal), pair: &mut Pair, want: u64) {
     same(rt, "run", pair);
 }
 
-/// What a replica knows, again where memory was refused.
+/// What a replica knows, again if memory was refused.
 fn knowledge(alloc: Global, book: &Book) -> Result<Knowledge, Fail> {
     match book.copy_knowledge(alloc) {
         Ok(known) => Ok(known),
@@ -112,7 +112,7 @@ fn knowledge(alloc: Global, book: &Book) -> Result<Knowledge, Fail> {
     }
 }
 
-/// A replica merges, again where memory was refused: then it is as it was.
+/// A replica merges, again if memory was refused: then it is as it was.
 fn merges(rt: &(impl Abort + AllocGlobal), pair: &mut Pair, known: &Knowledge) {
     let mut answer = pair.book.merge(rt.alloc(), known);
     if answer == Err(MergeFault::Memory) {
@@ -126,7 +126,7 @@ fn merges(rt: &(impl Abort + AllocGlobal), pair: &mut Pair, known: &Knowledge) {
     same(rt, "merged", pair);
 }
 
-/// The first message that a replica sent on a channel, again where memory was refused.
+/// The first message that a replica sent on a channel, again if memory was refused.
 fn message(book: &Book, channel: u32) -> Result<ChannelMessage, Fail> {
     let channel = ChanNo::new(channel);
     let found: Option<Data> = book.data(channel, 0).or(book.data(channel, 0))?;
@@ -162,8 +162,8 @@ fn catches_up(
     merges_late(rt, topology, &known, other, events)
 }
 
-/// A partition, by whose own number its channel goes, hears that nothing comes before 1,000,000 ns
-/// and does two events: the message that it sent on the other channel.
+/// A partition learns that nothing comes before 1,000,000 ns on its incoming channel, which has its
+/// own number, and does two events: the message that it sent on the other channel.
 fn sends(
     rt: &(impl Abort + AllocGlobal),
     topology: &Arc<Topology>,
@@ -175,8 +175,8 @@ fn sends(
     message(&pair.book, 1 - sender.min(1))
 }
 
-/// The other partition hears this message and that nothing else comes before 2,000,000 ns, and does
-/// so many events; so does a late sister.
+/// The other partition gets this message and learns that nothing else comes before 2,000,000 ns,
+/// and does so many events; so does a late sister.
 fn hears(
     rt: &(impl Abort + AllocGlobal),
     topology: &Arc<Topology>,

@@ -67,7 +67,7 @@ fn session_of(alloc: Global, topology: &Topology) -> Result<Session, Fail> {
     Ok(session)
 }
 
-/// A frame in octets, written again where memory was refused: then nothing was written.
+/// A frame in octets, written again if memory was refused: then nothing was written.
 fn octets_of(alloc: Global, frame: &Frame) -> Result<Vec<u8>, Fail> {
     let mut octets = Vec::new(alloc);
     if write_frame(frame, &mut octets).is_err() {
@@ -76,7 +76,7 @@ fn octets_of(alloc: Global, frame: &Frame) -> Result<Vec<u8>, Fail> {
     Ok(octets)
 }
 
-/// The next frame in octets, asked for again where memory was refused: nothing where there is none.
+/// The next frame in octets, asked for again if memory was refused: nothing if there is none.
 fn next_of(alloc: Global, session: &mut Session, book: &Book) -> Result<Vec<u8>, Fail> {
     let first = session.next_out(book);
     let frame = match first {

@@ -56,7 +56,7 @@ fn step(
     part.step(alloc, topology, topology.stop())
 }
 
-/// Does the first event of the whole network, again where memory was refused.
+/// Does the first event of the whole network, again if memory was refused.
 fn step_again(
     alloc: Global,
     topology: &Topology,
@@ -71,7 +71,7 @@ fn step_again(
     }
 }
 
-/// The same, where a refused step leaves all as it is in the twin, which is as far.
+/// The same; a refused step leaves all as it is in the twin, which is as far.
 fn step_at_last(
     rt: &(impl Abort + AllocGlobal),
     topology: &Topology,
@@ -116,8 +116,8 @@ fn run(
     holds(rt, "it ends", false);
 }
 
-/// The whole network at its start, of which these records are wanted, asked for again where memory
-/// was refused.
+/// The whole network at its start, with these wanted records, asked for again if memory was
+/// refused.
 fn started(
     alloc: Global,
     topology: &Topology,
@@ -134,11 +134,11 @@ fn started(
     }
 }
 
-/// What a run comes to: so many events and records, of which so many are kept, and what nodes
+/// The result of a run: so many events and records, of which so many are kept, and what nodes
 /// counted.
 type Want<'w> = (u64, u64, u64, &'w [(u32, Counter, u64)]);
 
-/// A part came to this.
+/// A part has this result.
 fn came_to(rt: &impl Abort, part: &Part<HeapList>, want: Want) {
     let (events, records, kept, counts) = want;
     eq_number(rt, "events", part.events(), events);
@@ -150,7 +150,7 @@ fn came_to(rt: &impl Abort, part: &Part<HeapList>, want: Want) {
     }
 }
 
-/// The run of a network comes to this.
+/// The run of a network has this result.
 fn runs_to(
     rt: &(impl Abort + AllocGlobal),
     topology: &Topology,

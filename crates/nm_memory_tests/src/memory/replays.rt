@@ -90,8 +90,8 @@ fn has_answers(rt: &impl Abort, report: &WorldReport, rows: &[Row], ending: (&'s
     }
 }
 
-/// Two partitions that tell each other what they sent, and a sister that hears of it later. Channel
-/// 0 goes from b, of partition 1, to a, channel 1 from a to b.
+/// Two partitions that send each other what they have, and a sister that gets it later. Channel 0
+/// goes from b, of partition 1, to a, channel 1 from a to b.
 fn late_sister() -> [Row; 13] {
     [
         (run(0, 0, 10), ("all", 0)),
@@ -130,7 +130,7 @@ fn are_same(rt: &impl Abort, report: &WorldReport, other: &WorldReport) {
     }
 }
 
-/// The steps that were done, and of a run at whose end memory was refused as many events as it did.
+/// The steps that were done, and of a run that ended with refused memory as many events as it did.
 fn done_of(
     alloc: Global,
     report: &WorldReport,
@@ -187,7 +187,7 @@ fn again(rt: &(impl Abort + AllocGlobal), rows: &[Row], steps: &[WorldStep]) -> 
     Ok(())
 }
 
-/// A replay, and the same once more where memory was refused.
+/// A replay, and the same once more if memory was refused.
 #[test]
 fn a_replay_ends_at_the_step(rt: HostRuntime) -> Result<(), Fail> {
     let rows = late_sister();

@@ -1,4 +1,4 @@
-//! `nm_base`: keys stand in their order, packets have a range of sizes, sinks take up to their
+//! `nm_base`: keys are in their order, packets have a range of sizes, sinks take up to their
 //! budget.
 
 use crate::tests::same::{eq_number, eq_octets, holds};
@@ -85,7 +85,7 @@ fn packets_are_twins(rt: HostRuntime) {
     eq_octets(&rt, "a copy", twin.copy.octets(), b"two");
 }
 
-/// A sink of this budget takes so much of a text, and says so.
+/// A sink of this budget takes so much of a text, and answers so.
 fn takes(rt: &(impl Abort + AllocGlobal), budget: usize, text: &[u8]) {
     let mut sink = MemSink::new(rt.alloc(), budget).expect(rt, "it succeeds");
     let (written, outcome) = write_counted(&mut sink, text);

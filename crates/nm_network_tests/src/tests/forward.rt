@@ -1,5 +1,5 @@
-//! `nm_forward`: the names of counters, look-ups of routes beside a plain scan, whose sources a
-//! node takes from, and what it sends on to a port that would drop it.
+//! `nm_forward`: the names of counters, look-ups of routes beside a plain scan, from which sources
+//! a node takes packets, and what it sends on to a port that would drop it.
 
 ghost use Rattle.std.specs.Prelude.{◌≡◌};
 ghost use Rattle.nm_forward.specs.State.{table_of};
@@ -221,7 +221,7 @@ impl Bench {
         Ok(Bench { topology, state })
     }
 
-    /// What the node does with a packet, which has at most 65,507 octets, where no port is known.
+    /// What the node does with a packet of at most 65,507 octets if no port is known.
     pub fn react(
         &mut self,
         rt: &(impl Abort + AllocGlobal),
@@ -231,7 +231,7 @@ impl Bench {
         self.react_before(rt, &[], origin, packet)
     }
 
-    /// The same where these are the ports of the interfaces.
+    /// The same with these as the ports of the interfaces.
     pub fn react_before(
         &mut self,
         rt: &(impl Abort + AllocGlobal),
@@ -250,7 +250,7 @@ impl Bench {
         )
     }
 
-    /// What the node does with a packet that it alone may have, where these records are wanted.
+    /// What the node does with a packet that it alone may have, with these wanted records.
     pub fn react_in_place(
         &mut self,
         rt: &impl AllocGlobal,
@@ -288,7 +288,7 @@ fn one_octet(rt: &(impl Abort + AllocGlobal)) -> Packet {
     packet.expect(rt, "one octet fits")
 }
 
-/// A node sends nothing of what a source hands over, and counts nothing.
+/// A node sends nothing of what a source gives, and counts nothing.
 fn does_nothing(rt: &(impl Abort + AllocGlobal), bench: &mut Bench, source: u32, packet: &Packet) {
     let origin = Origin::Source(SourceNo::new(source));
     let is_nothing = matches!(
@@ -344,7 +344,7 @@ fn port_with(rt: &(impl Abort + AllocGlobal), queue: u16, offers: usize) -> Port
     port
 }
 
-/// The router of the trio sends the datagram on by interface 2. It says whether its octets were
+/// The router of the trio sends the datagram on by interface 2. It answers whether its octets were
 /// not copied since this port there drops it; the packet is counted all the same.
 fn is_refused(rt: &(impl Abort + AllocGlobal), port: Option<Port>) -> bool {
     let mut bench = node_of_trio(rt, 1);
@@ -393,8 +393,8 @@ fn is_sent_on(rt: &impl Abort, via: IfaceNo, packet: &Packet) {
     eq_octets(rt, "what is sent", packet.octets(), FORWARDED);
 }
 
-/// The router of the trio sends the datagram on by interface 2. It says whether it was lowered
-/// where it lies; the datagram that another has stays as it is.
+/// The router of the trio sends the datagram on by interface 2. It answers whether it was lowered
+/// where it lies; a datagram with another owner stays as it is.
 fn is_passed(rt: &(impl Abort + AllocGlobal), packet: Packet, wanted: &Wanted) -> bool {
     let mut bench = node_of_trio(rt, 1);
     let reaction = match bench.react_in_place(rt, wanted, 1, packet) {
@@ -415,8 +415,7 @@ fn is_passed(rt: &(impl Abort + AllocGlobal), packet: Packet, wanted: &Wanted) -
     }
 }
 
-/// Rows of which records are wanted, and whether a datagram of which nobody else has the octets is
-/// lowered where it lies.
+/// Rows of wanted records, and whether a datagram with a single owner is lowered where it lies.
 #[test]
 fn packets_are_lowered_where_they_lie(rt: HostRuntime) {
     for (wanted, want) in [

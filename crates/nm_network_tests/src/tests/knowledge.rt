@@ -12,7 +12,7 @@ type Shown = (&'static [(u64, u8)], u64);
 /// What two know of a channel, what their merge answers, and what the first knows then.
 type Row = (Shown, Shown, Result<(), KnowFault>, Shown);
 
-/// A channel on which these messages were told, and then the clock.
+/// A channel with these messages, and then the clock.
 fn know_of(rt: &(impl Abort + AllocGlobal), shown: Shown) -> Know {
     let (messages, clock) = shown;
     let mut know = Know::new(rt.alloc());
@@ -36,7 +36,7 @@ fn is_same(one: &Know, other: &Know) -> bool {
     one.len() == other.len() && one.clock() == other.clock()
 }
 
-/// Merges are as said, and leave the other as it was.
+/// Merges answer so, and leave the other as it was.
 fn merge(rt: &(impl Abort + AllocGlobal), rows: &[Row]) {
     for (number, (ours, theirs, answer, after)) in rows.iter().enumerate() {
         let mut know = know_of(rt, *ours);
@@ -81,8 +81,8 @@ fn merges(rt: HostRuntime) {
     )
 }
 
-/// A copy of so many messages is equal, stays as it was when the original is told one more, and is
-/// the original once both are merged.
+/// A copy of so many messages is equal, stays as it was when the original gets one more, and is the
+/// original once both are merged.
 fn copy_and_merge(rt: &(impl Abort + AllocGlobal), count: u64) {
     let packet = packet_of(rt, &[3]);
     let mut know = Know::new(rt.alloc());

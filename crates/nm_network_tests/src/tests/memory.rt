@@ -1,8 +1,8 @@
 //! A refused growth is an error after which nothing has changed, and the same call then answers as
-//! if nothing had been refused: what these tests show where an allocation is refused
+//! if nothing had been refused: these tests show it when an allocation is refused
 //! (`dev/attack/refuse-growths`).
 //!
-//! What a test only needs is asked for twice, so that it is there even where memory was refused.
+//! What a test only needs is asked for twice, so that it is there even if memory was refused.
 
 use crate::tests::forward::{Bench, DATAGRAM, FORWARDED};
 use crate::tests::same::{eq_number, eq_numbers, eq_octets, holds};
@@ -37,7 +37,7 @@ fn packet_of(rt: &(impl Abort + AllocGlobal), octets: &[u8]) -> Packet {
     packet.expect(rt, "from 1 to 65,535 octets")
 }
 
-/// A text whose fault is the last that is looked for.
+/// A text with the fault that is looked for last.
 const CUT: &str = r#"format = 1
 stop = 1
 mtu = 1500
@@ -48,7 +48,7 @@ link = [ {a = "a0", b = "b0", rate = 1000, delay = 0} ]
 source = [ {kind = "raw", node = "a", via = "a0", packet = [ {at = 0, data = "45"} ]} ]
 "#;
 
-/// A text is refused for this at each of two calls, but at one of them for memory where that is
+/// A text is refused for this at each of two calls, but at one of them for memory if that is
 /// refused once.
 fn is_refused(rt: &(impl Abort + AllocGlobal), text: &str, refusal: Refusal) {
     let want = Some(TopoFault::Refused(refusal));
@@ -177,7 +177,7 @@ fn react_once(
     bench.react(rt, Origin::Source(SourceNo::new(number)), packet)
 }
 
-/// The same, asked again where memory was refused: then it had counted nothing.
+/// The same, asked again if memory was refused: then it had counted nothing.
 fn react_at_last(
     rt: &(impl Abort + AllocGlobal),
     bench: &mut Bench,

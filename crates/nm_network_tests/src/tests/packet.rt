@@ -1,5 +1,5 @@
 //! `nm_packet`: packets, datagrams and messages at worked values, the text of addresses and faults,
-//! and that each writer succeeds where there is memory.
+//! and that each writer succeeds if there is memory.
 
 use crate::tests::same::{eq_number, eq_numbers, eq_octets, eq_shown, holds};
 use nm_packet::{
@@ -267,7 +267,7 @@ fn packets_have_parts(rt: HostRuntime) {
     eq_number(&rt, "payload", view.payload().len() as u64, 20);
 }
 
-/// A packet, with so many zeros behind it, has this header where its time to live is one lower.
+/// A packet, with so many zeros behind it, has this header after its time to live is one lower.
 fn is_lowered_to(rt: &(impl Abort + AllocGlobal), text: &str, zeros: usize, want: &str) {
     let octets = padded(rt, text, zeros);
     let want = padded(rt, want, zeros);

@@ -70,7 +70,7 @@ fn answers_at(budget: usize) -> (Result<(), PcapFault>, Result<(), PcapFault>) {
     }
 }
 
-/// A sink of this budget has a prefix of the file, and the writer says so once.
+/// A sink of this budget has a prefix of the file, and the writer answers so once.
 fn is_cut(rt: &(impl Abort + AllocGlobal), record: &Record, front: &[u8])
     requires { «record».now.time ≡ 0 }
 {

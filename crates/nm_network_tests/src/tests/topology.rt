@@ -8,7 +8,7 @@ use nm_topology::{Topology, fault_number};
 use std::alloc::Global;
 use std::process::Abort;
 
-/// What is read of a text: the number of its fault, or 0 where it is accepted.
+/// What is read of a text: the number of its fault, or 0 if it is accepted.
 fn answer(alloc: Global, text: &[u8]) -> u64 {
     match Topology::read(alloc, text) {
         Ok(_) => 0,

@@ -52,7 +52,7 @@ fn source_of(rt: &(impl Abort + AllocGlobal), stop: u64, sources: &str, number: 
     Source::new(rt.alloc(), &topology, number).expect(rt, "it succeeds")
 }
 
-/// Rows of a packet's number, and of its time where there is one.
+/// Rows of a packet's number, and of its time if there is one.
 fn come_at(rt: &(impl Abort + AllocGlobal), source: &Source, rows: &[(u64, Option<u64>)]) {
     for (number, want) in rows {
         let packet = source.next(rt.alloc(), *number).expect(rt, "it succeeds");
@@ -182,7 +182,7 @@ const REQUESTS: &str = r#"
   {kind = "echo", node = "a", to = "10.0.0.2", ident = 4660, size = 3, fill = 171, start = 100, interval = 1, count = 65538}
 "#;
 
-/// The sequence number begins anew after 65,536 requests.
+/// The sequence number begins again after 65,536 requests.
 #[test]
 fn requests(rt: HostRuntime) {
     let rows = [
@@ -206,7 +206,7 @@ fn requests_without_data(rt: HostRuntime) {
     gives(&rt, 1, EMPTY, 0, &[(0, 0, "0800f7fe00010000")], &[]);
 }
 
-/// Three packets, the last of which comes as the run stops at 9.
+/// Three packets; the last one comes as the run stops at 9.
 const RAW: &str = r#"
   {kind = "raw", node = "b", via = "b0", packet = [ {at = 0, data = "45"}, {at = 3, data = "00ff"}, {at = 9, data = "0102"} ]}
 "#;

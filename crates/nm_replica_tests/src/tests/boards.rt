@@ -34,7 +34,7 @@ fn what_is_raised_is_found(rt: HostRuntime) -> Result<(), Fail> {
     Ok(())
 }
 
-/// A board closes without a seat, and without its owners, too: what they raised is told.
+/// A board closes without a seat, and without its owners, too: it gives what they raised.
 #[test]
 fn a_board_closes_without_a_seat(rt: HostRuntime) -> Result<(), Fail> {
     let alloc = rt.alloc();

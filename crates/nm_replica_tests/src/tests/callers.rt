@@ -1,4 +1,4 @@
-//! Threads that tell one shared book the same.
+//! Threads that give one shared book the same messages.
 
 ghost use Rattle.std.specs.Prelude.{◌≡◌, ◌^◌};
 ghost use Rattle.std.specs.Arc.{arc_value};
@@ -38,7 +38,7 @@ pub(crate) fn shared_of<M: Naming + Send + Sync, E: Ledger + Send + Sync, R: Abo
     SharedBook::new(alloc, topology, PartNo::new(1), replica, counts, whole).expect(rt, "a replica")
 }
 
-/// So many threads that hand a book the same messages.
+/// So many threads that give a book the same messages.
 #[derive(Clone, Copy)]
 struct Crowd<'a> {
     threads: usize,
@@ -111,7 +111,7 @@ fn gather<C: Counts, R: Abort>(
     handed
 }
 
-/// Threads hand a book the same messages, each with a pass of its own.
+/// Threads give a book the same messages, each with a pass of its own.
 fn hand_at_once<M: Naming + Send + Sync, E: Ledger + Send + Sync, R: Threads + Wait + Sync + Abort>(
     rt: &R,
     alloc: Global,
@@ -127,8 +127,8 @@ fn hand_at_once<M: Naming + Send + Sync, E: Ledger + Send + Sync, R: Threads + W
     .expect(rt, "memory")
 }
 
-/// Closes a book with all its passes, of which the last comes late. It does not close without that
-/// one: all comes back, and nothing is lost.
+/// Closes a book with all its passes; the last comes late. Without that one it does not close: all
+/// comes back, and nothing is lost.
 fn close_at_last<M: Naming + Send + Sync, E: Ledger + Send + Sync, R: Abort>(
     rt: &R,
     shared: SharedBook<Ledgers<M, E>>,
@@ -150,7 +150,7 @@ fn close_at_last<M: Naming + Send + Sync, E: Ledger + Send + Sync, R: Abort>(
     }
 }
 
-/// So many threads hand one book the same messages.
+/// So many threads give one book the same messages.
 fn handed_by_many<
     M: Naming + Send + Sync,
     E: Ledger + Send + Sync,
@@ -179,14 +179,14 @@ fn handed_by_many<
     }
 }
 
-/// Threads hand the book of SPLIT's partition 1 the same messages.
+/// Threads give the book of SPLIT's partition 1 the same messages.
 fn hands<R: Threads + Wait + Sync + Abort>(rt: &R, alloc: Global, crowd: Crowd<'_>) -> Handed {
     let topology = topology_of(rt, alloc, SPLIT);
     let (messages, events) = (Blank::new(PARTS), Blank::new(PARTS));
     handed_by_many::<Brand, Brand, R>(rt, alloc, topology, messages, events, crowd)
 }
 
-/// Of two threads one tells it first: one answer is `New` and the other `Known`.
+/// One of two threads gives it first: one answer is `New` and the other `Known`.
 #[test]
 fn one_is_new_and_one_is_known(rt: HostRuntime) {
     let all = [message(&rt, rt.alloc(), 1, 0, 1_100_000)];

@@ -1,4 +1,4 @@
-//! A replica that is made anew, and takes in what its sister knows.
+//! A replica that is made again, and takes in what its sister knows.
 
 ghost use Rattle.std.specs.Prelude.{◌≡◌, ◌^◌};
 ghost use Rattle.std.specs.Arc.{arc_value};
@@ -21,14 +21,14 @@ use std::process::Abort;
 use std::sync::ledger::{Blank, Ledger};
 use std::sync::{Arc, Wait};
 
-/// A replica that is made: which one, and what its sister knows, where it is to merge that.
+/// A replica that is made: which one, and what its sister knows, if it is to merge that.
 #[derive(Clone, Copy)]
 struct Made<'a> {
     replica: u8,
     sister: Option<&'a Knowledge>,
 }
 
-/// What a replica came to: its book, the totals of all its passes, and the null message of channel
+/// The result of a replica: its book, the totals of all its passes, and the null message of channel
 /// 0, which goes out.
 #[derive(Drop)]
 struct Finished {
@@ -81,8 +81,8 @@ fn tell_all<C: Counts, R: Wait + Abort>(
     }
 }
 
-/// A replica is told all, or merges what its sister knows, and does its event: what it came to, and
-/// what it knew before.
+/// A replica gets all messages, or merges what its sister knows, and does its event: the result,
+/// and what it knew before.
 fn made_of<M: Naming + Send + Sync, E: Ledger + Send + Sync, R: Wait + Abort>(
     rt: &R,
     alloc: Global,
@@ -122,7 +122,7 @@ fn make<R: Wait + Abort>(
     made_of::<Brand, Brand, R>(rt, alloc, topology, made, messages, events)
 }
 
-/// Replica 1, made anew of what its sister knows: what it came to.
+/// Replica 1, made again of what its sister knows: the result.
 fn made_anew<R: Wait + Abort>(
     rt: &R,
     alloc: Global,
@@ -164,7 +164,7 @@ fn are_alike<R: Abort>(rt: &R, one: &Finished, other: &Finished) {
     }
 }
 
-/// A replica that was let go after its event is made anew. It merges what its sister knows and
+/// A replica that was dropped after its event is made again. It merges what its sister knows and
 /// runs: then it knows and did as much, promises the same, and has the same trace; and the passes
 /// of each are accounted for.
 #[test]

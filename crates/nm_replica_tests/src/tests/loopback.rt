@@ -19,7 +19,7 @@ use std::time::Clock;
 #[derive(Clone, Copy)]
 struct Side<'a> {
     company: Company,
-    /// Where it listens, and where its peers do.
+    /// The address of a replica, and those of its peers.
     own: SocketAddr,
     peers: &'a [SocketAddr],
     /// Connections that it begins fail after these numbers of octets, from the last number on.
@@ -115,7 +115,7 @@ fn two_threads_meet(rt: HostRuntime) {
     assert!(rt; meet(&rt, rt.alloc(), SHIFT, &[]) == 0);
 }
 
-/// Over eight connections that break, at most after the greeting and a message, which is written
+/// Over eight connections that break, at most after the Hello and a message, which is written
 /// again.
 #[test]
 fn two_threads_meet_again(rt: HostRuntime) {

@@ -36,7 +36,7 @@ fn address(end: (u8, u16)) -> SocketAddr {
     SocketAddr::from((Ipv4Addr::new(127, 0, 0, host), port))
 }
 
-/// A connection meets itself where both ends are one address and one port.
+/// A connection meets itself if both ends are one address and one port.
 #[test]
 fn one_address_and_port_meet_themselves(rt: HostRuntime) -> Result<(), Fail> {
     for ends in ENDS {

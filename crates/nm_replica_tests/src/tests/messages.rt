@@ -19,7 +19,7 @@ pub fn null(channel: u32, count: u64, clock: u64) -> Null
     }
 }
 
-/// A message whose packet is its number.
+/// A message with its number as its packet.
 pub fn message<R: Abort>(
     rt: &R,
     alloc: Global,

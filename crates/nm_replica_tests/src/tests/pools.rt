@@ -81,7 +81,7 @@ fn is_all(answer: &Ran, count: u64) -> bool {
     matches!(answer, Ran::All(n) if *n == count)
 }
 
-/// A book of partition 0 of the ring is told the clock of both channels that come in.
+/// A book of partition 0 of the ring gets the clock of both incoming channels.
 fn tell_both<R: Wait + Abort>(rt: &R, book: &SharedBook<Plain>, pass: &mut Pass<Plain>) {
     for channel in [0, 5] {
         let told = ChannelMessage::Null(null(channel, 0, 1_000_000));
@@ -113,7 +113,7 @@ fn is_limit(answer: &Ran, count: u64) -> bool {
 }
 
 /// Each job runs the book that it names, and does no more events than it asks for. It runs between
-/// what the gate is told.
+/// the two calls of the gate.
 #[test]
 fn each_job_runs_its_book(rt: HostRuntime) {
     let alloc = rt.alloc();

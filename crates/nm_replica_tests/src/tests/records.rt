@@ -1,4 +1,4 @@
-//! Records that are left to write, and who is told of them.
+//! Records that are left to write, and who learns of them.
 
 use crate::tests::scripted::{NEVER, Scripted};
 use crate::tests::sides::{book_of, topology_of};
@@ -37,7 +37,7 @@ count = 10000
 "#;
 
 /// What a poll left: how many waits ran out so far, how many records were handed out, and whether a
-/// pool is told of news.
+/// pool gets news.
 #[derive(Clone, Copy)]
 struct Left {
     waited: u64,
@@ -108,7 +108,7 @@ fn three_polls<R: Wait + Abort>(rt: &R, alloc: Global, topology: &Arc<Topology>)
     left
 }
 
-/// A poll does not wait while records are left to write, and a pool is told as long as some were.
+/// A poll does not wait while records are left to write, and a pool gets news as long as some were.
 #[test]
 fn records_are_left(rt: HostRuntime) {
     let alloc = rt.alloc();

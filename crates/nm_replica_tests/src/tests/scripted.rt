@@ -1,4 +1,4 @@
-//! A transport in memory that does what a script says, and fails at some calls.
+//! A transport in memory with a script, which fails at some calls.
 
 ghost use Rattle.std.specs.Prelude.{◌≡◌, ◌+◌, [], IfSome, Some};
 
@@ -41,7 +41,7 @@ const QUIET_READS: usize = 20;
 /// How many octets a slow connection gives singly.
 const SINGLE_OCTETS: usize = 60;
 
-/// What the reads of a slow connection do, or `None` where memory was refused.
+/// What the reads of a slow connection do, or `None` if memory was refused.
 fn slow_reads(alloc: Global, first: usize) -> Option<VecDeque<ScriptedRead>> {
     let mut reads = VecDeque::new(alloc);
     reads.push_back(ScriptedRead::Gives(first)).ok()?;
@@ -55,7 +55,7 @@ fn slow_reads(alloc: Global, first: usize) -> Option<VecDeque<ScriptedRead>> {
 }
 
 /// A transport whose connections give these octets, one after the other from the last on, and then
-/// nothing. They are the peers' that the replica calls, or of those who call.
+/// nothing. They are of peers that the replica calls, or of callers.
 #[derive(Drop)]
 pub struct Scripted {
     alloc: Global,
@@ -81,7 +81,7 @@ pub struct Scripted {
 }
 
 impl Scripted {
-    /// Connections with these octets, of those who call, or else of peers that are called.
+    /// Connections with these octets, of callers, or else of peers that are called.
     pub fn new(alloc: Global, sources: Vec<Vec<u8>>, called: bool, fails: Fails) -> Self {
         Scripted {
             alloc,

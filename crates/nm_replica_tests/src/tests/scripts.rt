@@ -1,4 +1,4 @@
-//! Replicas over transports that do what a script says: who speaks with them, and which calls fail.
+//! Replicas over transports with scripts: who speaks with them, and which calls fail.
 
 use crate::tests::scripted::{Fails, Manner, NEVER, Scripted};
 use crate::tests::sides::{Company, Noting, STAYS, serve, topology_of};
@@ -33,7 +33,7 @@ struct Script {
 #[derive(Clone, Copy)]
 struct Outcome {
     served: Served,
-    /// How many octets it said have moved.
+    /// How many octets moved, by its answer.
     moved: u64,
     /// How many connections were begun, and how many waits ran out.
     given: u64,
@@ -43,7 +43,7 @@ struct Outcome {
     most: u64,
 }
 
-/// What those who speak say, the last of them first.
+/// What the other ends send, the last of them first.
 fn sources_of<R: Abort>(rt: &R, alloc: Global, script: &Script) -> Vec<Vec<u8>> {
     let digest = digest_of(rt, alloc);
     let mut sources = Vec::new(alloc);
@@ -56,7 +56,7 @@ fn sources_of<R: Abort>(rt: &R, alloc: Global, script: &Script) -> Vec<Vec<u8>> 
     sources
 }
 
-/// Serves a replica as a script says.
+/// Serves a replica by a script.
 fn came_of<R: Wait + Abort>(rt: &R, alloc: Global, script: &Script) -> Outcome {
     let topology = topology_of(rt, alloc, SPLIT);
     let sources = sources_of(rt, alloc, script);
@@ -97,7 +97,7 @@ fn called_by(voices: &'static [(usize, Voice)], idle_limit: u64) -> Script {
 struct Row {
     /// Partition 1, which is called; or else partition 0, which calls.
     is_called: bool,
-    /// The replica that each connection's Hello tells.
+    /// The replica in each connection's Hello.
     voices: &'static [(usize, Voice)],
     /// A wait reports no connection.
     is_silent: bool,
@@ -188,8 +188,8 @@ fn links_end(rt: HostRuntime) {
     }
 }
 
-/// How a replica of SPLIT ends whose only peer says all at once, over two connections if it has to:
-/// partition 0 calls it, partition 1 is called.
+/// How a replica of SPLIT ends if its only peer sends all at once, over two connections if it has
+/// to: partition 0 calls it, partition 1 is called.
 fn ending_of<R: Wait + Abort>(
     rt: &R,
     alloc: Global,
@@ -227,8 +227,8 @@ fn a_failing_call_is_made_again(rt: HostRuntime) {
     }
 }
 
-/// Calls that fail for good: no connection comes, and the replica is stalled at its limit. Where
-/// that is far, waits that fail end it, since nobody may wait.
+/// Calls that fail for good: no connection comes, and the replica is stalled at its limit. If that
+/// is far, waits that fail end it, since nobody may wait.
 #[test]
 fn calls_that_fail_for_good_end(rt: HostRuntime) {
     for me in 0..2u32 {
@@ -273,8 +273,8 @@ fn calls_have_an_end(rt: HostRuntime) {
     }
 }
 
-/// A call that is held, and then one that is answered; or one whose peer vanished after its Hello:
-/// the replica is done.
+/// A call that is held, and then one that is answered; or one to a peer that vanished after its
+/// Hello: the replica is done.
 #[test]
 fn a_call_that_was_held_is_made_again(rt: HostRuntime) {
     const HELD: &[(usize, Voice)] = &[(1, Voice::Silent), (2, Voice::Peer(0))];
@@ -286,8 +286,8 @@ fn a_call_that_was_held_is_made_again(rt: HostRuntime) {
     }
 }
 
-/// A peer that greets and cuts is called once a period, and is no progress: the gate is told of the
-/// octets of its Hellos, and the replica is stalled.
+/// A peer that sends its Hello and cuts is called once a period, and is no progress: the gate
+/// counts the octets of its Hellos, and the replica is stalled.
 #[test]
 fn who_greets_and_cuts_stalls(rt: HostRuntime) {
     let limit = 2 * GREETING_PERIODS;
@@ -297,7 +297,7 @@ fn who_greets_and_cuts_stalls(rt: HostRuntime) {
     assert!(rt; came.given > 2 && came.given <= limit + 1);
 }
 
-/// What a peer says slowly counts from a second after its Hello on: the replica is not stalled
+/// What a peer sends slowly counts from a second after its Hello on: the replica is not stalled
 /// while it comes, however long that takes.
 #[test]
 fn slow_octets_count(rt: HostRuntime) {
@@ -317,7 +317,7 @@ fn rubbish(rt: HostRuntime) {
     assert!(rt; came_of(&rt, rt.alloc(), &after).served == Served::Net);
 }
 
-/// The gate is never told of the octets of strangers, and the replica is stalled as if nobody had
+/// The gate never counts the octets of strangers, and the replica is stalled as if nobody had
 /// called.
 fn are_never_told<R: Wait + Abort>(rt: &R, alloc: Global, strangers: &'static [(usize, Voice)]) {
     let came = came_of(rt, alloc, &called_by(strangers, 4));
@@ -325,14 +325,14 @@ fn are_never_told<R: Wait + Abort>(rt: &R, alloc: Global, strangers: &'static [(
     assert!(rt; came.moved == 0 && came.most == 3);
 }
 
-/// Of strangers that stop in the middle of a Hello, and of those that say nothing.
+/// Of strangers that stop in the middle of a Hello, and of silent ones.
 #[test]
 fn octets_of_strangers_are_never_told(rt: HostRuntime) {
     are_never_told(&rt, rt.alloc(), &[(3, Voice::Begun)]);
     are_never_told(&rt, rt.alloc(), &[(3, Voice::Silent)]);
 }
 
-/// The gate is told of all that moves with a peer, its Hello with it.
+/// The gate counts all that moves with a peer, its Hello with it.
 #[test]
 fn octets_of_a_peer_are_told(rt: HostRuntime) {
     let came = came_of(&rt, rt.alloc(), &called_by(&[(1, Voice::Peer(0))], STAYS));
@@ -345,7 +345,7 @@ fn open_after<R: Wait + Abort>(rt: &R, alloc: Global, idle_limit: u64) -> u64 {
     came_of(rt, alloc, &called_by(&[(1, Voice::Silent)], idle_limit)).open
 }
 
-/// A stranger that says no Hello is let go after its polls, and not before.
+/// A stranger that sends no Hello is let go after its polls, and not before.
 #[test]
 fn a_stranger_is_let_go(rt: HostRuntime) {
     let limit = HELLO_PERIODS;
@@ -353,7 +353,7 @@ fn a_stranger_is_let_go(rt: HostRuntime) {
     assert!(rt; open_after(&rt, rt.alloc(), limit.saturating_add(1)) == 0);
 }
 
-/// How many connections are open of partition 1 in the end, on which these said Hello.
+/// How many connections of partition 1 are open in the end, on which these sent Hello.
 fn open_of<R: Wait + Abort>(rt: &R, alloc: Global, voices: &'static [(usize, Voice)]) -> u64 {
     let came = came_of(rt, alloc, &called_by(voices, 4));
     assert!(rt; came.given == 2 && came.most == 2);

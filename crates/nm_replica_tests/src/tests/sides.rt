@@ -21,7 +21,7 @@ use std::sync::atomic::{AtomicU64, Ordering};
 use std::sync::{Arc, Wait};
 use std::time::Clock;
 
-/// A replica that was served: what that came to, its book, and how many messages it wrote again.
+/// A replica that was served: how it ended, its book, and how many messages it wrote again.
 #[derive(Drop)]
 pub struct Closed {
     pub served: Served,
@@ -165,8 +165,8 @@ fn resent_of(progress: &Progress, partition: PartNo) -> u64 {
     }
 }
 
-/// Serves a replica with a pass of its book: what that came to, the pass, and how many messages it
-/// wrote again.
+/// Serves a replica with a pass of its book: how it ended, the pass, and how many messages it wrote
+/// again.
 fn serve_with<N: Transport, R: Wait + Abort>(
     rt: &R,
     alloc: Global,

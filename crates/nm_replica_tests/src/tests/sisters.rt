@@ -16,7 +16,7 @@ use std::alloc::Global;
 use std::process::Abort;
 use std::sync::{Arc, Wait};
 
-/// A pass of a book that is told of one message and that nothing else comes, and does its events.
+/// A pass of a book that gets one message and learns that nothing else comes, and does its events.
 fn finish<R: Wait + Abort>(rt: &R, alloc: Global, book: &SharedBook<Plain>) -> Pass<Plain> {
     let mut pass = book.pass(rt).expect(rt, "memory");
     let only = message(rt, alloc, 1, 0, 1_100_000);
@@ -84,7 +84,7 @@ fn serve_beside<R: Wait + Abort>(
     )
 }
 
-/// Both replicas of partition 1, the first of which knows all.
+/// Both replicas of partition 1; the first knows all.
 fn serve_both<R: Wait + Abort>(
     rt: &R,
     alloc: Global,

@@ -1,11 +1,11 @@
-//! What a peer says over a whole connection, as the frames of docs/PROTOCOL.md.
+//! What a peer sends over a whole connection, as the frames of docs/PROTOCOL.md.
 
 use nm_fixtures::{SPLIT, ZEROS};
 use nm_topology::Topology;
 use std::alloc::Global;
 use std::process::Abort;
 
-/// All that replica 0 of partition 0 says once it is done, to a replica that has no message yet:
+/// All that replica 0 of partition 0 sends once it is done, to a replica that has no message yet:
 /// Hello, Have, its message, a null message and Bye. Its link has a delay of 1,000,000 ns, and
 /// takes at least 1,000 ns for a packet, so that after `stop` it promises 11,001,000 ns.
 const ZERO_SAYS: &str = "0000002c 01 4e4d5331 0002 00000000 00 DIGEST \
@@ -27,7 +27,7 @@ const HELLO_AND_RUBBISH: &str = "0000002c 01 4e4d5331 0002 00000000 00 DIGEST 00
 /// No frame has this kind.
 const RUBBISH: &str = "00000001 4d";
 
-/// Where a Hello tells the replica.
+/// The place of the replica in a Hello.
 const REPLICA_AT: usize = 15;
 
 /// The octets of a Hello with its length.
@@ -36,21 +36,21 @@ pub const HELLO_OCTETS: usize = 48;
 /// Who speaks over a connection.
 #[derive(Clone, Copy)]
 pub enum Voice {
-    /// The peer's replica of this number, which says all.
+    /// The peer's replica of this number, which sends all.
     Peer(u8),
-    /// The peer's replica of this number, which says its Hello and no more.
+    /// The peer's replica of this number, which sends its Hello and no more.
     Greeted(u8),
     /// One that stops in the middle of a Hello.
     Begun,
-    /// One that says nothing.
+    /// One that sends nothing.
     Silent,
-    /// One that says no frame.
+    /// One that sends octets that are no frame.
     Rubbish,
-    /// One that says a Hello, and then no frame.
+    /// One that sends a Hello, and then octets that are no frame.
     RubbishBehindHello,
 }
 
-/// The text in hexadecimal of what is said to a replica that is called, or to one that calls.
+/// The octets sent to a replica that is called, or to one that calls, in hexadecimal.
 fn text_of(voice: Voice, is_called: bool) -> &'static str {
     match voice {
         Voice::Peer(_) | Voice::Greeted(_) | Voice::Begun => {
@@ -80,14 +80,14 @@ pub fn digest_of<R: Abort>(rt: &R, alloc: Global) -> [u8; 32] {
         .digest()
 }
 
-/// The Hello that what is said begins with is that of this replica.
+/// The Hello at the begin of these octets is that of this replica.
 fn set_replica(said: &mut [u8], replica: u8) {
     if let Some(octet) = said.get_mut(REPLICA_AT) {
         *octet = replica;
     }
 }
 
-/// What somebody says to a replica that is called, or to one that calls.
+/// The octets sent to a replica that is called, or to one that calls.
 pub fn said_by<R: Abort>(
     rt: &R,
     alloc: Global,

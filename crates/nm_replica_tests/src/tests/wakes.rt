@@ -28,7 +28,7 @@ fn a_wake_ends_one_wait(rt: HostRuntime) {
             ended = ended.saturating_add(1);
         }
     }
-    // Where the host stops this test for longer than a period, that wait runs out.
+    // If the host stops this test for longer than a period, that wait runs out.
     assert!(rt; ended > 0);
     let (first, second) = (transport.wait(true), transport.wait(true));
     assert!(rt; first == Waited::RanOut || second == Waited::RanOut);

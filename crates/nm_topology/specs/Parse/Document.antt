@@ -22,7 +22,7 @@ abbrev pub format_of : Data → Result Format Refusal
 format_of d =
     number_in FORMAT.least FORMAT.greatest d >>= λ n. Ok (if n == 1 then One else Two)
 
--- the arrays of tables of a text with this head that stops then
+-- the arrays of tables of a text with this head and this `stop`
 unfoldable pub with_tables : Head → ℕ → Members → Result DocumentValue Refusal
 with_tables head stop t = do
   nodes ← tables_at node_table_of array.Node t

@@ -37,7 +37,7 @@ number_in least greatest _ = Err Kind
 abbrev pub number_at : TableKey → Bounds → Members → Result ℕ Refusal
 number_at key b t = required (number_in b.least b.greatest) (value_at key t)
 
--- the same, where the key may be absent
+-- the same, but the key may be absent
 abbrev pub number_or : ℕ → TableKey → Bounds → Members → Result ℕ Refusal
 number_or absent key b t = optional absent (number_in b.least b.greatest) (value_at key t)
 
@@ -60,7 +60,7 @@ all_among ks (member k d ms) = list_any (λ l. bytes_eq l k) ks && all_among ks 
 abbrev pub only : List (List ℕ) → Members → Result Unit Refusal
 only ks ms = if all_among ks ms then Ok tt else Err UnknownKey
 
--- a text, and a text in a form, read as what it stands for
+-- a text, and a text in a form, read as its value
 abbrev pub plain_text : Data → Result (List ℕ) Refusal
 plain_text (string s) = Ok s
 plain_text _ = Err Kind

@@ -33,7 +33,7 @@ is_name (c ∷ cs) =
 abbrev pub name_of : List ℕ → Option (List ℕ)
 name_of text = if is_name text then Some text else None
 
--- the address that a text writes
+-- the address in a text
 abbrev pub address_of : List ℕ → Option ℕ
 address_of text = least_below (2 ^ 32) (λ a. bytes_eq text (address_text a))
 
@@ -42,11 +42,11 @@ abbrev pub usable_address_of : List ℕ → Option ℕ
 usable_address_of text =
     option_and_then (λ a. if is_martian a then None else Some a) (address_of text)
 
--- the length of a prefix that a text writes, 0 to 32
+-- the length of a prefix in a text, 0 to 32
 abbrev pub length_of : List ℕ → Option ℕ
 length_of text = least_below 33 (λ n. bytes_eq text (decimal n))
 
--- the prefix of these bits and this length, where the bits past the length are 0
+-- the prefix of these bits and this length, if the bits past the length are 0
 abbrev pub prefix_at : ℕ → ℕ → Option Prefix
 prefix_at bits n =
     if bits % 2 ^ (32 - n) == 0 then Some (record { address = bits; length = n }) else None
@@ -54,7 +54,7 @@ prefix_at bits n =
 abbrev pub is_slash : ℕ → Bool
 is_slash c = c == 47
 
--- an address, a slash and a length, where the bits of the address past that length are 0
+-- an address, a slash and a length, if the bits of the address past that length are 0
 abbrev pub prefix_of : List ℕ → Option Prefix
 prefix_of text =
     option_and_then

@@ -1,4 +1,4 @@
--- The ranges of what a topology text says, with names in place of numbers.
+-- The ranges of the values of a topology text, with names in place of numbers.
 use Rattle.std.specs.Prelude.{ℕ, ◌≤◌, All, length, IfSome}
 use Rattle.nm_base.specs.declared.limits.TheConstants.{MAX_PORTS_OF_NODE}
 use Rattle.nm_topology.specs.declared.keys.fields.TheConstants.{DELAY, MTU, QUEUE, QUEUE_OCTETS}

@@ -62,7 +62,7 @@ packets_of mtu (array ds) =
     else Err Kind
 packets_of mtu _ = Err Kind
 
--- the keys that UDP and echo sources share, but for what leads to them
+-- the keys that UDP and echo sources share, but for those before them
 unfoldable pub flow_of : ℕ → Members → Result Flow Refusal
 flow_of mtu t = do
   size ← number_at key.Size (size_under mtu) t
@@ -80,7 +80,7 @@ flow_of mtu t = do
     ttl = ttl;
   })
 
--- what the keys of a kind say of its packets
+-- the packets by the keys of a kind
 unfoldable pub cbr_of : ℕ → Members → Result NamedTraffic Refusal
 cbr_of mtu t = do
   to ← text_at usable_address_of key.To t

@@ -30,7 +30,7 @@ node_table_of t = do
       (value_at key.Ports t)
   Ok (record { name = name; kind = kind; partition = partition; ports = ports })
 
--- in format 2 the key `queue_octets` stands last, and may be absent; format 1 does not know it
+-- in format 2 the key `queue_octets` is the last one, and may be absent; format 1 does not know it
 abbrev pub iface_fields : Format → List Field
 iface_fields One = IFACE_TABLE_ONE
 iface_fields Two = IFACE_TABLE_TWO

@@ -1,4 +1,4 @@
-//! What hangs together: the far end of each interface, the routes of each node.
+//! The wiring: the far end of each interface, the routes of each node.
 
 ghost use Rattle.std.specs.Prelude.{◌≡◌, ℕ, ◌<◌, ◌≤◌, [], Some, All, length, slice_get};
 ghost use Rattle.std.specs.Prelude.{slice_index_or, filter, IfOk};

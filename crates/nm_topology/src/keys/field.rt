@@ -1,4 +1,4 @@
-//! What stands behind the keys of a table.
+//! The values of the keys of a table.
 
 use crate::keys::array::Array;
 use crate::keys::key::TableKey;
@@ -10,12 +10,12 @@ pub struct Bounds {
     pub greatest: u64,
 }
 
-/// What stands behind a key.
+/// The value of a key.
 #[derive(Clone, Copy)]
 pub enum Form {
     /// A whole number within these bounds.
     Number(Bounds),
-    /// The same, where the key may be absent.
+    /// The same, but the key may be absent.
     OptionalNumber(Bounds),
     /// Octets of data of a source's packet, within the bounds of `fields::size_under`.
     Size,
@@ -29,7 +29,7 @@ pub enum Form {
     NodeKind,
     /// "cbr", "echo" or "raw".
     SourceKind,
-    /// UDP ports, of which there are at most 64. The key may be absent.
+    /// UDP ports, at most 64. The key may be absent.
     Ports,
     /// Tables. The key may be absent.
     Tables(Array),
@@ -39,7 +39,7 @@ pub enum Form {
     Octets,
 }
 
-/// A key of a table, and what stands behind it.
+/// A key of a table, and its value.
 #[derive(Clone, Copy)]
 pub struct Field {
     pub key: TableKey,

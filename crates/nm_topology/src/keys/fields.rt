@@ -1,6 +1,6 @@
 //! The fields of each kind of table, in the order in which they are read. Readers read by a range,
-//! and definitions name it; which numbers it has is a law (`laws::ranges_of_numbers`). What those
-//! above rely on is said in the words of `nm_base::limits` (`specs/Limits.antt`), and follows.
+//! and definitions name it; a law says which numbers it has (`laws::ranges_of_numbers`). What the
+//! crates above rely on is in terms of `nm_base::limits` (`specs/Limits.antt`), and follows.
 
 ghost use Rattle.std.specs.Prelude.{◌≡◌};
 ghost use Rattle.nm_topology.specs.Keys.{packet_table, size_under, time_from};
@@ -14,7 +14,7 @@ use nm_base::limits::{
 };
 use nm_packet::limits::HEADERS;
 
-/// A field: its key, and what stands behind it. (A constant can call no function.)
+/// A field: its key, and its value. (A constant can call no function.)
 macro_rules! field {
     ($key:ident, $form:expr) => {
         Field {
@@ -156,7 +156,7 @@ pub const ROUTE_TABLE: [Field; 3] = [
 /// The kind of a source, which is read before all else.
 pub const KIND_OF_SOURCE: [Field; 1] = [field!(Kind, Form::SourceKind)];
 
-/// A table of `source` whose packets are alike: these fields, and those that tell its flow.
+/// A table of `source` with packets that are alike: these fields, and those of its flow.
 macro_rules! flow_table {
     ($($field:expr),*) => {
         [
@@ -191,7 +191,7 @@ pub const RAW_TABLE: [Field; 4] = [
     field!(Packet, Form::Packets),
 ];
 
-/// A table of `packet` whose time is at least so many nanoseconds.
+/// A table of `packet` with a time of at least so many nanoseconds.
 pub fn packet_table(least: u64) -> [Field; 2]
     ensures { result ≡ packet_table least }
 {

@@ -42,7 +42,7 @@ pub enum TableKey {
 }
 
 impl TableKey {
-    /// The key, as it stands in a text.
+    /// The key, as a text has it.
     pub fn text(self) -> &'static str
         ensures { result.now ≡ key_text self }
     {

@@ -1,4 +1,4 @@
-//! Arrays of a topology text: what each member is read to, in order.
+//! Arrays of a topology text: the value of each member, in order.
 
 ghost use Rattle.std.specs.Prelude.{◌≡◌, ◌≤◌, Bool, [], length, IfOk, Result};
 ghost use Rattle.toml.specs.Data.{Data, Members};
@@ -19,7 +19,7 @@ use crate::parse::head::Head;
 use std::alloc::Global;
 use toml::{Table, Value};
 
-/// What a member of an array is read to.
+/// The value of a member of an array.
 pub trait Member: Drop {
     // Whether a value has the TOML type of these members.
     ghost has_type: { Data → Bool };
@@ -31,7 +31,7 @@ pub trait Member: Drop {
 
 /// A member that is read by itself.
 pub trait Element: Member {
-    // What a value is read to, in a text with this head.
+    // The value of it, in a text with this head.
     ghost reads: { HeadValue → Data → Result Self RefusalValue };
 
     /// Reads a member of a text with this head.
@@ -41,7 +41,7 @@ pub trait Element: Member {
 
 /// A member that is a table, and is read by its keys.
 pub trait FromTable: Drop {
-    // What a table is read to, in a text with this head.
+    // The value of a table, in a text with this head.
     ghost of_table: { HeadValue → Members → Result Self RefusalValue };
 
     /// Reads a table of a text with this head.

@@ -21,7 +21,7 @@ use std::alloc::Global;
 use std::marker::Model;
 use toml::Table;
 
-/// What a topology text says.
+/// The content of a topology text.
 #[derive(Drop)]
 pub struct Document {
     pub stop: Time,
@@ -56,7 +56,7 @@ impl Model for Document {
     } };
 }
 
-/// Reads the arrays of tables of a text with this head that stops then.
+/// Reads the arrays of tables of a text with this head and this `stop`.
 #[tactic(auto, unfolding(crate::specs::Parse::Document::with_tables))]
 fn read_tables(alloc: Global, head: Head, stop: Time, table: &Table) -> Result<Document, TopoFault>
     ensures { Gives (λ x. x) result (with_tables head stop (table_view table.now)) }

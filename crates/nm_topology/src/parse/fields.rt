@@ -139,7 +139,7 @@ pub fn is_key_of(fields: &[Field], key: &str) -> bool
     false
 }
 
-/// Refuses a table that has a key which is that of none of these fields.
+/// Refuses a table with a key that is none of these fields'.
 pub fn only(table: &Table, fields: &[Field]) -> Result<(), TopoFault>
     ensures { Gives (λ u. u) result (only (keys_of fields.now) (table_view table.now)) }
 {

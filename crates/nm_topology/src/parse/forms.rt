@@ -35,7 +35,7 @@ pub fn is_name(text: &[u8]) -> bool
     }
 }
 
-/// The address that the text writes.
+/// The address in a text.
 pub fn address_of(text: &[u8]) -> Option<Address>
     ensures { result ≡ address_of text.now }
 {
@@ -45,7 +45,7 @@ pub fn address_of(text: &[u8]) -> Option<Address>
     }
 }
 
-/// The bits of the address that the text writes.
+/// The bits of the address in a text.
 fn bits_of(text: &[u8]) -> Option<u32>
     ensures found { IfSome result (λ a. (a < 2 ^ 32) × (text.now ≡ address_text a)) }
     ensures only { (a : ℕ) → a < 2 ^ 32 → text.now ≡ address_text a → result ≡ Some a }
@@ -56,7 +56,7 @@ fn bits_of(text: &[u8]) -> Option<u32>
     }
 }
 
-/// The address that the text writes, if it is no martian.
+/// The address in a text, if it is no martian.
 pub fn usable_address_of(text: &[u8]) -> Option<Address>
     ensures { result ≡ usable_address_of text.now }
 {
@@ -70,7 +70,7 @@ pub fn usable_address_of(text: &[u8]) -> Option<Address>
 /// The greatest length of a prefix.
 const MAX_LENGTH: u8 = 32;
 
-/// The length of a prefix that the text writes: 0 to 32 in decimal with no leading zero.
+/// The length of a prefix in a text: 0 to 32 in decimal with no leading zero.
 pub fn length_of(text: &str) -> Option<u8>
     ensures value { result ≡ length_of text.now }
     ensures bound { IfSome result (λ n. n ≤ 32) }
@@ -99,8 +99,7 @@ fn printed_length(text: &str) -> Option<u8>
     Some(length)
 }
 
-/// The prefix that the text writes: an address, a slash and a length, where the bits past the
-/// length are 0.
+/// The prefix in a text: an address, a slash and a length; the bits past the length are 0.
 pub fn prefix_of(text: &str) -> Option<Prefix>
     ensures { result ≡ prefix_of text.now }
 {

@@ -1,4 +1,4 @@
-//! What the head of a topology text says, on which the reading of its tables depends.
+//! The head of a topology text, on which the reading of its tables depends.
 
 /// The formats of topology texts.
 #[derive(Clone, Copy)]

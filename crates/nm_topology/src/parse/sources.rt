@@ -33,7 +33,7 @@ use std::alloc::Global;
 use std::marker::Model;
 use toml::{Table, Value};
 
-/// What a table of `source` says of its packets, with a name in place of an interface's number.
+/// The packets of a table of `source`, with a name in place of an interface's number.
 #[derive(Drop)]
 pub enum NamedTraffic {
     Cbr(Cbr),
@@ -94,7 +94,7 @@ pub fn required_octets(
     Ok(Packet::from_octets(alloc, Bytes::from_vec(octets)?)?)
 }
 
-/// A table of `packet`, whose time is at least `least` nanoseconds.
+/// A table of `packet` with a time of at least `least` nanoseconds.
 #[tactic(auto, unfolding(crate::specs::Parse::Sources::packet_of))]
 fn raw_packet(alloc: Global, mtu: u16, least: u64, table: &Table) -> Result<RawPacket, TopoFault>
     ensures within { IfOk result (λ p. p.at ≤ MAX_TIME) }
@@ -195,7 +195,7 @@ fn flow(mtu: u16, table: &Table) -> Result<Flow, TopoFault>
     })
 }
 
-/// What a table of kind "cbr" says of its packets.
+/// The packets of a table of kind "cbr".
 #[tactic(auto, unfolding(crate::specs::Parse::Sources::cbr_of))]
 fn cbr_traffic(mtu: u16, table: &Table) -> Result<NamedTraffic, TopoFault>
     ensures { Gives (λ x. x) result (cbr_of mtu (table_view table.now)) }
@@ -212,7 +212,7 @@ fn cbr_traffic(mtu: u16, table: &Table) -> Result<NamedTraffic, TopoFault>
     }))
 }
 
-/// What a table of kind "echo" says of its packets.
+/// The packets of a table of kind "echo".
 #[tactic(auto, unfolding(crate::specs::Parse::Sources::echo_of))]
 fn echo_traffic(mtu: u16, table: &Table) -> Result<NamedTraffic, TopoFault>
     ensures { Gives (λ x. x) result (echo_of mtu (table_view table.now)) }
@@ -227,7 +227,7 @@ fn echo_traffic(mtu: u16, table: &Table) -> Result<NamedTraffic, TopoFault>
     }))
 }
 
-/// What a table of kind "raw" says of its packets.
+/// The packets of a table of kind "raw".
 #[tactic(auto, unfolding(crate::specs::Parse::Sources::raw_of))]
 fn raw_traffic(alloc: Global, mtu: u16, table: &Table) -> Result<NamedTraffic, TopoFault>
     ensures { Gives (λ x. x) result (raw_of mtu (table_view table.now)) }
@@ -258,7 +258,7 @@ impl SourceKind {
     }
 }
 
-/// What stands at the kind of a source.
+/// The value at the kind of a source.
 pub fn required_source_kind(table: &Table, key: TableKey) -> Result<SourceKind, TopoFault>
     ensures { Gives (λ k. k) result (text_at source_kind_of key (table_view table.now)) }
 {
@@ -270,7 +270,7 @@ pub fn required_source_kind(table: &Table, key: TableKey) -> Result<SourceKind, 
     }
 }
 
-/// What a table of this kind says of its packets.
+/// The packets of a table of this kind.
 fn traffic(
     alloc: Global,
     mtu: u16,

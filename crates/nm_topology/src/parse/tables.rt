@@ -141,7 +141,7 @@ impl Model for RouteTable {
     } };
 }
 
-/// Refuses a table of `iface` that has a key which the format has not.
+/// Refuses a table of `iface` with a key that the format does not have.
 fn only_iface_keys(format: Format, table: &Table) -> Result<(), TopoFault>
     ensures { Gives (λ u. u) result (only (iface_keys format) (table_view table.now)) }
 {

@@ -1,4 +1,4 @@
-//! The tests of a topology whose names are replaced by numbers.
+//! The tests of a topology with numbers in place of names.
 
 ghost use Rattle.std.specs.Prelude.{◌≡◌, ℕ, ◌<◌, ◌≤◌, ◌==◌, All, length, map, min, slice_index};
 ghost use Rattle.std.specs.Prelude.{nat_eq, nat_le, not, IfOk};

@@ -49,7 +49,7 @@ pub struct Case {
 }
 
 impl Case {
-    /// A case of which no more than the name is known.
+    /// A case with no more than its name.
     fn new(alloc: Global, name: &str) -> Result<Self, AllocError> {
         Ok(Case {
             name: String::from_str(alloc, name)?,
@@ -102,7 +102,7 @@ impl Case {
         Ok(())
     }
 
-    /// Takes a count and a piece, which stands so many times behind what replaces the last piece.
+    /// Takes a count and a piece, to come so many times after what replaces the last piece.
     fn take_times(&mut self, rest: &str) -> io::Result<()> {
         let (count, piece) = rest.split_once(' ').unwrap_or((rest, ""));
         let Ok(count) = count.parse::<u32>() else {
@@ -131,7 +131,7 @@ impl Case {
 /// A table of cases.
 #[derive(Drop)]
 pub struct Table {
-    /// The name of the text that the cases change, or nothing if it was not said yet.
+    /// The name of the text that the cases change, or nothing if it is not known yet.
     pub text: String,
     /// What they show.
     pub show: Option<Show>,
