@@ -1,5 +1,5 @@
 -- What links have given: counts, and which messages.
-use Rattle.std.specs.Prelude.{ℕ, ◌-◌, ◌==◌, if◌then◌else◌, List, max, min}
+use Rattle.std.specs.Prelude.{◌≡◌, ◌⊎◌, ℕ, ◌-◌, ◌==◌, if◌then◌else◌, List, [], ◌∷◌, ◌++◌, max, min, position, slice_index_or, slice_set, Option, Some, None}
 use Rattle.std.specs.List.{sum_by}
 use Rattle.nm_engine.specs.declared.given.MessageRange.{MessageRange}
 
@@ -17,3 +17,23 @@ common_with range others = sum_by (common_of range) others
 -- how many some ranges and others have both
 abbrev pub common_between : (ranges others : List MessageRange) → ℕ
 common_between ranges others = sum_by (λ range. common_with range others) ranges
+
+-- a range with another of the same channel: all that either has, and what is between
+abbrev pub widened : MessageRange → MessageRange → MessageRange
+widened range more =
+    record range { first = min range.first more.first; next = max range.next more.next }
+
+-- some ranges with one more: it widens that of its channel, or comes last where there is none
+abbrev pub with_range : List MessageRange → MessageRange → Option ℕ → List MessageRange
+with_range ranges more None = ranges ++ more ∷ []
+with_range ranges more (Some n) = slice_set ranges n (widened (slice_index_or ranges n more) more)
+
+-- where the range of a channel is among others
+abbrev pub place_of : ℕ → List MessageRange → Option ℕ
+place_of channel ranges = position (λ range. range.channel == channel) ranges
+
+-- a range is noted, or memory was refused for one more
+abbrev pub NotesRange : (old new : List MessageRange) → MessageRange → Type 0
+NotesRange old new more =
+    (new ≡ with_range old more (place_of more.channel old))
+    ⊎ ((place_of more.channel old ≡ None) × (new ≡ old))

@@ -157,6 +157,7 @@ impl<W: Wire> Wire for CountingWire<W> {
     ghost seen = { λ c. W.seen c.wire };
 
     fn read_some(&mut self, buffer: &mut [u8]) -> Read
+        requires { 0 < length buffer.old }
         ensures reads { ReadDoes (W.seen self.old.wire) (W.seen self.new.wire) result buffer.new }
         ensures keeps { (W.seen self.new.wire).taken ≡ (W.seen self.old.wire).taken }
 
@@ -167,6 +168,7 @@ impl<W: Wire> Wire for CountingWire<W> {
     }
 
     fn write_some(&mut self, octets: &[u8]) -> Written
+        requires { 0 < length octets.now }
         ensures writes { WriteDoes (W.seen self.old.wire) (W.seen self.new.wire) result octets.now }
         ensures keeps { ((W.seen self.new.wire).given ≡ (W.seen self.old.wire).given)
             × ((W.seen self.new.wire).ends ≡ (W.seen self.old.wire).ends) }

@@ -3,7 +3,8 @@
 
 ghost use Rattle.std.specs.Prelude.{◌+◌, ◌-◌, ◌≡◌};
 ghost use Rattle.nm_base.specs.Count.{saturated};
-ghost use Rattle.nm_engine.specs.Given.{common_between, common_of, common_with};
+ghost use Rattle.nm_engine.specs.Given.{NotesRange, common_between, common_of, common_with};
+ghost use Rattle.nm_engine.specs.Given.{place_of, widened};
 
 use nm_base::ChanNo;
 use nm_frames::Frame;
@@ -55,6 +56,17 @@ pub struct MessageRange {
     pub next: u64,
 }
 
+/// A range with another of the same channel: all that either has, and what is between.
+fn widened(range: MessageRange, more: MessageRange) -> MessageRange
+    ensures { result ≡ widened range more }
+{
+    MessageRange {
+        channel: range.channel,
+        first: range.first.min(more.first),
+        next: range.next.max(more.next),
+    }
+}
+
 /// How many messages both have.
 fn common_count(range: &MessageRange, other: &MessageRange) -> u64
     ensures { result ≡ common_of range.now other.now }
@@ -93,21 +105,36 @@ impl GivenMessages {
         }
     }
 
+    /// Where the range of a channel is, if there is one.
+    fn place_of(&self, channel: ChanNo) -> Option<usize>
+        ensures { result ≡ place_of channel self.now.ranges.items }
+    {
+        self.ranges
+            .iter()
+            .position(|range| range.channel == channel)
+    }
+
     /// The messages of a channel in this range were given. Those between them and others of the
     /// channel count too: the peer had them from elsewhere.
-    fn note_range(&mut self, more: MessageRange) {
-        for range in self.ranges.iter_mut() {
-            if range.channel == more.channel {
-                range.first = range.first.min(more.first);
-                range.next = range.next.max(more.next);
-                return;
+    fn note_range(&mut self, more: MessageRange)
+        ensures { NotesRange self.old.ranges.items self.new.ranges.items more }
+    {
+        match self.place_of(more.channel) {
+            Some(place) => self.ranges[place] = widened(self.ranges[place], more),
+            None => {
+                let _ = self.ranges.push(more);
             }
         }
-        let _ = self.ranges.push(more);
     }
 
     /// The message with this number of a channel was given.
-    pub fn note(&mut self, channel: ChanNo, number: u64) {
+    pub fn note(&mut self, channel: ChanNo, number: u64)
+        ensures { NotesRange self.old.ranges.items self.new.ranges.items (record {
+          channel = channel;
+          first = number;
+          next = saturated (number + 1);
+        }) }
+    {
         self.note_range(MessageRange {
             channel,
             first: number,

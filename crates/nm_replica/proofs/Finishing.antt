@@ -1,5 +1,5 @@
 -- Of each of some replicas a book was seen to be done.
-use Rattle.std.proofs.Common.{◌≡◌, ◌≢◌, ℕ, ◌+◌, ◌<◌, ◌≤◌, Bool, true, false, ◌&&◌, ◌||◌, ◌==◌, List, map, length, slice_index_or, slice_set, refl, sym, ◌∙◌, ap, subst, arith, ⊎_elim}
+use Rattle.std.proofs.Common.{◌≡◌, ◌≢◌, ◌⊎◌, inl, inr, ℕ, ◌+◌, ◌<◌, ◌≤◌, Bool, true, false, nat_lt, ◌&&◌, ◌||◌, ◌==◌, List, map, length, slice_index_or, slice_set, refl, sym, ◌∙◌, ap, subst, arith, ⊎_elim}
 use Rattle.std.proofs.lemmas.Bool.{and_parts, cases_lt}
 use Rattle.std.proofs.lemmas.Bool.Decides.{nat_tests}
 use Rattle.std.proofs.lemmas.Grind.{get_or-set_at}
@@ -12,6 +12,7 @@ use Rattle.nm_shared.specs.Home.{Home, home_of}
 use Rattle.nm_policy.specs.Contacts.{ContactsValue}
 use Rattle.nm_policy.specs.Stays.{leaves, stayed}
 use Rattle.nm_policy.specs.declared.staying.Stay.{Stay}
+use Rattle.nm_replica.specs.Recording.{WasEmptied}
 use Rattle.nm_replica.specs.Served.{AllWereFinished, HasStayed, WasFinished, WasSeen, WereFinished, is_handed_out}
 use Rattle.nm_replica.specs.Finished.{IsDone}
 use Rattle.nm_replica.specs.declared.acts.Standing.{Standing}
@@ -70,3 +71,14 @@ all_finished exact replicas counted some all = (some, λ n low. let is = all n l
 pub has_stayed : (ran_out : Bool) (contacts : ContactsValue) (old mid new : Stay) (may : Bool) → mid ≡ old → new ≡ stayed ran_out contacts mid → may ≡ leaves contacts new → may ≡ true
     → HasStayed ran_out contacts old new
 has_stayed ran_out contacts old mid new may same stays is left = (stays ∙ ap (stayed ran_out contacts) same, sym is ∙ left)
+
+-- no record is left to hand out, where the book keeps them, had none left, or has handed all out since
+pub emptied_if : (exact : Bool) (own : Home) (keeps : Bool) (s : Standing) → WasSeen exact own s → (left : Bool) → left ≡ nat_lt s.handed s.records
+    → (keeps ≡ true) ⊎ (left ≡ false) ⊎ WasEmptied exact own → (keeps ≡ true) ⊎ WasEmptied exact own
+emptied_if exact own keeps s seen left is (inl kept) = inl kept
+emptied_if exact own keeps s seen left is (inr (inl none)) =
+    let handed = seen.3 in
+    let records = seen.4 in
+    let past : s.records ≤ s.handed = grind (arith, nat_tests, is, none) in
+    inr (seen.0, seen.1, omega (arith, past, handed, records))
+emptied_if exact own keeps s seen left is (inr (inr emptied)) = inr emptied

@@ -1,10 +1,13 @@
 -- What polls come to, and why serving ends by them.
-use Rattle.std.proofs.Common.{◌≡◌, ◌≤◌, ◌+◌, inl, ℕ, Bool, true, false, if◌then◌else◌, Option, Some, None, refl, subst, arith}
+use Rattle.std.proofs.Common.{◌≡◌, ◌≤◌, ◌+◌, inl, ℕ, Bool, true, false, if◌then◌else◌, Option, Some, None, IfSome, Ok, refl, subst, arith}
 use Rattle.std.proofs.lemmas.Bool.Decides.{nat_tests}
 use Rattle.std.specs.Prelude.{nat_le}
 use Rattle.nm_base.specs.Count.{saturated}
 use Rattle.nm_shared.specs.Home.{Home}
-use Rattle.nm_replica.specs.Polls.{ending_of, idle_after, is_active}
+use Rattle.nm_book.specs.declared.running.Ran.{Ran}
+use Rattle.nm_book.specs.declared.running.Ran.TheVariants.{All, Limit, Memory}
+use Rattle.nm_shared.specs.Pool.{IsRunAnswer}
+use Rattle.nm_replica.specs.Polls.{ending_of, idle_after, is_active, runs_on}
 use Rattle.nm_transport.specs.Transport.{elapsed_after}
 use Rattle.nm_replica.specs.Served.{EndsWith, PolledOnce, WasFinished}
 use Rattle.nm_replica.specs.declared.served.Served.{Served}
@@ -43,3 +46,12 @@ polled_once Happened limit polls idle idle' before after end p a b c d = (p, a, 
 -- what moved in two rounds of turns
 pub saturated_twice : (m h s : ℕ) → saturated (saturated (m + h) + s) ≡ saturated (m + saturated (h + s))
 saturated_twice m h s = omega arith
+
+-- a replica goes on at once after a run that left events to do, and has no pool
+pub on_is : (has_pool : Bool) (limit : ℕ) (ran : Option Ran) (on : Bool) → runs_on has_pool ran ≡ Ok on → IfSome ran (IsRunAnswer limit) → on ≡ true
+    → (has_pool ≡ false) × ((n : ℕ) × IsRunAnswer limit (Limit n))
+on_is has_pool limit None on is answers e = let no : false ≡ true = cc in absurd cc
+on_is has_pool limit (Some (All n)) on is answers e = let no : false ≡ true = cc in absurd cc
+on_is true limit (Some (Limit n)) on is answers e = let no : false ≡ true = cc in absurd cc
+on_is false limit (Some (Limit n)) on is answers e = (refl, (n, answers))
+on_is has_pool limit (Some (Memory n)) on is answers e = absurd cc

@@ -1,5 +1,5 @@
 -- Connections that are to be looked at, key by key.
-use Rattle.std.proofs.Common.{◌≡◌, ◌≢◌, ℕ, suc, ◌+◌, ◌<◌, ◌≤◌, true, false, length, Option, None, Some, refl, ◌∙◌, ap, sym, subst, arith, below_more, ⊎_elim}
+use Rattle.std.proofs.Common.{◌≡◌, ◌≢◌, ℕ, ◌+◌, ◌<◌, ◌≤◌, true, false, length, Option, None, Some, refl, ◌∙◌, ap, sym, subst, arith, below_more, ⊎_elim}
 use Rattle.std.specs.Prelude.{IfSome}
 use Rattle.std.specs.Option.{option_map}
 use Rattle.std.proofs.lemmas.Bool.{cases_lt}

@@ -65,7 +65,7 @@ fn take_some(book: &mut Book, room: &mut Vec<Record>)
     ensures takes { TakesOut book.old room.old.items book.new room.new.items }
     ensures all { AreAllOut room.old.cap book.new room.new.items }
 {
-    for _ in 0..MAX_HANDED {
+    for taken in 0..MAX_HANDED {
         if room.len() >= room.capacity() {
             return;
         }

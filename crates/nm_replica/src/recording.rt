@@ -84,7 +84,7 @@ pub(crate) fn write_records<C: Counts, S: Sink, R: Wait>(
     if service.keeps_records || !is_left {
         return Ok(all);
     }
-    for _ in 0..MAX_HAND_OUTS {
+    for turn in 0..MAX_HAND_OUTS {
         let some = write_some(rt, alloc, service, pass, files)?;
         all.written = all.written.saturating_add(some.written);
         all.has_more = some.has_more;

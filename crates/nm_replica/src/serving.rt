@@ -1,7 +1,7 @@
 //! One poll of a replica, and what follows it.
 
 ghost use Rattle.std.specs.Prelude.{◌%◌, ◌&&◌, ◌+◌, ◌-◌, ◌==◌, ◌||◌, ◌≡◌, ◌⊎◌, IfErr, IfOk};
-ghost use Rattle.std.specs.Prelude.{IfSome, OnOk, false, if◌then◌else◌, is_some, length, nat_lt};
+ghost use Rattle.std.specs.Prelude.{ℕ, IfSome, OnOk, false, if◌then◌else◌, is_some, length, nat_lt};
 ghost use Rattle.std.specs.Prelude.{not, position, true};
 ghost use Rattle.std.specs.Arc.{arc_value};
 ghost use Rattle.nm_base.specs.Count.{saturated};

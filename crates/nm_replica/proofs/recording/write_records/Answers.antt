@@ -1,29 +1,31 @@
-use Rattle.std.proofs.Common.{rules}
+use Rattle.std.proofs.Common.{inl, inr, refl, rules}
 use Rattle.nm_replica.proofs.Recordings.{counted_more, counted_none, on_error, streamed_more, streams_more, streams_none}
 use Rattle.nm_replica.proofs.recording.write_records.Goals as goal
 
 pub returns-then-service-clause-streams : goal.returns-then-service-clause-streams
 returns-then-service-clause-streams g c = streams_none g.C.Counts.exact g.C.Counts.home g.S.Sink.seen c.args.files.now.files.items
 
-pub loop-init : goal.loop-init
-loop-init g c = record {
+pub loop-turn-init : goal.loop-turn-init
+loop-turn-init g c = record {
   streams = streams_none g.C.Counts.exact g.C.Counts.home g.S.Sink.seen c.args.files.now.files.items;
   wrote = counted_none g.C.Counts.exact g.C.Counts.home g.S.Sink.seen c.args.files.now.files.items;
+  more = inl refl;
   last = λ is. absurd cc;
 }
 
 pub returns-then-not-some-clause-streams : goal.returns-then-not-some-clause-streams
 returns-then-not-some-clause-streams g c =
-    streams_more g.C.Counts.exact g.C.Counts.home g.S.Sink.seen c.args.files.now.files.items c.loop.files.files.items c.write_some.new.files.files.items c.loop.invariant.streams (c.in_ok-some.some.written, c.in_ok-some.ensures.wrote)
+    streams_more g.C.Counts.exact g.C.Counts.home g.S.Sink.seen c.args.files.now.files.items c.loop-turn.files.files.items c.write_some.new.files.files.items c.loop-turn.invariant.streams (c.in_ok-some.some.written, c.in_ok-some.ensures.wrote)
 
-pub loop-preserved : goal.loop-preserved
-loop-preserved g c = record {
+pub loop-turn-preserved : goal.loop-turn-preserved
+loop-turn-preserved g c = record {
   streams =
-      streams_more g.C.Counts.exact g.C.Counts.home g.S.Sink.seen c.args.files.now.files.items c.loop.files.files.items c.write_some.new.files.files.items
-      c.loop.invariant.streams (c.in_ok-some.some.written, c.in_ok-some.ensures.wrote);
+      streams_more g.C.Counts.exact g.C.Counts.home g.S.Sink.seen c.args.files.now.files.items c.loop-turn.files.files.items c.write_some.new.files.files.items
+      c.loop-turn.invariant.streams (c.in_ok-some.some.written, c.in_ok-some.ensures.wrote);
   wrote =
-      counted_more g.C.Counts.exact g.C.Counts.home g.S.Sink.seen c.args.files.now.files.items c.loop.files.files.items c.write_some.new.files.files.items c.loop.all.written
-      c.in_ok-some.some.written _ c.loop.invariant.wrote c.in_ok-some.ensures.wrote (search rules);
+      counted_more g.C.Counts.exact g.C.Counts.home g.S.Sink.seen c.args.files.now.files.items c.loop-turn.files.files.items c.write_some.new.files.files.items c.loop-turn.all.written
+      c.in_ok-some.some.written _ c.loop-turn.invariant.wrote c.in_ok-some.ensures.wrote (search rules);
+  more = inr (search rules);
   last = c.in_ok-some.ensures.last;
 }
 
@@ -32,11 +34,11 @@ returns-then-service-clause-wrote g c = counted_none g.C.Counts.exact g.C.Counts
 
 pub returns-then-not-some-clause-wrote : goal.returns-then-not-some-clause-wrote
 returns-then-not-some-clause-wrote g c =
-    counted_more g.C.Counts.exact g.C.Counts.home g.S.Sink.seen c.args.files.now.files.items c.loop.files.files.items c.write_some.new.files.files.items c.loop.all.written
-    c.in_ok-some.some.written _ c.loop.invariant.wrote c.in_ok-some.ensures.wrote (search rules)
+    counted_more g.C.Counts.exact g.C.Counts.home g.S.Sink.seen c.args.files.now.files.items c.loop-turn.files.files.items c.write_some.new.files.files.items c.loop-turn.all.written
+    c.in_ok-some.some.written _ c.loop-turn.invariant.wrote c.in_ok-some.ensures.wrote (search rules)
 
 pub returns-in_err-some-clause-so_far : goal.returns-in_err-some-clause-so_far
 returns-in_err-some-clause-so_far g c =
     on_error c.from_residual.result
-    (streamed_more g.C.Counts.exact g.C.Counts.home g.S.Sink.seen c.args.files.now.files.items c.loop.files.files.items c.write_some.new.files.files.items
-    c.loop.invariant.streams c.in_err-some.ensures.so_far)
+    (streamed_more g.C.Counts.exact g.C.Counts.home g.S.Sink.seen c.args.files.now.files.items c.loop-turn.files.files.items c.write_some.new.files.files.items
+    c.loop-turn.invariant.streams c.in_err-some.ensures.so_far)

@@ -1,15 +1,15 @@
-use Rattle.std.proofs.Common.{◌≡◌, ◌⊎◌, inl, inr, Bool, true, length, ap, subst, sym, ◌∙◌, true≢false}
+use Rattle.std.proofs.Common.{◌≡◌, ◌⊎◌, inl, inr, Bool, true, false, length, ap, refl, subst, sym, ◌∙◌, true≢false}
 use Rattle.nm_replica.specs.Recording.{Streamed, Streams, WroteAsCounted}
 use Rattle.nm_replica.specs.Served.{AllWereFinished, HasStayed}
 use Rattle.nm_replica.proofs.Endings.{is_no_net}
-use Rattle.nm_replica.proofs.Finishing.{all_finished, has_stayed, is_finished}
+use Rattle.nm_replica.proofs.Finishing.{all_finished, emptied_if, has_stayed, is_finished}
 use Rattle.nm_replica.proofs.Recordings.{on_error, on_such_error, streamed_none, streams_none}
 use Rattle.nm_replica.proofs.Turns.{waits_and_serves}
 use Rattle.nm_replica.specs.declared.connections.Connections.{Connections}
 use Rattle.nm_replica.specs.declared.serving.Serving.{Serving}
 use Rattle.nm_replica.specs.declared.served.Served.TheVariants.{Net}
 use Rattle.nm_replica.proofs.serving.poll.Goals as goal
-use Rattle.nm_replica.proofs.serving.poll.Goals.{then-may_end, else-may_end, then-standing+then-may_leave, then-standing+else-may_leave, else-standing}
+use Rattle.nm_replica.proofs.serving.poll.Goals.{then-may_end, else-may_end, then-recorded, else-recorded, then-standing+then-may_leave, then-standing+else-may_leave, else-standing}
 
 pub returns-clause-done : goal.returns-clause-done
 returns-clause-done g c = λ done. elim c.if-may_end.branch [
@@ -114,3 +114,12 @@ returns-clause-written g c =
       | else-standing w ↦ ap (λ h. h.files) w.holdings-is ∙ c.in_ok-standing.ensures.files
     ] in
     subst (λ f. WroteAsCounted g.S.Sink.seen g.C.Counts.exact g.C.Counts.home c.in-Ok.recorded.written f.files.items c.write_records.new.files.files.items) kept c.in-Ok.ensures.wrote
+
+pub returns-clause-records : goal.returns-clause-records
+returns-clause-records g c = λ quiet.
+    let no_more : c.in-Ok.recorded.has_more ≡ false = elim c.if-recorded.branch [
+      | then-recorded w ↦ sym w.serving-is ∙ quiet
+      | else-recorded w ↦ w.if-recorded.false
+    ] in
+    emptied_if g.C.Counts.exact g.C.Counts.home c.args.service.now.keeps_records c.in_ok-standing.field-0.standing c.in_ok-standing.ensures.seen _ refl
+    (c.in-Ok.ensures.all no_more)

@@ -1,4 +1,4 @@
-use Rattle.std.proofs.Common.{◌≡◌, false, rules, sym, ◌∙◌, below_more}
+use Rattle.std.proofs.Common.{◌≡◌, false, rules, below_more}
 use Rattle.slab.specs.Slab.{get}
 use Rattle.nm_replica.specs.Connections.{is_ready}
 use Rattle.nm_replica.proofs.Readiness.{none_ready}
