@@ -35,7 +35,7 @@ impl Passes {
         ensures books { IfOk result (λ p. vec_len p.lists ≡ books) }
     {
         let mut lists = Vec::new(alloc);
-        for _ in 0..books {
+        for number in 0..books {
             lists.push(Vec::new(alloc))?;
         }
         Ok(Passes { lists })

@@ -239,6 +239,7 @@ fn dispatcher_of<'a, G, R: Wait>(
 ) -> Result<Dispatcher<'a>, Stop>
     ensures seat { IfOk result (λ d. d.seat ≡ seat) }
     ensures owns { IfOk result (λ d. AreOwns (names_of threaded.now) (owns_of d.watched.items)) }
+    ensures all { IfOk result (λ d. vec_len d.watched ≡ length threaded.now.books.now) }
 {
     Ok(Dispatcher {
         watched: watch_all(rt, threaded)?,

@@ -1,4 +1,4 @@
-use Rattle.std.proofs.Common.{◌≡◌, ◌+◌, All, sym, subst, arith}
+use Rattle.std.proofs.Common.{◌≡◌, ◌+◌, All, rules, sym, subst, arith}
 use Rattle.std.proofs.lemmas.List.Elements.{All-head, All-push, All-rest}
 use Rattle.std.proofs.lemmas.List.Sums.{sum_by_push}
 use Rattle.std.specs.Vec.Iter.{into_iter_items}
@@ -10,7 +10,8 @@ pub loop-end-preserved : goal.loop-end-preserved
 loop-end-preserved g c = record {
   passes =
       let sum = sum_by_push given_back c.loop-end.yielded c.in-Some.end in
-      omega (arith, sum, c.loop-end.invariant.passes, c.in_ok-add.ensures, c.in_ok-add_each.ensures);
+      omega (arith, sum, c.loop-end.invariant.passes, c.in_ok-add.ensures.one, c.in_ok-add_each.ensures.all);
+  books = search rules;
   files = λ made all.
       let was = c.loop-end.invariant.files made all in
       let next = c.in-Some.ensures.steps.0 in
