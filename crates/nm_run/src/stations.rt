@@ -1,10 +1,11 @@
 //! What a run keeps of a replica, from its beginning to its end.
 
-ghost use Rattle.std.specs.Prelude.{◌≡◌, ◌+◌, ◌<◌, IsSomeAnd, length, slice_get};
+ghost use Rattle.std.specs.Prelude.{◌≡◌, ◌+◌, ◌<◌, IsSomeAnd, Some, length, slice_get};
 
 use mio::Waker;
 use nm_frames::ReplicaName;
 use nm_shared::{Lending, Plain, SharedBook};
+use std::io;
 use std::sync::{OnceLock, OnceToken, Wait};
 
 /// What a run keeps of a replica beside its book.
@@ -29,8 +30,41 @@ impl Station {
     pub(crate) fn wake(&self) -> Woken<'_>
         ensures { result.station ≡ self.entry }
     {
-        let _ = self.waker.wake();
+        self.woken(self.waker.wake())
+    }
+
+    /// The replica was woken, whatever its waker answered: one that fails leaves it to wake at the
+    /// end of its period.
+    fn woken(&self, _: io::Result<()>) -> Woken<'_>
+        ensures { result.station ≡ self.entry }
+    {
         Woken { station: self }
+    }
+}
+
+/// So many of a run's replicas were woken, the first of them: only `and` counts one more.
+#[derive(Clone, Copy)]
+pub(crate) struct FirstWoken {
+    count: usize,
+}
+
+impl FirstWoken {
+    /// None so far.
+    pub(crate) fn none() -> Self
+        ensures { result.count ≡ 0 }
+    {
+        FirstWoken { count: 0 }
+    }
+
+    /// One more: that of the next of these stations.
+    pub(crate) fn and(self, stations: &[Station], woken: &Woken<'_>) -> Self
+        requires below { self.count < length stations.now }
+        requires next { slice_get stations.now self.count ≡ Some woken.now.station.now }
+        ensures { result.count ≡ self.count + 1 }
+    {
+        FirstWoken {
+            count: self.count + 1,
+        }
     }
 }
 

@@ -4,7 +4,7 @@ ghost use Rattle.std.specs.Prelude.{◌≡◌, IfSome, length, true};
 ghost use Rattle.nm_run.specs.Watching.{IsOwnAt, names_of};
 
 use crate::run::RunPlan;
-use crate::stations::{Counted, FirstEnded, Own, Station};
+use crate::stations::{Counted, FirstEnded, FirstWoken, Own, Station};
 use crate::told::Told;
 use mio::Waker;
 use nm_peers::Listener;
@@ -35,7 +35,9 @@ pub(crate) struct Threaded<'a, G> {
 
 /// All replicas were woken: only `Threaded::wake_all` makes it.
 #[derive(Clone, Copy)]
-pub(crate) struct AllWoken(());
+pub(crate) struct AllWoken {
+    first: FirstWoken,
+}
 
 impl<'a, G> Threaded<'a, G> {
     /// The replica that has this number among those of the run.
@@ -50,11 +52,14 @@ impl<'a, G> Threaded<'a, G> {
     }
 
     /// Wakes all replicas.
-    pub(crate) fn wake_all(&self) -> AllWoken {
-        for station in self.stations {
-            let _ = station.wake();
+    pub(crate) fn wake_all(&self) -> AllWoken
+        ensures { result.first.count ≡ length self.now.stations.now }
+    {
+        let mut first = FirstWoken::none();
+        for number in 0..self.stations.len() {
+            first = first.and(self.stations, &self.stations[number].wake());
         }
-        AllWoken(())
+        AllWoken { first }
     }
 
     /// Tells all replicas that the run has failed.

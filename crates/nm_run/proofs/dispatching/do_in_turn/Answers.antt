@@ -23,7 +23,7 @@ note-requires g c =
     let w = c.in-Some.watched.now in
     let low : n < length watched = search rules in
     let there : w ≡ get_or watched n w = search rules in
-    ap (λ o. o.index) c.run-answer.ensures
+    ap (λ o. o.index) c.run-answer.ensures.own
     ∙ own_there names watched n w (subst (AreOwns names) (sym c.loop-number.invariant.owns) c.requires) low there
 
 pub loop-number-preserved : goal.loop-number-preserved
@@ -34,7 +34,7 @@ loop-number-preserved g c =
       | in-Some+in_ok-note w ↦
           let was = w.in-Some.watched.now in
           let there : was ≡ get_or watched n was = search rules in
-          let same = w.in_ok-note.ensures.own ∙ w.run-answer.ensures ∙ ap (λ x. x.own) there in
+          let same = w.in_ok-note.ensures.own ∙ w.run-answer.ensures.own ∙ ap (λ x. x.own) there in
           record {
             seat = ap (λ d. d.seat) w.dispatcher-is ∙ c.loop-number.invariant.seat;
             owns = ap (λ d. owns_of d.watched.items) w.dispatcher-is ∙ map-set_same (λ x. x.own) watched n w.note.new.watched was same ∙ c.loop-number.invariant.owns;
