@@ -41,11 +41,12 @@ loop-thread-preserved g c =
     let more = into_iter_items c.next-in-loop-thread.new.self in
     let next = c.in-Some-thread.ensures.steps.0 in
     let seen = g.S.Sink.seen in
+    let last : c.push-in-loop-thread.new.self.items ≡ c.loop-thread.ends.items ++ c.join.result ∷ [] = search rules in
     record {
       counted = λ made all.
           let was = c.loop-thread.invariant.counted made all in (
             All-rest (λ h. AreCounted seen made h.promise.0.value.files.items) thread more (into_iter_items c.loop-thread.thread-iterator) next was.0,
-            subst (All (StillCounts seen made)) (sym c.in_ok-push.ensures.items)
+            subst (All (StillCounts seen made)) (sym last)
                 (All-push (StillCounts seen made) c.loop-thread.ends.items c.join.result was.1 (λ ended.
                 let took = c.join.ensures ended in
                 files_counted seen made took.0 thread.promise.0.value.files.items c.join.result.files.files.items took.1
@@ -54,8 +55,8 @@ loop-thread-preserved g c =
           );
     }
 
-pub returns : goal.returns
-returns g c =
+pub returns-in-Ok-into_passes : goal.returns-in-Ok-into_passes
+returns-in-Ok-into_passes g c =
     let seen = g.S.Sink.seen in
     record {
       counted = λ made all.
@@ -63,4 +64,5 @@ returns g c =
           (subst (All (λ s. AreCounted seen made s.holdings.files.files.items)) (sym c.into_iter-side-iterator.ensures.into_iter_gives.0) all) in
           (c.loop-thread.invariant.counted made
           (subst (All (λ h. AreCounted seen made h.promise.0.value.files.items)) (sym c.into_iter-thread-iterator.ensures.into_iter_gives.0) begun.1)).1;
+      told = search rules;
     }
