@@ -25,8 +25,8 @@ Build
                          minutes, and it says what is left (JOBS=N: N jobs at a time)
   make clean             removes what was built
 Try it
-  make try               runs the program before it is proved, in some 2 processor minutes: TOPO=FILE and IFACE=NAME
-                         choose what it shows
+  make try               runs the program before it is proved, in some 5 processor minutes: a trace in hexadecimal and
+                         in words, and a report; TOPO=FILE and IFACE=NAME choose what it shows
   make run               builds it and shows a trace in hexadecimal; TOPO and IFACE as for make try
   make demo *            eight processes whose connections are cut again and again, one of which is killed and begun
                          again; half a minute
@@ -36,8 +36,7 @@ Check
   make test              the gate: proves everything from nothing and runs every test; the last line is N passed, M
                          failed
   make words             lists names that two crates define, one of which sees the other; the gate refuses a new one
-  make check-tools       tries the scripts on fixtures, and reads them with flake8 where that is installed
-                         (python3-flake8)
+  make check-tools       tries the scripts on fixtures, and reads them with flake8 (flake8)
   make check-docs *      checks that facts, links and names in the documents are right, and runs the commands of
                          README (graphviz metis python3-matplotlib python3-networkx)
   make check-edge        checks the help, and what is printed of faults on a terminal
@@ -86,8 +85,7 @@ bin/nullsim bin/nm_bench bin/nm_worlds: bin/%: $(SOURCES) | toolchain
 	@dev/build $* $@ $(JOBS)
 
 try: toolchain
-	@echo 'nullsim: what runs now is not proved yet: make proves it' >&2
-	@cd crates/nullsim && rt try --data topology.toml='$(abspath $(TOPO))' -- onehex topology.toml $(IFACE)
+	@dev/try '$(TOPO)' $(IFACE)
 
 run: bin/nullsim
 	@bin/nullsim onehex '$(TOPO)' $(IFACE)
