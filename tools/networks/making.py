@@ -24,7 +24,7 @@ def joined(spec):
     numbers, given, raised = {}, names.Names(), []
     for number, node in enumerate(spec.nodes.values()):
         numbers[node.name] = number
-        network.nodes.append(Node(node.name, node.kind, node.partition, list(node.ports)))
+        network.nodes.append(Node(node.name, node.kind, node.partition, list(node.ports), node.where))
     for link in spec.links:
         ends = []
         for own, far in ((link.a, link.b), (link.b, link.a)):
