@@ -1,18 +1,19 @@
 # `make help` lists the targets.
 
-.PHONY: all help try run bench compare cases run-cases check-docs check-edge check-parts check-frames check-links \
-  check-network check-pcap check-series check-tools check-worlds cut-connections deep demo theory tutorial words \
-  test gate-times install uninstall dist clean toolchain
+.PHONY: all help try run bench compare cases run-cases check-docs check-edge check-first-day \
+  check-parts check-frames check-links check-network check-pcap check-series check-tools check-worlds cut-connections \
+  deep demo theory tutorial words test gate-times install uninstall dist clean toolchain
 
 # The topology and the interface of `make try` and `make run`; the folder of `make cases`; how many jobs `make` proves
-# with; which steps of `make deep`; whether `make compare` writes the times of a busy host; where `make install` puts
-# the program, its manual page and its completion for bash (DESTDIR stands before it, for those who make packages).
+# with; which steps of `make deep`; whether `make compare` writes the times of a busy host; which program `make install`
+# installs, and where it puts it and all else (DESTDIR stands before it, for those who make packages).
 TOPO = examples/duo.toml
 IFACE =
 CASES =
 JOBS =
 STEPS =
 ANYWAY =
+PROGRAM = bin/nullsim
 PREFIX = /usr/local
 DESTDIR =
 
@@ -40,6 +41,8 @@ Check
   make check-docs *      checks that facts, links and names in the documents are right, and runs the commands of
                          README (graphviz metis python3-matplotlib python3-networkx)
   make check-edge        checks the help, and what is printed of faults on a terminal
+  make check-first-day * runs the commands of a new user's first day, and compares what comes out of each (graphviz metis
+                         python3-matplotlib python3-networkx tcpdump)
   make check-parts *     tries links, files that were left and other processes where trace files are written
   make check-series *    compares steps, ways and delays with the trace files
   make check-frames      compares the reader of frames with a model of its own over generated streams
@@ -102,7 +105,7 @@ cases: bin/nullsim
 run-cases: bin/nullsim
 	@dev/check/runs
 
-check-docs check-edge check-network check-parts check-pcap check-series: check-%: bin/nullsim
+check-docs check-edge check-first-day check-network check-parts check-pcap check-series: check-%: bin/nullsim
 	@dev/check/$*
 
 theory: bin/nullsim
@@ -153,8 +156,8 @@ PYTHON = $(INSTALLED)/lib/python3$(if $(filter /usr/local,$(PREFIX)),$(DEBIANS))
 DEBIANS = $(shell "$$(command -v /usr/bin/python3 || command -v python3)" -c 'import sys; print(".%d" % sys.version_info[1])')
 DOCUMENTS = $(INSTALLED)/share/doc/nullsim
 
-install: bin/nullsim
-	@install -D -m 755 bin/nullsim '$(INSTALLED)/bin/nullsim'
+install: $(PROGRAM)
+	@install -D -m 755 '$(PROGRAM)' '$(INSTALLED)/bin/nullsim'
 	@install -D -m 644 docs/nullsim.1 '$(MANUAL)'
 	@install -D -m 644 tools/completion/nullsim '$(COMPLETION)'
 	@for tool in launch network; do ln -sf nullsim '$(COMPLETION)'-$$tool; done
