@@ -1,18 +1,19 @@
 # `make help` lists the targets.
 
-.PHONY: all help try run bench compare cases run-cases check-docs check-edge check-parts check-frames check-links \
-  check-network check-pcap check-series check-tools check-worlds cut-connections deep demo theory tutorial words \
-  test gate-times install uninstall dist clean toolchain
+.PHONY: all help try run bench compare cases run-cases check-docs check-edge check-first-day \
+  check-parts check-frames check-links check-network check-pcap check-series check-tools check-worlds cut-connections \
+  deep demo theory tutorial words test gate-times install uninstall dist clean toolchain
 
 # The topology and the interface of `make try` and `make run`; the folder of `make cases`; how many jobs `make` proves
-# with; which steps of `make deep`; whether `make compare` writes the times of a busy host; where `make install` puts
-# the program, its manual page and its completion for bash (DESTDIR stands before it, for those who make packages).
+# with; which steps of `make deep`; whether `make compare` writes the times of a busy host; which program `make install`
+# installs, and where it puts it and all else (DESTDIR stands before it, for those who make packages).
 TOPO = examples/duo.toml
 IFACE =
 CASES =
 JOBS =
 STEPS =
 ANYWAY =
+PROGRAM = bin/nullsim
 PREFIX = /usr/local
 DESTDIR =
 
@@ -25,8 +26,8 @@ Build
                          minutes, and it says what is left (JOBS=N: N jobs at a time)
   make clean             removes what was built
 Try it
-  make try               runs the program before it is proved, in some 2 processor minutes: TOPO=FILE and IFACE=NAME
-                         choose what it shows
+  make try               runs the program before it is proved, in some 5 processor minutes: a trace in hexadecimal and
+                         in words, and a report; TOPO=FILE and IFACE=NAME choose what it shows
   make run               builds it and shows a trace in hexadecimal; TOPO and IFACE as for make try
   make demo *            eight processes whose connections are cut again and again, one of which is killed and begun
                          again; half a minute
@@ -36,11 +37,12 @@ Check
   make test              the gate: proves everything from nothing and runs every test; the last line is N passed, M
                          failed
   make words             lists names that two crates define, one of which sees the other; the gate refuses a new one
-  make check-tools       tries the scripts on fixtures, and reads them with flake8 where that is installed
-                         (python3-flake8)
+  make check-tools       tries the scripts on fixtures, and reads them with flake8 (flake8)
   make check-docs *      checks that facts, links and names in the documents are right, and runs the commands of
                          README (graphviz metis python3-matplotlib python3-networkx)
   make check-edge        checks the help, and what is printed of faults on a terminal
+  make check-first-day * runs the commands of a new user's first day, and compares what comes out of each (graphviz metis
+                         python3-matplotlib python3-networkx tcpdump)
   make check-parts *     tries links, files that were left and other processes where trace files are written
   make check-series *    compares steps, ways and delays with the trace files
   make check-frames      compares the reader of frames with a model of its own over generated streams
@@ -86,8 +88,7 @@ bin/nullsim bin/nm_bench bin/nm_worlds: bin/%: $(SOURCES) | toolchain
 	@dev/build $* $@ $(JOBS)
 
 try: toolchain
-	@echo 'nullsim: what runs now is not proved yet: make proves it' >&2
-	@cd crates/nullsim && rt try --data topology.toml='$(abspath $(TOPO))' -- onehex topology.toml $(IFACE)
+	@dev/try '$(TOPO)' $(IFACE)
 
 run: bin/nullsim
 	@bin/nullsim onehex '$(TOPO)' $(IFACE)
@@ -104,7 +105,7 @@ cases: bin/nullsim
 run-cases: bin/nullsim
 	@dev/check/runs
 
-check-docs check-edge check-network check-parts check-pcap check-series: check-%: bin/nullsim
+check-docs check-edge check-first-day check-network check-parts check-pcap check-series: check-%: bin/nullsim
 	@dev/check/$*
 
 theory: bin/nullsim
@@ -155,8 +156,8 @@ PYTHON = $(INSTALLED)/lib/python3$(if $(filter /usr/local,$(PREFIX)),$(DEBIANS))
 DEBIANS = $(shell "$$(command -v /usr/bin/python3 || command -v python3)" -c 'import sys; print(".%d" % sys.version_info[1])')
 DOCUMENTS = $(INSTALLED)/share/doc/nullsim
 
-install: bin/nullsim
-	@install -D -m 755 bin/nullsim '$(INSTALLED)/bin/nullsim'
+install: $(PROGRAM)
+	@install -D -m 755 '$(PROGRAM)' '$(INSTALLED)/bin/nullsim'
 	@install -D -m 644 docs/nullsim.1 '$(MANUAL)'
 	@install -D -m 644 tools/completion/nullsim '$(COMPLETION)'
 	@for tool in launch network; do ln -sf nullsim '$(COMPLETION)'-$$tool; done

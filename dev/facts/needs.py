@@ -13,13 +13,14 @@ NEWER = {"tomllib": (3, 11), "nullsim": (3, 11)}
 # The packages of Debian that have a module, or a program by its name.
 PACKAGES = {"matplotlib": "python3-matplotlib", "networkx": "python3-networkx", "dot": "graphviz", "gpmetis": "metis",
             "tshark": "tshark", "tcpdump": "tcpdump", "cc": "gcc", "g++": "g++", "valgrind": "valgrind",
-            "flake8": "python3-flake8", "pandas": "python3-pandas", "numpy": "python3-numpy",
+            "flake8": "flake8", "pandas": "python3-pandas", "numpy": "python3-numpy",
             "mpirun": "openmpi-bin", "srun": "slurm-wlm", "/usr/include/ns3/core-module.h": "libns3-dev"}
 # Tools of a user, and scripts that call others: what they call, or load by other means than an import. DRAWN are the
 # tools that commands of documents call.
 TOOLS = {"tools/network": [], "tools/launch": [], "tools/nullsim": [], "tools/plot": [], "tools/page": ["tools/plot"]}
 DRAWN = ["tools/network", "tools/plot", "tools/page"]
 CALLS = {**TOOLS, "dev/check/network": ["tools/networks"], "dev/check/tutorial": DRAWN, "dev/check/docs": DRAWN,
+         "dev/check/first-day": DRAWN,
          "dev/deep": ["dev/check", "dev/attack", "dev/compare"]}
 # Targets whose packages are those of the others that they call.
 OF_OTHERS = ("deep",)

@@ -7,7 +7,7 @@ import re
 import shutil
 import subprocess
 
-from networks import units
+from networks import places, units
 
 SECONDS = 60
 # Fills of the first partitions, pale, so that names can be read on them.
@@ -41,8 +41,8 @@ def width(load):
     return 1.2 + min(10**6, load) / 250_000
 
 
-def dot_text(network, loads):
-    """The network for Graphviz."""
+def dot_text(network, loads, points=None):
+    """The network for Graphviz, at these points if there are any."""
     splines = "line" if len(network.nodes) > MANY else "true"
     lines = ["graph network {",
              f"overlap=prism; splines={splines}; outputorder=edgesfirst; bgcolor=transparent; sep=0.1;"]
@@ -52,6 +52,7 @@ def dot_text(network, loads):
         shape = "box" if node.kind == "router" else "ellipse"
         fill, says = fill_of(node.partition), f"{node.name}: partition {node.partition}"
         look = f'shape={shape}, fillcolor="{fill}", tooltip="{says}"'
+        look += f', pos="{points[number][0]:.1f},{points[number][1]:.1f}"' if points else ""
         lines.append(f'n{number} [label="{node.name}", {look}];')
     for number, link in enumerate(network.links):
         one, other = network.link_nodes(number)
@@ -64,19 +65,22 @@ def dot_text(network, loads):
 
 
 def by_graphviz(network, loads):
-    """The drawing of Graphviz, or None and why there is none."""
+    """The drawing of Graphviz, with how it was drawn, or None and why there is none."""
     program = shutil.which("dot")
     if not program:
         return None, "Graphviz is not installed (apt-get install graphviz)"
-    way = "sfdp" if len(network.nodes) > MANY else "neato"
+    points = places.points_of(network)
+    # With -n nodes stay where they are, but for those that would lie on others.
+    way = ["-Kneato", "-n"] if points else ["-Ksfdp"] if len(network.nodes) > MANY else ["-Kneato"]
     try:
-        text, pipe = dot_text(network, loads).encode(), subprocess.PIPE
-        words = [program, f"-K{way}", "-Tsvg"]
+        text, pipe = dot_text(network, loads, points).encode(), subprocess.PIPE
+        words = [program, *way, "-Tsvg"]
         ended = subprocess.run(words, input=text, stdout=pipe, stderr=subprocess.DEVNULL, timeout=SECONDS, check=False)
     except subprocess.TimeoutExpired:
         return None, f"Graphviz took more than {SECONDS} seconds"
     found = re.search(r"<svg.*</svg>", ended.stdout.decode(errors="replace"), re.DOTALL)
-    return (found[0], "") if found and ended.returncode == 0 else (None, "Graphviz failed")
+    how = "Graphviz, each node about where the file says that it is" if points else "Graphviz"
+    return (found[0], how) if found and ended.returncode == 0 else (None, "Graphviz failed")
 
 
 def on_a_circle(network, loads):
@@ -119,7 +123,7 @@ def on_a_circle(network, loads):
 
 def drawn(network, loads):
     """The drawing, and what drew it."""
-    picture, why = by_graphviz(network, loads)
+    picture, how = by_graphviz(network, loads)
     if picture:
-        return picture, "Graphviz"
-    return on_a_circle(network, loads), f"tools/network, on a circle: {why}"
+        return picture, how
+    return on_a_circle(network, loads), f"tools/network, on a circle: {how}"

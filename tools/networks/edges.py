@@ -31,7 +31,7 @@ def read(name, text):
             continue
         if len(words) < 2:
             raise errors.Refused(at, f"{errors.shown(line)} is no edge: a line has two names, and perhaps a rate and a "
-                                     "delay")
+                                     "delay; networkx writes such lines by write_edgelist, not by write_adjlist")
         for word in words[:2]:
             if word not in made.nodes:
                 made.add_node(word, FoundNode(word, None, at))

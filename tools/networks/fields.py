@@ -38,7 +38,7 @@ def time(bounds):
 
 def rate(bounds=limits.RATE):
     """A rate in bits per second."""
-    return quantity(bounds, units.RATES, "bits per second", "10 Mbit/s")
+    return quantity(bounds, units.RATE_WORDS, "bits per second", "10 Mbit/s")
 
 
 def choice(*words):
@@ -66,6 +66,16 @@ def flag(value):
     if not isinstance(value, bool):
         raise Wrong("has to be true or false")
     return value
+
+
+def place(value):
+    """A latitude and a longitude in degrees."""
+    most = (90, 360)
+    if (not isinstance(value, list) or len(value) != 2
+            or any(isinstance(it, bool) or not isinstance(it, (int, float)) for it in value)
+            or not all(-end <= it <= end for it, end in zip(value, most))):
+        raise Wrong("has to be a latitude and a longitude in degrees, such as [50.85, 4.35]")
+    return tuple(map(float, value))
 
 
 def line(value):

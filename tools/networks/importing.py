@@ -33,6 +33,8 @@ def read(words):
     """What the file has."""
     text = toml.octets(words.file)
     kind = words.format or format_of(words.file, text)
+    if kind == "edges" and text.lstrip().startswith(("{", "[")):
+        raise errors.Refused(words.file, "JSON is not read: networkx's write_graphml writes what is")
     if words.latencies and kind != "rocketfuel":
         raise errors.Refused("", "--latencies stands with Rocketfuel weights: for other files say --format rocketfuel, "
                                  "or leave it out")
@@ -102,11 +104,11 @@ def comment(text):
 
 
 def node_lines(made, name_of):
-    """The nodes as an array of tables; behind each its place."""
+    """The nodes as an array of tables."""
     lines = []
     for key, node in made.nodes.items():
-        place = f"  # latitude {node.place[0]:.2f}, longitude {node.place[1]:.2f}" if node.place else ""
-        lines.append(f'  {{name = "{name_of[key]}"}},{place}')
+        place = f", place = [{node.place[0]:.2f}, {node.place[1]:.2f}]" if node.place else ""
+        lines.append(f'  {{name = "{name_of[key]}"{place}}},')
     return ["node = [", *lines, "]"]
 
 

@@ -24,7 +24,7 @@ def joined(spec):
     numbers, given, raised = {}, names.Names(), []
     for number, node in enumerate(spec.nodes.values()):
         numbers[node.name] = number
-        network.nodes.append(Node(node.name, node.kind, node.partition, list(node.ports)))
+        network.nodes.append(Node(node.name, node.kind, node.partition, list(node.ports), node.where))
     for link in spec.links:
         ends = []
         for own, far in ((link.a, link.b), (link.b, link.a)):
@@ -74,7 +74,7 @@ def make(spec, name, say=None):
     place_of = flows.add(spec, network, numbers, chance)
     count = len(network.sources)
     blocks, taken = routed(spec, network)
-    routes.check_counts(network, network.routes, name)
+    routes.check_counts(network, network.routes, name, spec.weight, spec.spread, spec.only_flows)
     routes.check_flows(network, lambda number: place_of[number])
     first, formed = first_line(spec), planned(spec, network, say)
     chosen = chosen_lines(spec, network, count, blocks, taken, raised)

@@ -35,28 +35,32 @@ def most_of_a_node(routes):
     return Counter(route.node for route in routes).most_common(1)[0] if routes else (0, 0)
 
 
-def check_counts(network, routes, name):
+def check_counts(network, routes, name, weight, spread, only_flows):
     """Refuses more routes than a topology has."""
     node, count = most_of_a_node(routes)
+    if count <= limits.NODE_ROUTES and len(routes) <= limits.ROUTES:
+        return
+    said = f"the network would need {len(routes):,} routes, and at most {limits.ROUTES:,} may be"
     if count > limits.NODE_ROUTES:
-        raise errors.Refused(name, f'node "{network.nodes[node].name}" would need {count:,} routes{advice()}')
-    if len(routes) > limits.ROUTES:
-        raise errors.Refused(name, f"the network would need {len(routes):,} routes, and at most {limits.ROUTES:,} may "
-                                   f"be{advice(False)}")
+        said = (f'node "{network.nodes[node].name}" would need {count:,} routes, and at most {limits.NODE_ROUTES:,} '
+                "may be")
+    fewer = routes if only_flows else tables(network, choices(network, weight, spread), True)
+    raise errors.Refused(name, f"{said}: {advice(len(routes), len(fewer), spread)}")
 
 
 def computed(network, weight, spread=False, name="", only_flows=False):
     """The routes of a network whose addresses are given."""
     routes = tables(network, choices(network, weight, spread), only_flows)
-    check_counts(network, routes, name)
+    check_counts(network, routes, name, weight, spread, only_flows)
     return routes
 
 
-def advice(is_of_node=True):
-    """What helps against too many routes."""
-    most = f", and at most {limits.NODE_ROUTES:,} may be" if is_of_node else ""
-    return (f"{most}: route only to the ends of flows (`only_flows = true` in a SPEC, `routes --only-flows`), "
-            "leave out spread, or have fewer routers")
+def advice(count, fewer, spread):
+    """What helps against so many routes, of which fewer may lead to the ends of flows."""
+    ways = [f"route only to the ends of flows, which are {fewer:,} (`only_flows = true` in a SPEC, `routes "
+            "--only-flows`)"] if fewer < count else []
+    ways += ["leave out spread"] if spread else []
+    return " or ".join(filter(None, [", ".join(ways), "have fewer routers"]))
 
 
 def flow_ends(network):

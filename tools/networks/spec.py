@@ -13,6 +13,8 @@ class SpecNode:
     partition: int
     ports: list
     place: object
+    # Its latitude and longitude, where the SPEC says them.
+    where: tuple | None = None
 
 
 @dataclass
@@ -153,7 +155,7 @@ class Reading:
             raise errors.Refused(self.text.place(array), f'key "{array}" has to be an array of tables: [[{array}]]')
         return enumerate(members)
 
-    def add(self, name, kind, partition, place, ports=()):
+    def add(self, name, kind, partition, place, ports=(), where=None):
         """A node."""
         if not names.is_name(name):
             raise errors.Refused(place(), f"the name {errors.shown(name)} would be longer than {limits.NAME_LENGTH} "
@@ -161,7 +163,7 @@ class Reading:
         if name in self.spec.nodes:
             raise errors.Refused(place(), f'two nodes have the name "{name}": the other one is at '
                                           f'{self.spec.nodes[name].place()}')
-        self.spec.nodes[name] = SpecNode(name, kind, partition, list(ports), place)
+        self.spec.nodes[name] = SpecNode(name, kind, partition, list(ports), place, where)
 
     def hosts(self, router, count, partition, place):
         """The hosts behind a router: ROUTER-h1 and so on."""
@@ -178,13 +180,13 @@ class Reading:
     def node(self, number, value):
         named = errors.shown(value["name"]) if isinstance(value, dict) and "name" in value else ""
         place = self.place("node", number, named)
-        table = {**self.defaults["node"], **fields.table(value, {"name": fields.name, **NODE, "ports": PORTS}, place,
-                                                         ("name",))}
+        own = {"name": fields.name, **NODE, "ports": PORTS, "place": fields.place}
+        table = {**self.defaults["node"], **fields.table(value, own, place, ("name",))}
         # A host has no hosts, unless its own table says so: then that is a mistake.
         count = value.get("hosts", 0) if table["kind"] == "host" else table["hosts"]
         if table["kind"] == "host" and count:
             raise errors.Refused(place("hosts"), "a host has no hosts behind it: only routers do")
-        self.add(table["name"], table["kind"], table["partition"], place, table.get("ports", ()))
+        self.add(table["name"], table["kind"], table["partition"], place, table.get("ports", ()), table.get("place"))
         self.hosts(table["name"], count, table["partition"], place)
 
     def group(self, number, value):

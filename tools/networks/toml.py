@@ -33,6 +33,11 @@ class Text:
         start = item.key_start if way and isinstance(way[-1], str) and item.key_start else item.start
         return f"{self.name}:{spans.line_of(self.text, start)}"
 
+    def line_end(self, place):
+        """Where the line ends in which a place is."""
+        end = self.text.find("\n", place)
+        return end if end >= 0 else len(self.text)
+
 
 def load(name):
     """A file, or standard input where the name is -."""
@@ -52,8 +57,9 @@ def octets(name):
     if len(held) > limits.TEXT_OCTETS:
         raise errors.Refused(name, f"it has more than {limits.TEXT_OCTETS:,} octets")
     if not held.strip():
-        raise errors.Refused(name, "it is empty; a shell empties FILE before `.. FILE > FILE` runs: write to another "
-                                   "file")
+        why = ("a shell empties FILE before `.. FILE > FILE` runs: write to another file" if name != "-"
+               else "what was to write it wrote nothing")
+        raise errors.Refused(name, f"it is empty; {why}")
     try:
         return held.decode("utf-8-sig")
     except UnicodeDecodeError as why:

@@ -13,6 +13,8 @@ class Node:
     kind: str = "router"
     partition: int = 0
     ports: list = field(default_factory=list)
+    # Its latitude and longitude, which a comment says: a topology has no key for them.
+    where: tuple | None = None
 
 
 @dataclass
@@ -151,6 +153,8 @@ ARE_OF_SPECS = {"title", "group", "flow", "defaults", "weight", "prefix", "seed"
 ARRAYS = ("node", "iface", "link", "route", "source")
 MOST = {"node": limits.NODES, "iface": limits.IFACES, "link": limits.LINKS, "route": limits.ROUTES,
         "source": limits.SOURCES}
+# What is said of a node behind its table.
+WHERE = re.compile(r"# *latitude (-?[0-9]+(?:\.[0-9]+)?), longitude (-?[0-9]+(?:\.[0-9]+)?)")
 # The header of an IPv4 packet, in hexadecimal.
 IPV4_HEADER = re.compile("4[0-9A-Fa-f]{39}")
 TIMED = ("to", "size", "start", "interval", "count")
@@ -229,7 +233,13 @@ class Reading:
         place = self.place("node", number, value.get("name", "") if isinstance(value, dict) else "")
         table = fields.table(value, NODE, place, ("name", "kind"))
         self.new(self.nodes, table["name"], number, place, "node")
-        return Node(table["name"], table["kind"], table.get("partition", 0), table.get("ports", []))
+        return Node(table["name"], table["kind"], table.get("partition", 0), table.get("ports", []), self.where(number))
+
+    def where(self, number):
+        """The place that the comment on a node's line says, or none."""
+        item = self.text.spans.at("node", number)
+        found = WHERE.search(self.text.text, item.start, self.text.line_end(item.end or item.start))
+        return tuple(map(float, found.groups())) if found else None
 
     def iface(self, number, value):
         place = self.place("iface", number, value.get("name", "") if isinstance(value, dict) else "")

@@ -5,6 +5,8 @@ from fractions import Fraction
 
 TIMES = {"ns": 1, "us": 10**3, "ms": 10**6, "s": 10**9}
 RATES = {"bit/s": 1, "kbit/s": 10**3, "Mbit/s": 10**6, "Gbit/s": 10**9, "Tbit/s": 10**12}
+# Rates are read in these words too, as files of others have them.
+RATE_WORDS = {**RATES, **{unit.replace("bit/s", "bps"): size for unit, size in RATES.items()}}
 QUANTITY = re.compile(r"([0-9]+(?:\.[0-9]+)?) ?([A-Za-z/]+)")
 # Numbers of more letters are none that anybody means, and would take long.
 LONGEST = 40

@@ -9,6 +9,11 @@ def node_line(node):
     return f'{{name = "{node.name}", kind = "{node.kind}", partition = {node.partition}{ports}}}'
 
 
+def node_remark(node):
+    """Where a node is, which `network show` reads again."""
+    return f"latitude {node.where[0]:.2f}, longitude {node.where[1]:.2f}" if node.where else ""
+
+
 def iface_line(network, iface):
     """An interface as a table."""
     octets = "" if iface.queue_octets is None else f", queue_octets = {iface.queue_octets}"
@@ -76,7 +81,7 @@ def text(made, title=""):
         "\n".join([*head, *[f"#   {line}" for line in made.chosen]]),
         "\n".join([f"format = {2 if is_second else 1}", f"stop = {network.stop}   # nanoseconds: "
                                                         f"{units.time_said(network.stop)}", f"mtu = {network.mtu}"]),
-        array("node", [(node_line(node), "") for node in network.nodes]),
+        array("node", [(node_line(node), node_remark(node)) for node in network.nodes]),
         array("iface", [(iface_line(network, iface), "") for iface in network.ifaces]),
         array("link",
               [(link_line(network, link), link_remark(network, number)) for number, link in enumerate(network.links)]),

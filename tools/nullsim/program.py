@@ -48,13 +48,22 @@ def said_lines(terminal: int, tell: Callable[[Progress], None] | None) -> list[s
             return lines
 
 
+def ends() -> tuple[int, int]:
+    """Where standard error is read, and where it goes: a terminal of its own, or a pipe if the system has none left."""
+    try:
+        return pty.openpty()
+    except OSError:
+        return os.pipe()
+
+
 def call(words: list[str], out, tell: Callable[[Progress], None] | None = None) -> None:
     """Runs the program with these words, with standard output to the file `out`; `tell` is called once a second. Its
     standard error is a terminal of its own: there it says how far it is, and more of a fault."""
-    own, far = pty.openpty()
+    own, far = ends()
     try:
         try:
-            child = subprocess.Popen(words, stdin=subprocess.DEVNULL, stdout=out, stderr=far)
+            child = subprocess.Popen(words, stdin=subprocess.DEVNULL, stdout=out, stderr=far,
+                                     env={**os.environ, "NULLSIM_EXPLAIN": "1"})
         except OSError as why:
             raise faults.Lacking(faults.LACKING, words[0], f"it does not run: {why.strerror}") from None
         finally:

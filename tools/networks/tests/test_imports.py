@@ -42,6 +42,7 @@ class Imports(tool.Folder):
                          ["10 Gbit/s", "2.48832 Gbit/s", "155 Mbit/s", "2.5 Gbit/s", None])
         # Zürich to Bern is 95 km, which light in fibre takes 0.47 ms for.
         self.assertEqual([link.get("delay") for link in links], ["470 us", None, None, "650 us", "650 us"])
+        self.assertEqual(tomllib.loads(said)["node"][0]["place"], [47.37, 8.54])
         self.assertIn("#   none-2                     None\n", said)
         self.assertIn("#   die-universitat-der-stadt  Die Universität der Stadt Genève am See\n", said)
 

@@ -5,7 +5,7 @@ import os
 import re
 from html.parser import HTMLParser
 
-from networks import drawing
+from networks import drawing, places
 from networks.tests import tool
 
 EMPTY = ("meta", "br", "hr", "img", "input", "link")
@@ -56,6 +56,22 @@ class Pages(tool.Folder):
             said = self.page(name)
             self.assertIn("Drawn by Graphviz.", said)
             self.check(said, name)
+
+    @tool.needs_program("dot")
+    def test_a_network_with_places_is_a_map(self):
+        spec = tool.call("import", os.path.join(tool.EXAMPLES, "research-40.graphml"))[1]
+        cut = tool.call("partition", self.file("x.toml", tool.made(spec)), "2")[1]
+        network = tool.network_of(cut)
+        points = {node.name: places.points_of(network)[number] for number, node in enumerate(network.nodes)}
+        self.assertLess(points["lisbon"][0], points["wien"][0])
+        self.assertLess(points["roma"][1], points["oslo"][1])
+        self.assertLess(abs(points["oslo-h1"][0] - points["oslo"][0]), 2 * places.BESIDE)
+        self.assertIn("each node about where", tool.call("show", self.file("y.toml", cut))[1])
+        self.assertIsNone(places.points_of(tool.network_of(tool.made(re.sub(", place = [^]]*]", "", spec)))))
+
+    def test_the_globe_is_cut_where_nothing_is(self):
+        found = places.flat({0: (-36.85, 174.76), 1: (37.77, -122.42), 2: (-33.87, 151.21)})
+        self.assertEqual(sorted(found, key=lambda number: found[number][0]), [2, 0, 1])
 
     def test_without_graphviz(self):
         held = drawing.shutil.which

@@ -197,16 +197,20 @@ class Limits(unittest.TestCase):
     def test_too_many_routes_are_refused_with_advice(self):
         from networks import errors, limits
 
-        network = tool.network_of(tool.made(spec_of("random")))
+        every = tool.network_of(tool.made(spec_of("random")))
+        some = tool.network_of(tool.made(spec_of("random").replace('among = "*"\npairs = "across"',
+                                                                   'from = "x-1"\nto = "x-2"')))
         held = limits.NODE_ROUTES, limits.ROUTES
         try:
             limits.NODE_ROUTES = 5
             with self.assertRaisesRegex(errors.Refused, r'node "x-\d+" would need \d+ routes, and at most 5 may be: '
-                                                        r'route only to the ends of flows'):
-                routes.computed(network, "hops", True, "x.toml")
+                                                        r'route only to the ends of flows, which are \d+ \('):
+                routes.computed(some, "hops", True, "x.toml")
             limits.NODE_ROUTES, limits.ROUTES = held[0], 20
-            with self.assertRaisesRegex(errors.Refused, r"the network would need \d+ routes, and at most 20 may be: "
-                                                        r"route only to the ends of flows"):
-                routes.computed(network, "hops", True, "x.toml")
+            # Where flows end everywhere it would not help to route to their ends alone.
+            for spread, advice in ((True, "leave out spread or have fewer routers"), (False, "have fewer routers")):
+                with self.assertRaisesRegex(errors.Refused, r"the network would need \d+ routes, and at most 20 may "
+                                                            rf"be: {advice}$"):
+                    routes.computed(every, "hops", spread, "x.toml")
         finally:
             limits.NODE_ROUTES, limits.ROUTES = held
