@@ -46,9 +46,9 @@ is_stall (Refused cause.Stalled) = true
 is_stall (Refused cause.Broken) = false
 
 -- why a replica cannot be served that has no book
-abbrev pub book_fault : Fault BookRefusal → Fault ProcessCause
-book_fault Memory = Memory
-book_fault (Refused refusal) = Refused cause.Broken
+abbrev pub fault_without_book : Fault BookRefusal → Fault ProcessCause
+fault_without_book Memory = Memory
+fault_without_book (Refused refusal) = Refused cause.Broken
 
 -- a book of this replica has something left to do, or has handed records out
 abbrev pub IsUnfinished : Home → Type 0

@@ -5,7 +5,7 @@ ghost use Rattle.std.specs.Prelude.{false, true};
 ghost use Rattle.std.specs.Arc.{arc_value};
 ghost use Rattle.nm_peers.specs.Peers.{own_address};
 ghost use Rattle.nm_replica.specs.Finished.{IsDone};
-ghost use Rattle.nm_process.specs.Process.{IsAt, IsDoneReplica, IsUnfinished, book_fault};
+ghost use Rattle.nm_process.specs.Process.{IsAt, IsDoneReplica, IsUnfinished, fault_without_book};
 ghost use Rattle.nm_process.specs.Process.{is_stall};
 ghost use Rattle.nm_shared.specs.Counted.{IsBlankOf};
 ghost use Rattle.nm_shared.specs.Home.{home_at, home_of};
@@ -139,8 +139,8 @@ fn serve<C: Counts, R: Net + Wait + Clock + Drop + Copy>(
 }
 
 /// Why there is no book: memory was refused, or there is no such replica, which the words rule out.
-fn book_fault(fault: &BookFault) -> ProcessFault
-    ensures { result ≡ book_fault fault.now }
+fn fault_without_book(fault: &BookFault) -> ProcessFault
+    ensures { result ≡ fault_without_book fault.now }
 {
     match fault {
         BookFault::Memory => ProcessFault::Memory,
@@ -166,7 +166,7 @@ fn shared_of<M: Naming + Send + Sync, E: Ledger + Send + Sync>(
     let (partition, replica) = (process.partition, process.replica);
     match SharedBook::new(alloc, topology, partition, replica, counts, whole) {
         Ok(book) => Ok(book),
-        Err(fault) => Err(book_fault(&fault)),
+        Err(fault) => Err(fault_without_book(&fault)),
     }
 }
 
