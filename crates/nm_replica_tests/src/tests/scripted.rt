@@ -181,8 +181,8 @@ impl Transport for Scripted {
     }
 
     fn wait(&mut self, may_wait: bool) -> Waited {
-        self.was_to_wait = may_wait;
         let fails = self.fails();
+        self.was_to_wait = may_wait;
         if !may_wait && !fails {
             return Waited::Ready;
         }
