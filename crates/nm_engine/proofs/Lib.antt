@@ -5,3 +5,4 @@ pub mod Writings
 pub mod Turns
 pub mod Many
 pub mod Passes
+pub mod Noting

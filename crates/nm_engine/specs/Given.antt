@@ -1,6 +1,10 @@
 -- What links have given: counts, and which messages.
-use Rattle.std.specs.Prelude.{◌≡◌, ◌⊎◌, ℕ, ◌-◌, ◌==◌, if◌then◌else◌, List, [], ◌∷◌, ◌++◌, max, min, position, slice_index_or, slice_set, Option, Some, None}
+use Rattle.std.specs.Prelude.{◌≡◌, ◌⊎◌, ℕ, ◌+◌, ◌-◌, ◌==◌, if◌then◌else◌, List, [], ◌∷◌, ◌++◌, max, min, position, slice_index_or, slice_set, Option, Some, None}
 use Rattle.std.specs.List.{sum_by}
+use Rattle.nm_base.specs.Count.{saturated}
+use Rattle.nm_frames.specs.declared.frame.Frame.{Frame}
+use Rattle.nm_frames.specs.declared.frame.Frame.TheVariants.{Hello, Data, Null, Have, Bye}
+use Rattle.nm_engine.specs.declared.given.GivenCounts.{GivenCounts}
 use Rattle.nm_engine.specs.declared.given.MessageRange.{MessageRange}
 
 -- how many messages two ranges have both: none where they are of two channels
@@ -37,3 +41,17 @@ abbrev pub NotesRange : (old new : List MessageRange) → MessageRange → Type 
 NotesRange old new more =
     (new ≡ with_range old more (place_of more.channel old))
     ⊎ ((place_of more.channel old ≡ None) × (new ≡ old))
+
+-- so many ranges are noted, one after another
+abbrev pub NotesAll : (old new : List MessageRange) → List MessageRange → Type 0
+NotesAll old new [] = new ≡ old
+NotesAll old new (more ∷ rest) =
+    (mid : List MessageRange) × NotesRange old mid more × NotesAll mid new rest
+
+-- how many messages and null messages were given, with one frame more
+abbrev pub given_with : GivenCounts → Frame → GivenCounts
+given_with counts (Data message) = record counts { messages = saturated (counts.messages + 1) }
+given_with counts (Null promise) = record counts { nulls = saturated (counts.nulls + 1) }
+given_with counts (Hello hello) = counts
+given_with counts (Have cursor) = counts
+given_with counts Bye = counts

@@ -3,8 +3,8 @@
 
 ghost use Rattle.std.specs.Prelude.{◌+◌, ◌-◌, ◌≡◌};
 ghost use Rattle.nm_base.specs.Count.{saturated};
-ghost use Rattle.nm_engine.specs.Given.{NotesRange, common_between, common_of, common_with};
-ghost use Rattle.nm_engine.specs.Given.{place_of, widened};
+ghost use Rattle.nm_engine.specs.Given.{NotesAll, NotesRange, common_between, common_of};
+ghost use Rattle.nm_engine.specs.Given.{common_with, given_with, place_of, widened};
 
 use nm_base::ChanNo;
 use nm_frames::Frame;
@@ -143,7 +143,9 @@ impl GivenMessages {
     }
 
     /// What another link to the same replica gave, too.
-    pub fn merge(&mut self, other: &GivenMessages) {
+    pub fn merge(&mut self, other: &GivenMessages)
+        ensures { NotesAll self.old.ranges.items self.new.ranges.items other.now.ranges.items }
+    {
         for range in &other.ranges {
             self.note_range(*range);
         }
@@ -173,7 +175,9 @@ pub struct Given {
 
 impl Given {
     /// Nothing.
-    pub(crate) fn new(alloc: Global) -> Self {
+    pub(crate) fn new(alloc: Global) -> Self
+        ensures { result.counts ≡ record { messages = 0; nulls = 0 } }
+    {
         Given {
             counts: GivenCounts::NONE,
             messages: GivenMessages::new(alloc),
@@ -181,7 +185,9 @@ impl Given {
     }
 
     /// This frame was given.
-    pub(crate) fn note(&mut self, frame: &Frame) {
+    pub(crate) fn note(&mut self, frame: &Frame)
+        ensures { self.new.counts ≡ given_with self.old.counts frame.now }
+    {
         match frame {
             Frame::Data(data) => {
                 self.counts.messages = self.counts.messages.saturating_add(1);

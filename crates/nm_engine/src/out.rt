@@ -1,6 +1,8 @@
 //! What a link has for its wire.
 
-ghost use Rattle.std.specs.Prelude.{◌≡◌, ◌≤◌, ◌==◌, ◌++◌, [], OnErr, OnOk, drop, length};
+ghost use Rattle.std.specs.Prelude.{◌≡◌, ◌≤◌, ◌==◌, ◌++◌, [], None, OnErr, OnOk, Some, drop, length};
+ghost use Rattle.std.specs.Option.{option_map};
+ghost use Rattle.nm_engine.specs.Given.{given_with};
 ghost use Rattle.nm_frames.specs.Frame.{IsFrame, frame_octets};
 
 use crate::given::Given;
@@ -20,12 +22,16 @@ pub(crate) struct OutBuffer {
 }
 
 impl Model for OutBuffer {
+    ghost use Rattle.std.specs.Option.{option_map};
     ghost use Rattle.std.specs.Prelude.{◌≤◌, drop, vec_len};
     ghost use Rattle.nm_engine.specs.Out.{Waiting};
 
     ghost Value = { Waiting };
 
-    ghost view = { λ o. record { items = drop o.gone o.octets.items } };
+    ghost view = { λ o. record {
+      items = drop o.gone o.octets.items;
+      given = option_map (λ g. g.counts) o.given;
+    } };
 
     ghost invariant = { λ o. o.gone ≤ vec_len o.octets };
 }
@@ -33,7 +39,7 @@ impl Model for OutBuffer {
 impl OutBuffer {
     /// A buffer without octets.
     pub(crate) fn new(alloc: Global) -> Self
-        ensures { result.items ≡ [] }
+        ensures { (result.items ≡ []) × (result.given ≡ None) }
     {
         OutBuffer {
             octets: Vec::new(alloc),
@@ -44,19 +50,24 @@ impl OutBuffer {
 
     /// From now on the frames that are put here are counted.
     pub(crate) fn count_given(&mut self, alloc: Global)
-        ensures { self.new ≡ self.old }
+        ensures { self.new ≡ record self.old {
+          given = Some (record { messages = 0; nulls = 0 });
+        } }
     {
         self.given = Some(Given::new(alloc));
     }
 
     /// The frames that were put here, where they are counted.
-    pub(crate) fn given(&self) -> Option<&Given> {
+    pub(crate) fn given(&self) -> Option<&Given>
+        ensures { option_map (λ g. g.now.counts) result ≡ self.now.given }
+    {
         self.given.as_ref()
     }
 
     /// The same. None are counted any more.
     pub(crate) fn take_given(&mut self) -> Option<Given>
-        ensures { self.new ≡ self.old }
+        ensures given { option_map (λ g. g.counts) result ≡ self.old.given }
+        ensures left { self.new ≡ record self.old { given = None } }
     {
         self.given.take()
     }
@@ -91,6 +102,8 @@ impl OutBuffer {
         ensures ok { OnOk result (self.new.items ≡ self.old.items ++ frame_octets frame.now) }
         ensures fits { IsFrame frame.now }
         ensures err { OnErr result (self.new.items ≡ self.old.items) }
+        ensures counted { OnOk result (self.new.given
+            ≡ option_map (λ counts. given_with counts frame.now) self.old.given) }
     {
         write_frame(frame, &mut self.octets)?;
         if let Some(given) = &mut self.given {
@@ -102,7 +115,7 @@ impl OutBuffer {
     /// So many octets at the front went.
     pub(crate) fn advance(&mut self, count: usize)
         requires { count ≤ length self.old.items }
-        ensures { self.new.items ≡ drop count self.old.items }
+        ensures { self.new ≡ record self.old { items = drop count self.old.items } }
     {
         self.gone += count;
         if self.gone >= self.octets.len() - self.gone {

@@ -1,11 +1,12 @@
 //! What serving a replica comes to, and what its process does.
 
-ghost use Rattle.std.specs.Prelude.{◌≡◌, Some, [], false, true};
+ghost use Rattle.std.specs.Prelude.{◌≡◌, IsSomeAnd, Some, [], false, true};
 ghost use Rattle.std.specs.Arc.{arc_value};
-ghost use Rattle.nm_peers.specs.Peers.{ArePeers};
+ghost use Rattle.nm_peers.specs.Peers.{ArePeers, own_address};
 ghost use Rattle.nm_peers.specs.declared.peers.Peers.{Peers};
 ghost use Rattle.nm_process.specs.Ending.{process_end, unfinished_fault};
-ghost use Rattle.nm_process.specs.Process.{AreCalled};
+ghost use Rattle.nm_process.specs.Process.{AreCalled, IsAt};
+ghost use Rattle.nm_replica.specs.Served.{EndsWith};
 
 use crate::fault::{ProcessCause, ProcessFault};
 use crate::process::{Process, RUN_EVENTS};
@@ -63,6 +64,15 @@ pub(crate) fn serve_over<C: Counts, R: Net + Wait + Clock + Drop + Copy>(
     requires alone { (service.now.books.now ≡ []) × (service.now.lending.now ≡ false) }
     requires notes { (service.now.progress ≡ Some process.now.progress)
         × (service.now.notes_progress ≡ true) }
+
+    // It listens at the address that its replica has among the listeners.
+    requires at { IsSomeAnd (own_address process.now.listeners.now service.now.book.now.partition
+        service.now.book.now.replica) (IsAt transport.old.at) }
+
+    // What it came to is true of the replica, and of the periods and the waits that passed.
+    ensures { EndsWith C.exact C.home true process.now.idle_limit
+        (transport.old.elapsed, transport.new.elapsed)
+        (transport.old.asked.waits, transport.new.asked.waits) result.served }
 {
     Ending {
         served: run_replica(rt, alloc, service, holdings, transport, &OpenGate),

@@ -91,10 +91,12 @@ fn open_transport<C: Counts, R: Net + Clock + Drop + Copy>(
     book: &SharedBook<C>,
     addresses: Vec<SocketAddr>,
 ) -> io::Result<TcpTransport<R>>
-    ensures { IfOk result (λ transport. transport.peers ≡ addresses.items) }
+    ensures peers { IfOk result (λ transport. transport.peers ≡ addresses.items) }
+    ensures at { IfOk result (λ transport. IsSomeAnd (own_address process.now.listeners.now
+        book.now.partition book.now.replica) (IsAt transport.at)) }
 {
-    let socket = listen(rt, process, book)?.into_socket();
-    TcpTransport::new(*rt, alloc, Poll::new(rt)?, socket, addresses)
+    let bound = listen(rt, process, book)?;
+    TcpTransport::new(*rt, alloc, Poll::new(rt)?, bound, addresses)
 }
 
 /// Serves a replica that is shared with nobody else: what that came to, whether it is done or not.

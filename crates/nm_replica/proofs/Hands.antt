@@ -1,5 +1,5 @@
 -- Peers that are called one after another, and connections that are let go so.
-use Rattle.std.proofs.Common.{◌≡◌, ◌≢◌, ℕ, suc, ◌+◌, ◌<◌, ◌≤◌, ◌&&◌, Bool, true, false, length, List, Option, None, refl, ◌∙◌, ap, arith, below_more, ⊎_elim, inl, inr}
+use Rattle.std.proofs.Common.{add-one, ◌≡◌, ◌≢◌, ℕ, suc, ◌+◌, ◌<◌, ◌≤◌, ◌&&◌, Bool, true, false, length, List, Option, None, refl, ◌∙◌, ap, arith, below_more, ⊎_elim, inl, inr}
 use Rattle.std.specs.Prelude.{nat_lt, slice_index_or}
 use Rattle.std.proofs.lemmas.Bool.{cases_lt}
 use Rattle.std.proofs.lemmas.Bool.Decides.{nat_tests}
@@ -73,5 +73,5 @@ pub one_more_gone : (first old new : ContactsValue) (key : ℕ) → (n : ℕ) ×
 one_more_gone first old new key so_far stale went = (suc so_far.0, (old, so_far.1, (key, stale, went)))
 
 -- one more was kept or not, once there was room
-pub one_more_admitted : (first old roomy new : ContactsValue) → (n : ℕ) × Admits n first old → MakesRoom old roomy → Keeps roomy new → (n : ℕ) × Admits n first new
-one_more_admitted first old roomy new so_far room keeps = (suc so_far.0, (old, so_far.1, (roomy, room, keeps)))
+pub one_more_admitted : (n : ℕ) (first old roomy new : ContactsValue) → Admits n first old → MakesRoom old roomy → Keeps roomy new → Admits (n + 1) first new
+one_more_admitted n first old roomy new so_far room keeps = rw add-one (old, so_far, (roomy, room, keeps))

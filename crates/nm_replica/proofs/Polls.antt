@@ -1,13 +1,10 @@
 -- What polls come to, and why serving ends by them.
-use Rattle.std.proofs.Common.{◌≡◌, ◌≤◌, ◌+◌, inl, ℕ, Bool, true, false, if◌then◌else◌, Option, Some, None, IfSome, Ok, refl, subst, arith}
+use Rattle.std.proofs.Common.{◌≡◌, ◌≤◌, ◌+◌, inl, ℕ, Bool, true, false, if◌then◌else◌, Option, Some, None, refl, subst, arith}
 use Rattle.std.proofs.lemmas.Bool.Decides.{nat_tests}
 use Rattle.std.specs.Prelude.{nat_le}
 use Rattle.nm_base.specs.Count.{saturated}
 use Rattle.nm_shared.specs.Home.{Home}
-use Rattle.nm_book.specs.declared.running.Ran.{Ran}
-use Rattle.nm_book.specs.declared.running.Ran.TheVariants.{All, Limit, Memory}
-use Rattle.nm_shared.specs.Pool.{IsRunAnswer}
-use Rattle.nm_replica.specs.Polls.{ending_of, idle_after, is_active, runs_on}
+use Rattle.nm_replica.specs.Polls.{ending_of, idle_after, is_active}
 use Rattle.nm_transport.specs.Transport.{elapsed_after}
 use Rattle.nm_replica.specs.Served.{EndsWith, PolledOnce, WasFinished}
 use Rattle.nm_replica.specs.declared.served.Served.{Served}
@@ -23,18 +20,18 @@ idles_wait idle false true start before after so_far one = omega (arith, so_far,
 idles_wait idle false false start before after so_far one = omega (arith, so_far, one)
 
 -- what `ending_of` says is why serving ends
-pub ends_after : (exact : Bool) (own : Home) (keeps : Bool) (limit before after idle polls : ℕ) (is_done : Bool) (served : Served)
+pub ends_after : (exact : Bool) (own : Home) (keeps : Bool) (limit before after : ℕ) (waits : ℕ × ℕ) (idle polls : ℕ) (is_done : Bool) (served : Served)
     → (is_done ≡ true → WasFinished exact own keeps) → before + idle ≤ after → ending_of is_done idle limit polls ≡ Some served
-    → EndsWith exact own keeps limit (before, after) served
-ends_after exact own keeps limit before after idle polls true served finished idles e =
-    let is : Ended ≡ served = cc in subst (EndsWith exact own keeps limit (before, after)) is (finished refl)
-ends_after exact own keeps limit before after idle polls false served finished idles e = by_test (nat_le limit idle) refl e
+    → EndsWith exact own keeps limit (before, after) waits served
+ends_after exact own keeps limit before after waits idle polls true served finished idles e =
+    let is : Ended ≡ served = cc in subst (EndsWith exact own keeps limit (before, after) waits) is (finished refl)
+ends_after exact own keeps limit before after waits idle polls false served finished idles e = by_test (nat_le limit idle) refl e
   where
-    by_test : (b : Bool) → nat_le limit idle ≡ b → (if b then Some (Stalled polls) else None) ≡ Some served → EndsWith exact own keeps limit (before, after) served
+    by_test : (b : Bool) → nat_le limit idle ≡ b → (if b then Some (Stalled polls) else None) ≡ Some served → EndsWith exact own keeps limit (before, after) waits served
     by_test true is f =
         let few : limit ≤ idle = grind (arith, nat_tests) in
         let same : Stalled polls ≡ served = cc in
-        subst (EndsWith exact own keeps limit (before, after)) same (inl (omega (arith, few, idles)))
+        subst (EndsWith exact own keeps limit (before, after) waits) same (inl (omega (arith, few, idles)))
     by_test false is f = let none : None ≡ Some served = f in absurd cc
 
 -- one poll, from what it came to
@@ -46,12 +43,3 @@ polled_once Happened limit polls idle idle' before after end p a b c d = (p, a, 
 -- what moved in two rounds of turns
 pub saturated_twice : (m h s : ℕ) → saturated (saturated (m + h) + s) ≡ saturated (m + saturated (h + s))
 saturated_twice m h s = omega arith
-
--- a replica goes on at once after a run that left events to do, and has no pool
-pub on_is : (has_pool : Bool) (limit : ℕ) (ran : Option Ran) (on : Bool) → runs_on has_pool ran ≡ Ok on → IfSome ran (IsRunAnswer limit) → on ≡ true
-    → (has_pool ≡ false) × ((n : ℕ) × IsRunAnswer limit (Limit n))
-on_is has_pool limit None on is answers e = let no : false ≡ true = cc in absurd cc
-on_is has_pool limit (Some (All n)) on is answers e = let no : false ≡ true = cc in absurd cc
-on_is true limit (Some (Limit n)) on is answers e = let no : false ≡ true = cc in absurd cc
-on_is false limit (Some (Limit n)) on is answers e = (refl, (n, answers))
-on_is has_pool limit (Some (Memory n)) on is answers e = absurd cc

@@ -2,7 +2,7 @@
 use Rattle.std.proofs.Common.{◌≡◌, ◌≢◌, ℕ, ◌+◌, ◌<◌, ◌≤◌, true, false, length, Option, None, Some, refl, ◌∙◌, ap, sym, subst, arith, below_more, ⊎_elim}
 use Rattle.std.specs.Prelude.{IfSome}
 use Rattle.std.specs.Option.{option_map}
-use Rattle.std.proofs.lemmas.Bool.{cases_lt}
+use Rattle.std.proofs.lemmas.Bool.{cases_eq, cases_lt}
 use Rattle.std.proofs.lemmas.List.{get_or_past}
 use Rattle.slab.specs.Slab.{Slab, Updates, get}
 use Rattle.nm_replica.specs.Connections.{AreAllReady, IsNoneReady, is_ready, reported_connection}
@@ -23,6 +23,17 @@ module _ {W : Type 0} where
       below_more (IsReadyAt new) n
       (λ j l. let ne : j ≢ n = λ e. absurd (omega (arith, l, e)) in subst (λ o. IfSome o (λ c. c.link.wire.is_ready ≡ true)) (sym (updates.others j ne)) (before j l))
       (subst (λ o. IfSome o (λ c. c.link.wire.is_ready ≡ true)) (sym updates.changed) (looked (get old n))) k low
+
+  -- one that is to be looked at stays so, whichever is reported
+  pub still_looked : (old new : Slab (Connection W)) (n : ℕ) → Updates old new n (option_map reported_connection (get old n)) → (k : ℕ) → IsReadyAt old k → IsReadyAt new k
+  still_looked old new n updates k ready =
+      ⊎_elim (λ same. subst (IsReadyAt new) (sym same) (subst (λ o. IfSome o (λ c. c.link.wire.is_ready ≡ true)) (sym updates.changed) (looked (get old n))))
+      (λ apart. subst (λ o. IfSome o (λ c. c.link.wire.is_ready ≡ true)) (sym (updates.others k apart)) ready)
+      (cases_eq k n)
+
+  -- and the reported one is
+  pub now_looked : (old new : Slab (Connection W)) (n : ℕ) → Updates old new n (option_map reported_connection (get old n)) → IsReadyAt new n
+  now_looked old new n updates = subst (λ o. IfSome o (λ c. c.link.wire.is_ready ≡ true)) (sym updates.changed) (looked (get old n))
 
   -- the keys behind it keep what they had
   pub rest_kept : (first old new : Slab (Connection W)) (n : ℕ) (slot : Option (Connection W)) → Updates old new n slot → ((k : ℕ) → n ≤ k → get old k ≡ get first k) → (k : ℕ) → n + 1 ≤ k → get new k ≡ get first k

@@ -1,5 +1,5 @@
 -- What connections are told of by events, and which of them are begun and let go.
-use Rattle.std.specs.Prelude.{◌≡◌, ◌⊎◌, ℕ, suc, zero, Bool, true, false, ◌||◌, List, slice_index_or, slice_set, Option, Some, None, IfSome, IsSomeAnd}
+use Rattle.std.specs.Prelude.{◌≡◌, ◌⊎◌, ◌+◌, ◌<◌, ◌≤◌, ℕ, suc, zero, Bool, true, false, ◌||◌, List, slice_index_or, slice_set, Option, Some, None, IfSome, IsSome, IsSomeAnd}
 use Rattle.slab.specs.Slab.{Slab, get}
 use Rattle.nm_engine.specs.Acceptor.{AcceptorValue}
 use Rattle.nm_engine.specs.CountingWire.{reported}
@@ -34,6 +34,14 @@ IsNoneReady slab = (key : ℕ) → is_ready (get slab key) ≡ false
 -- each connection is to be looked at
 abbrev pub AreAllReady : {W : Type 0} → Slab (Connection W) → Type 0
 AreAllReady slab = (key : ℕ) → IfSome (get slab key) (λ c. c.link.wire.is_ready ≡ true)
+
+-- each of the first connections is to be looked at that were reported, by their keys
+abbrev pub AreReady : {W : Type 0} → (reported : ℕ → Option ℕ) → (first : ℕ) → Slab (Connection W)
+    → Type 0
+AreReady reported first slab =
+    (k : ℕ) (key : ℕ) → k < first
+    → ((j : ℕ) → j ≤ k → IsSome (reported j)) → reported k ≡ Some key
+    → IfSome (get slab key) (λ c. c.link.wire.is_ready ≡ true)
 
 -- a connection is let go, at whose other side somebody was or nobody
 abbrev pub LetsGo : ℕ → (old new : ContactsValue) → Type 0
@@ -106,6 +114,12 @@ Awaits me old new slab =
     (new ≡ old)
     ⊎ ((key : ℕ) × (new ≡ after old (Accepted key))
     × IsSomeAnd (get slab key) (λ c. c.link.acceptor ≡ Some me))
+
+-- Where so many connections that others began came, a transport was asked once more, which had none;
+-- or there were as many as there may be. How often it was asked before and after.
+abbrev pub AsksFor : (came most before after : ℕ) → Type 0
+AsksFor came most before after =
+    (after ≡ before + came + 1) ⊎ ((came ≡ most) × (after ≡ before + came))
 
 -- so many connections that others began are kept or not, each once there is room for it
 abbrev pub Admits : ℕ → (old new : ContactsValue) → Type 0

@@ -1,23 +1,26 @@
 -- What polls come to: how long nothing was ready or done, and when serving ends by it.
-use Rattle.std.specs.Prelude.{◌≡◌, ℕ, ◌+◌, Bool, true, false, nat_le, nat_lt, ◌||◌, not, Option, Some, None, Result, Ok, Err, if◌then◌else◌}
+use Rattle.std.specs.Prelude.{◌≡◌, ℕ, ◌+◌, ◌-◌, ◌%◌, ◌==◌, Bool, true, false, nat_le, nat_lt, ◌||◌, not, Option, Some, None, IfSome, is_some, Result, Ok, Err, if◌then◌else◌}
 use Rattle.std.specs.declared.alloc.AllocError.{AllocError}
 use Rattle.nm_base.specs.Count.{saturated}
 use Rattle.nm_book.specs.declared.running.Ran.{Ran}
 use Rattle.nm_book.specs.declared.running.Ran.TheVariants.{All, Limit, Memory}
 use Rattle.nm_replica.specs.declared.served.Served.{Served}
-use Rattle.nm_replica.specs.declared.limits.TheConstants.{MAX_FAILED_WAITS}
+use Rattle.nm_replica.specs.declared.limits.TheConstants.{MAX_FAILED_WAITS, MERGE_POLLS}
+use Rattle.nm_replica.specs.declared.serving.News.{News}
+use Rattle.nm_replica.specs.declared.serving.News.TheVariants.{Done, Written}
+use Rattle.nm_shared.specs.Pool.{IsRunAnswer}
 use Rattle.nm_replica.specs.declared.served.Served.TheVariants.{Ended, Net, Stalled}
 use Rattle.nm_replica.specs.declared.serving.Serving.{Serving}
 use Rattle.nm_transport.specs.Transport.{has_run_out}
 use Rattle.nm_transport.specs.declared.transport.Waited.{Waited}
 use Rattle.nm_transport.specs.declared.transport.Waited.TheVariants.{Ready, RanOut, Fault}
 
--- what is counted of a replica stays as it is: octets, events, how long it stayed, and whether its
--- book was done
+-- what is counted of a replica stays as it is: octets, events, how long it stayed, whether its book
+-- was done, and polls
 abbrev pub KeepsCounts : {W : Type 0} → (old new : Serving W) → Type 0
 KeepsCounts old new =
     (new.moved ≡ old.moved) × (new.counted ≡ old.counted) × (new.events ≡ old.events)
-    × (new.stay ≡ old.stay) × (new.was_done ≡ old.was_done)
+    × (new.stay ≡ old.stay) × (new.was_done ≡ old.was_done) × (new.polls ≡ old.polls)
 
 -- a poll was active: octets moved, records were written, or the book did events
 abbrev pub is_active : (octets written : ℕ) → (was_run : Bool) → Bool
@@ -47,6 +50,28 @@ runs_on has_pool None = Ok false
 runs_on has_pool (Some (All n)) = Ok false
 runs_on has_pool (Some (Limit n)) = Ok (not has_pool)
 runs_on has_pool (Some (Memory n)) = Err (record {})
+
+-- what a run of a replica's book answers, of at most so many events, if it ran: without a pool it runs
+-- unless that is none
+abbrev pub RunsOwn : (has_pool : Bool) → (limit : ℕ) → Option Ran → Type 0
+RunsOwn has_pool limit ran =
+    IfSome ran (IsRunAnswer limit) × (has_pool ≡ false → is_some ran ≡ nat_lt 0 limit)
+
+-- whether what the sister knows is merged after so many polls
+abbrev pub is_merge_due : (polls : ℕ) → Bool
+is_merge_due polls = polls % MERGE_POLLS == MERGE_POLLS - 1
+
+-- A pool is told, whether its book is lent or not, where the book is newly done; and where records
+-- were written, if it is lent.
+abbrev pub IsNews : (is_newly_done has_written : Bool) → Option News → Type 0
+IsNews true has_written (Some (Done told)) = Unit {0}
+IsNews true has_written (Some (Written told)) = ⊥
+IsNews true has_written None = ⊥
+IsNews false true (Some (Done told)) = ⊥
+IsNews false true (Some (Written told)) = Unit {0}
+IsNews false true None = ⊥
+IsNews false false (Some news) = ⊥
+IsNews false false None = Unit {0}
 
 -- how serving ends after a poll, if it does: it is done, or so many periods in a row were idle as
 -- its limit says

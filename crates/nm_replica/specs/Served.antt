@@ -82,17 +82,17 @@ IsSomeLeft replicas passes =
     ((b : BookValue) × (is_done (net_of b.topology) b.partition (replica_of b) ≡ false))
     ⊎ (replicas ≡ 0) ⊎ (passes < replicas)
 
--- Why serving ends: the replica was done, and its records were handed out; or no fewer waits ran
--- out than the limit between the first of these counts of waits and the second, or no more polls
--- may be made.
+-- Why serving ends: the replica was done, and its records were handed out; or no fewer periods were
+-- over than the limit between the first of these counts of periods and the second, or as many waits
+-- were made as there may be polls, by the counts of waits.
 abbrev pub EndsWith : (exact : Bool) → Home → (keeps_records : Bool) → (limit : ℕ)
-    → (waits : ℕ × ℕ) → Served → Type 0
-EndsWith exact own keeps limit waits Ended = WasFinished exact own keeps
-EndsWith exact own keeps limit waits Net = Unit {0}
-EndsWith exact own keeps limit waits Memory = Unit {0}
-EndsWith exact own keeps limit waits (File iface written) = Unit {0}
-EndsWith exact own keeps limit waits (Stalled polls) =
-    (waits.0 + limit ≤ waits.1) ⊎ (MAX_POLLS ≤ polls)
+    → (periods waits : ℕ × ℕ) → Served → Type 0
+EndsWith exact own keeps limit periods waits Ended = WasFinished exact own keeps
+EndsWith exact own keeps limit periods waits Net = Unit {0}
+EndsWith exact own keeps limit periods waits Memory = Unit {0}
+EndsWith exact own keeps limit periods waits (File iface written) = Unit {0}
+EndsWith exact own keeps limit periods waits (Stalled polls) =
+    (periods.0 + limit ≤ periods.1) ⊎ (waits.0 + MAX_POLLS ≤ waits.1)
 
 -- What one poll comes to, the last of so many, in which this happened. Idle periods and waits that
 -- ran out, as before and after it, and whether serving ends, follow from what it came to: it was

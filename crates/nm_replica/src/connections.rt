@@ -2,15 +2,17 @@
 
 ghost use Rattle.std.specs.Arc.{arc_value};
 ghost use Rattle.std.specs.Option.{option_map};
-ghost use Rattle.std.specs.Prelude.{◌≡◌, ◌≤◌, IfErr, IfOk, IfSome, OnOk, Some, ℕ, false, length};
-ghost use Rattle.std.specs.Prelude.{None, true};
+ghost use Rattle.std.specs.Prelude.{◌≡◌, ◌⊎◌, ◌+◌, ◌≤◌, IfErr, IfOk, IfSome, OnOk, Some, ℕ, false, length};
+ghost use Rattle.std.specs.Prelude.{None, if◌then◌else◌, is_some, true};
 ghost use Rattle.slab.specs.Slab.{Updates, get};
-ghost use Rattle.nm_policy.specs.Contacts.{after, contact_at, is_slot};
+ghost use Rattle.nm_transport.specs.Asked.{after_unwatch};
+ghost use Rattle.nm_policy.specs.Contacts.{after, contact_at, is_free_at, is_slot};
 ghost use Rattle.nm_policy.specs.Decisions.{is_due_at};
 ghost use Rattle.nm_policy.specs.Laws.{at_first};
 ghost use Rattle.nm_policy.specs.declared.contact_event.ContactEvent.TheVariants as event;
 ghost use Rattle.nm_replica.specs.Breaks.{fault_in, is_peer};
-ghost use Rattle.nm_replica.specs.Connections.{Admits, Awaits, CallsAll, Dials, DropsStranger};
+ghost use Rattle.nm_replica.specs.Connections.{Admits, AsksFor, Awaits, CallsAll, Dials};
+ghost use Rattle.nm_replica.specs.Connections.{DropsStranger};
 ghost use Rattle.nm_replica.specs.Connections.{Keeps, LetsGo};
 ghost use Rattle.nm_replica.specs.Connections.{AreAllReady, LetsStaleGo, MakesRoom, heard_at};
 ghost use Rattle.nm_replica.specs.Connections.{IsNoneReady, is_ready, reported_connection};
@@ -19,6 +21,7 @@ ghost use Rattle.nm_replica.specs.Moved.{has_written, is_end, was_there};
 ghost use Rattle.nm_replica.specs.Served.{IsInterrupted, break_served};
 ghost use Rattle.nm_replica.specs.Sessions.{first_sessions};
 ghost use Rattle.nm_replica.specs.Turns.{SettlesKey};
+ghost use Rattle.nm_replica.specs.declared.limits.TheConstants.{MAX_ACCEPTED};
 
 use crate::connection::Connection;
 use crate::limits::MAX_ACCEPTED;
@@ -67,6 +70,8 @@ fn is_end(cause: Cause) -> bool
 fn connect<T: Transport>(transport: &mut T, peer: usize, key: usize) -> Option<T::Connection>
     ensures leads { IfSome result (λ w. T.leads_to w ≡ Some peer) }
     ensures idle { T.elapsed_periods transport.new ≡ T.elapsed_periods transport.old }
+    ensures waits { (T.asked transport.new).waits ≡ (T.asked transport.old).waits }
+    ensures called { (T.asked transport.new).calls ≡ (T.asked transport.old).calls + 1 }
 {
     let wire = transport.connect(peer)?;
     transport.watch(wire, key)
@@ -164,9 +169,15 @@ impl<W> Connections<W> {
     ) -> Result<(), AllocError>
         requires { is_due_at self.old.contacts.peers peer ≡ true }
         ensures idle { T.elapsed_periods transport.new ≡ T.elapsed_periods transport.old }
+        ensures waits { (T.asked transport.new).waits ≡ (T.asked transport.old).waits }
         ensures dials { OnOk result
             (Dials T.leads_to (self.old.sessions, self.new.sessions) peer self.old.contacts
             self.new.contacts self.new.open) }
+
+        // The transport is asked for a connection, unless no key is free for one.
+        ensures asked { OnOk result
+            ((is_free_at self.old.contacts.connections self.old.open.vacant_key ≡ false)
+            ⊎ ((T.asked transport.new).calls ≡ (T.asked transport.old).calls + 1)) }
     {
         self.open.reserve(1)?;
         let key = self.open.vacant_key();
@@ -196,6 +207,7 @@ impl<W> Connections<W> {
         transport: &mut T,
     ) -> Result<(), AllocError>
         ensures idle { T.elapsed_periods transport.new ≡ T.elapsed_periods transport.old }
+        ensures waits { (T.asked transport.new).waits ≡ (T.asked transport.old).waits }
         ensures all { OnOk result (CallsAll self.old.contacts self.new.contacts) }
     {
         for peer in 0..self.contacts.peer_count() {
@@ -209,7 +221,9 @@ impl<W> Connections<W> {
     /// Where there are as many strangers as there may be, lets the one go that came first.
     fn make_room<T: Transport<Connection = W>>(&mut self, transport: &mut T)
         ensures idle { T.elapsed_periods transport.new ≡ T.elapsed_periods transport.old }
+        ensures waits { (T.asked transport.new).waits ≡ (T.asked transport.old).waits }
         ensures room { MakesRoom self.old.contacts self.new.contacts }
+        ensures accepts { (T.asked transport.new).accepts ≡ (T.asked transport.old).accepts }
     {
         if let Some(key) = self.contacts.stranger_to_drop() {
             self.drop_at(transport, key);
@@ -225,12 +239,19 @@ impl<W> Connections<W> {
         wire: W,
     ) -> Result<(), AllocError>
         ensures idle { T.elapsed_periods transport.new ≡ T.elapsed_periods transport.old }
+        ensures waits { (T.asked transport.new).waits ≡ (T.asked transport.old).waits }
         ensures keeps { OnOk result (Keeps self.old.contacts self.new.contacts) }
         ensures awaits { OnOk result (Awaits (record {
           topology = arc_value neighbours.now.topology.now;
           me = neighbours.now.partition;
           replica = neighbours.now.replica;
         }) self.old.contacts self.new.contacts self.new.open) }
+
+        // The transport is to watch it, unless no key is free for it.
+        ensures watched { OnOk result
+            ((is_free_at self.old.contacts.connections self.old.open.vacant_key ≡ false)
+            ⊎ ((T.asked transport.new).watches ≡ (T.asked transport.old).watches + 1)) }
+        ensures accepts { (T.asked transport.new).accepts ≡ (T.asked transport.old).accepts }
     {
         let topology = Arc::try_clone(neighbours.topology)?;
         self.open.reserve(1)?;
@@ -258,10 +279,16 @@ impl<W> Connections<W> {
         transport: &mut T,
     ) -> Result<(), AllocError>
         ensures idle { T.elapsed_periods transport.new ≡ T.elapsed_periods transport.old }
+        ensures waits { (T.asked transport.new).waits ≡ (T.asked transport.old).waits }
         ensures admits { OnOk result
             ((n : ℕ) × Admits n self.old.contacts self.new.contacts) }
+
+        // The transport is asked until there is none, or there were as many as there may be.
+        ensures asked { OnOk result ((n : ℕ) × Admits n self.old.contacts self.new.contacts
+            × AsksFor n MAX_ACCEPTED (T.asked transport.old).accepts
+            (T.asked transport.new).accepts) }
     {
-        for _ in 0..MAX_ACCEPTED {
+        for _had in 0..MAX_ACCEPTED {
             let Some(wire) = transport.accept() else {
                 return Ok(());
             };
@@ -274,6 +301,7 @@ impl<W> Connections<W> {
     /// Lets the stranger go that came first, if there is one.
     pub(crate) fn drop_first<T: Transport<Connection = W>>(&mut self, transport: &mut T)
         ensures idle { T.elapsed_periods transport.new ≡ T.elapsed_periods transport.old }
+        ensures waits { (T.asked transport.new).waits ≡ (T.asked transport.old).waits }
         ensures drops { DropsStranger self.old.contacts self.new.contacts }
     {
         if let Some(key) = self.contacts.first_stranger() {
@@ -284,7 +312,9 @@ impl<W> Connections<W> {
     /// Lets the connection with this key go for another.
     fn drop_at<T: Transport<Connection = W>>(&mut self, transport: &mut T, key: usize)
         ensures idle { T.elapsed_periods transport.new ≡ T.elapsed_periods transport.old }
+        ensures waits { (T.asked transport.new).waits ≡ (T.asked transport.old).waits }
         ensures drops { LetsGo key self.old.contacts self.new.contacts }
+        ensures accepts { (T.asked transport.new).accepts ≡ (T.asked transport.old).accepts }
         ensures open { Updates self.old.open self.new.open key None }
     {
         let _ = self.remove(transport, key);
@@ -302,6 +332,7 @@ impl<W> Connections<W> {
         ran_out: bool,
     )
         ensures idle { T.elapsed_periods transport.new ≡ T.elapsed_periods transport.old }
+        ensures waits { (T.asked transport.new).waits ≡ (T.asked transport.old).waits }
         ensures stale { LetsStaleGo (after self.old.contacts (event.Polled ran_out))
             self.new.contacts }
     {
@@ -313,6 +344,7 @@ impl<W> Connections<W> {
     /// peer for which the replica waits.
     fn let_stale_go<T: Transport<Connection = W>>(&mut self, transport: &mut T)
         ensures idle { T.elapsed_periods transport.new ≡ T.elapsed_periods transport.old }
+        ensures waits { (T.asked transport.new).waits ≡ (T.asked transport.old).waits }
         ensures stale { LetsStaleGo self.old.contacts self.new.contacts }
     {
         for key in 0..self.contacts.key_count() {
@@ -336,6 +368,7 @@ impl<W> Connections<W> {
         has_heard: bool,
     ) -> Result<(), Served>
         ensures idle { T.elapsed_periods transport.new ≡ T.elapsed_periods transport.old }
+        ensures waits { (T.asked transport.new).waits ≡ (T.asked transport.old).waits }
         ensures early { IfErr result IsInterrupted }
         ensures settled { OnOk result (SettlesKey key self.old self.new turn has_heard) }
     {
@@ -403,10 +436,13 @@ impl<W> Connections<W> {
     /// written on it.
     fn remove<T: Transport<Connection = W>>(&mut self, transport: &mut T, key: usize) -> Left
         ensures idle { T.elapsed_periods transport.new ≡ T.elapsed_periods transport.old }
+        ensures waits { (T.asked transport.new).waits ≡ (T.asked transport.old).waits }
         ensures contacts { self.new.contacts ≡ self.old.contacts }
         ensures peer { result.is_peer
             ≡ is_peer (contact_at self.old.contacts.connections key) (get self.old.open key) }
         ensures written { result.has_written ≡ has_written (get self.old.open key) }
+        ensures unwatched { T.asked transport.new ≡ (if is_some (get self.old.open key)
+            then after_unwatch (T.asked transport.old) else T.asked transport.old) }
         ensures sessions { self.new.sessions
             ≡ with_session_back (contact_at self.old.contacts.connections key)
             (get self.old.open key) self.old.sessions }
@@ -445,6 +481,7 @@ impl<W> Connections<W> {
         cause: Cause,
     ) -> Result<(), Served>
         ensures idle { T.elapsed_periods transport.new ≡ T.elapsed_periods transport.old }
+        ensures waits { (T.asked transport.new).waits ≡ (T.asked transport.old).waits }
         ensures early { IfErr result IsInterrupted }
         ensures served { fault_in result ≡ break_served cause
             (is_peer (contact_at self.old.contacts.connections key) (get self.old.open key)) }
@@ -469,6 +506,7 @@ impl<W> Connections<W> {
     /// again, begins anew.
     fn break_at<T: Transport<Connection = W>>(&mut self, transport: &mut T, key: usize)
         ensures idle { T.elapsed_periods transport.new ≡ T.elapsed_periods transport.old }
+        ensures waits { (T.asked transport.new).waits ≡ (T.asked transport.old).waits }
         ensures goes { LetsGo key self.old.contacts self.new.contacts }
         ensures told { self.new.contacts ≡ after self.old.contacts
             (event.Broke key (has_written (get self.old.open key))) }

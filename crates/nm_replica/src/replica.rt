@@ -91,9 +91,9 @@ pub struct Holdings<'a, C: Counts, S> {
 }
 
 /// For how many periods in a row nothing was moved or done, after one more poll.
-fn idle_periods(before: u64, polled: Polled) -> u64
+fn idle_periods(before: u64, polled: &Polled) -> u64
     ensures { result ≡ idle_after before
-        (is_active polled.octets polled.written polled.was_run) polled.ran_out }
+        (is_active polled.now.octets polled.now.written polled.now.was_run) polled.now.ran_out }
 {
     if polled.is_active() {
         return 0;
@@ -178,6 +178,8 @@ pub fn poll_replica<C: Counts, S: Sink, T: Transport, R: Wait>(
         service.now.idle_limit running.new.polls (running.old.idle, running.new.idle)
         (T.elapsed_periods transport.old, T.elapsed_periods transport.new)) }
     ensures polls { OnOk result (running.new.polls ≡ saturated (running.old.polls + 1)) }
+    ensures waits { OnOk result
+        ((T.asked transport.new).waits ≡ (T.asked transport.old).waits + 1) }
     ensures early { IfErr result EndsEarly }
 
     // The seats and the passes stay, and the promise of each seat's channel stands on the board.
@@ -193,7 +195,7 @@ pub fn poll_replica<C: Counts, S: Sink, T: Transport, R: Wait>(
         transport,
         &mut running.serving,
     )?;
-    running.idle = idle_periods(running.idle, polled);
+    running.idle = idle_periods(running.idle, &polled);
     running.polls = running.polls.saturating_add(1);
     Ok(ending_of(
         polled.is_done,
@@ -234,7 +236,8 @@ pub fn run_replica<C: Counts, S: Sink, T: Transport, G: Gate, R: Wait>(
 
     // The ending says the truth about the replica and about the time that passed.
     ensures ends { EndsWith C.exact C.home service.now.keeps_records service.now.idle_limit
-        (T.elapsed_periods transport.old, T.elapsed_periods transport.new) result }
+        (T.elapsed_periods transport.old, T.elapsed_periods transport.new)
+        ((T.asked transport.old).waits, (T.asked transport.new).waits) result }
 
     // The seats and the passes go back.
     ensures seats { AreKept holdings.old.seats holdings.new.seats }
@@ -243,7 +246,7 @@ pub fn run_replica<C: Counts, S: Sink, T: Transport, G: Gate, R: Wait>(
     let Ok(mut running) = Running::new(alloc, service) else {
         return Served::Memory;
     };
-    for _ in 0..MAX_POLLS {
+    for _made in 0..MAX_POLLS {
         if !gate.poll(running.serving.moved) {
             return Served::Net;
         }

@@ -1,43 +1,43 @@
 //! One poll of a replica, and what follows it.
 
-ghost use Rattle.std.specs.Prelude.{◌%◌, ◌&&◌, ◌+◌, ◌-◌, ◌==◌, ◌||◌, ◌≡◌, ◌⊎◌, IfErr, IfOk};
-ghost use Rattle.std.specs.Prelude.{ℕ, IfSome, OnOk, false, if◌then◌else◌, is_some, length, nat_lt};
-ghost use Rattle.std.specs.Prelude.{not, position, true};
+ghost use Rattle.std.specs.Prelude.{◌&&◌, ◌+◌, ◌==◌, ◌||◌, ◌≡◌, ◌⊎◌, IfErr, IfOk, OnOk, false};
+ghost use Rattle.std.specs.Prelude.{is_some, length, nat_lt, not, true};
 ghost use Rattle.std.specs.Arc.{arc_value};
 ghost use Rattle.nm_base.specs.Count.{saturated};
 ghost use Rattle.nm_policy.specs.Decisions.{are_missing};
 ghost use Rattle.nm_policy.specs.Lasting.{has_lasted, lasted_after};
 ghost use Rattle.nm_policy.specs.Laws.{at_first};
 ghost use Rattle.nm_policy.specs.Stays.{leaves, stayed};
-ghost use Rattle.nm_replica.specs.Connections.{AreAllReady, DropsSome, IsNoneReady, WaitsOnce};
-ghost use Rattle.nm_replica.specs.Polls.{KeepsCounts, Waits, failed_waits, is_active, runs_on};
+ghost use Rattle.nm_replica.specs.Connections.{AreAllReady, AreReady, DropsSome, IsNoneReady};
+ghost use Rattle.nm_replica.specs.Connections.{WaitsOnce};
+ghost use Rattle.nm_transport.specs.declared.limits.TheConstants.{MAX_REPORTS};
+ghost use Rattle.nm_replica.specs.Polls.{IsNews, KeepsCounts, RunsOwn, Waits, failed_waits};
+ghost use Rattle.nm_replica.specs.Polls.{is_active, is_merge_due};
 ghost use Rattle.nm_replica.specs.Recording.{Streamed, Streams, WasEmptied, WroteAsCounted};
 ghost use Rattle.nm_replica.specs.Seats.{AreKept, StandOnBoard};
 ghost use Rattle.nm_replica.specs.Served.{AllWereFinished, EndsEarly, HasStayed, IsInterrupted};
 ghost use Rattle.nm_replica.specs.Served.{WasFinished, WasSeen};
 ghost use Rattle.nm_replica.specs.Sessions.{first_sessions};
-ghost use Rattle.nm_replica.specs.Sisters.{MergesSister, is_sister_of, replica_name};
 ghost use Rattle.nm_replica.specs.Turns.{ServesAll, ServesTwice, WaitsAndServes, links};
 ghost use Rattle.nm_replica.specs.declared.served.Served.TheVariants.{Net};
-ghost use Rattle.nm_shared.specs.Pool.{IsRunAnswer};
-ghost use Rattle.nm_book.specs.declared.running.Ran.TheVariants.{Limit};
 ghost use Rattle.nm_transport.specs.Transport.{elapsed_after, has_run_out};
 
-use crate::acts::{Stand, Standing};
+use crate::acts::Standing;
 use crate::connections::Connections;
-use crate::figuring::{note_figures, note_hold, note_loan, note_progress, note_wait};
-use crate::limits::{MAX_FAILED_WAITS, MERGE_POLLS, SCARCE_PERIODS, SHORT_PERIODS};
+use crate::figuring::{note_figures, note_hold, note_wait};
+use crate::limits::{MAX_FAILED_WAITS, SCARCE_PERIODS, SHORT_PERIODS};
+use crate::own_part::act_alone;
 use crate::recording::write_records;
 use crate::replica::{Holdings, Service};
 use crate::served::{Served, file_served};
-use crate::sisters::{Merged, all_are_done, merge_sister};
+use crate::sisters::{Merged, all_are_done};
 use crate::telling::tell_all;
 use crate::turning::{Does, Moves, Talk, turns};
 use nm_base::Sink;
 use nm_book::Ran;
 use nm_engine::ReadBuffer;
 use nm_policy::{Contacts, Lasted, Stay};
-use nm_shared::{Counts, Notified, Pass};
+use nm_shared::{Counts, NotLent, Notified, Pass};
 use nm_transport::limits::MAX_REPORTS;
 use nm_transport::{Transport, Waited};
 use std::alloc::{AllocError, Global};
@@ -81,8 +81,12 @@ pub(crate) struct Polled {
     pub written: u64,
     /// The book did events since the poll before.
     pub was_run: bool,
+    /// What a run of the book came to, if the replica ran it.
+    pub ran: Option<Ran>,
+    /// What was merged of what the sister knows, if that was due.
+    pub merged: Option<Option<Merged>>,
     /// A pool was told of it, if it is to know.
-    pub news: Option<Notified>,
+    pub news: Option<News>,
     /// The replica is done, so are its links or all replicas, and its trace files are written.
     pub is_done: bool,
 }
@@ -148,6 +152,7 @@ fn serve_all<T: Transport, C: Counts, R: Wait>(
     does: Does,
 ) -> Result<Moves, Served>
     ensures idle { T.elapsed_periods transport.new ≡ T.elapsed_periods transport.old }
+    ensures waits { (T.asked transport.new).waits ≡ (T.asked transport.old).waits }
     ensures early { IfErr result IsInterrupted }
     ensures moved { IfOk result
         (λ m. serving.new.moved ≡ saturated (serving.old.moved + m.moved)) }
@@ -156,6 +161,7 @@ fn serve_all<T: Transport, C: Counts, R: Wait>(
     ensures events { serving.new.events ≡ serving.old.events }
     ensures stay { serving.new.stay ≡ serving.old.stay }
     ensures done { serving.new.was_done ≡ serving.old.was_done }
+    ensures polls { serving.new.polls ≡ serving.old.polls }
     ensures served { IfOk result (λ m. ServesAll (links T.Connection.seen C.exact C.home) does
         serving.old.connections serving.new.connections m.moved m.octets) }
 {
@@ -193,6 +199,8 @@ fn note_reports<T: Transport>(
 )
     ensures contacts { connections.new.contacts ≡ connections.old.contacts }
     ensures ready { ran_out ≡ true → AreAllReady connections.new.open }
+    ensures reported { ran_out ≡ false
+        → AreReady (T.reported transport.now) MAX_REPORTS connections.new.open }
 {
     if ran_out {
         return connections.note_all();
@@ -218,6 +226,7 @@ fn bear_shortage<T: Transport>(
     ran_out: bool,
 ) -> Result<(), Served>
     ensures idle { T.elapsed_periods transport.new ≡ T.elapsed_periods transport.old }
+    ensures waits { (T.asked transport.new).waits ≡ (T.asked transport.old).waits }
     ensures early { IfErr result IsInterrupted }
     ensures short { IfErr result (λ _. has_lasted SHORT_PERIODS
         (lasted_after serving.old.short.periods ran_out) ≡ true) }
@@ -268,7 +277,8 @@ fn wait_once<T: Transport, C: Counts>(
 ) -> Waited
     ensures idle { T.elapsed_periods transport.new
         ≡ elapsed_after (T.elapsed_periods transport.old) (has_run_out result) }
-    ensures asked { T.was_to_wait transport.new ≡ not serving.now.is_busy }
+    ensures to_wait { T.was_to_wait transport.new ≡ not serving.now.is_busy }
+    ensures waits { (T.asked transport.new).waits ≡ (T.asked transport.old).waits + 1 }
 {
     let may_wait = !serving.is_busy;
     note_wait(service, may_wait);
@@ -291,12 +301,16 @@ fn await_transport<T: Transport, C: Counts>(
 ) -> Result<bool, Served>
     ensures idle { IfOk result (λ ran_out. T.elapsed_periods transport.new
         ≡ elapsed_after (T.elapsed_periods transport.old) ran_out) }
+    ensures made { OnOk result
+        ((T.asked transport.new).waits ≡ (T.asked transport.old).waits + 1) }
     ensures early { IfErr result IsInterrupted }
     ensures waits { IfOk result
         (λ ran_out. WaitsOnce ran_out serving.old.connections.contacts
         serving.new.connections.contacts) }
     ensures ready { IfOk result
         (λ ran_out. ran_out ≡ true → AreAllReady serving.new.connections.open) }
+    ensures reported { IfOk result (λ ran_out. ran_out ≡ false
+        → AreReady (T.reported transport.new) MAX_REPORTS serving.new.connections.open) }
     ensures failed { IfOk result (λ ran_out. Waits ran_out
         serving.old.failed_waits serving.new.failed_waits) }
     ensures kept { KeepsCounts serving.old serving.new }
@@ -316,118 +330,6 @@ fn await_transport<T: Transport, C: Counts>(
     Ok(ran_out)
 }
 
-/// How many events the replica does at most after a poll: none while its book is lent.
-fn own_limit(is_lent: bool, run_limit: u64) -> u64
-    ensures { result ≡ (if is_lent then 0 else run_limit) }
-{
-    if is_lent { 0 } else { run_limit }
-}
-
-/// Its run left events to do: whether the replica is to go on with them at once. Where there is a
-/// pool, that does them.
-fn goes_on<C: Counts>(service: &Service<'_, C>) -> bool
-    ensures { result ≡ not service.now.lending.now }
-{
-    let lent = service.lending.lend();
-    note_loan(service, lent.is_some());
-    lent.is_none()
-}
-
-/// Whether the replica is to go on at once after a run, or after none.
-///
-/// # Errors
-///
-/// Where memory was refused to the run.
-fn runs_on<C: Counts>(service: &Service<'_, C>, ran: Option<Ran>) -> Result<bool, AllocError>
-    ensures { result ≡ runs_on service.now.lending.now ran }
-{
-    match ran {
-        None | Some(Ran::All(_)) => Ok(false),
-        Some(Ran::Limit(_)) => Ok(goes_on(service)),
-        Some(Ran::Memory(_)) => Err(AllocError),
-    }
-}
-
-/// Runs the book, if the replica is to.
-fn run_own<C: Counts, R: Wait>(
-    rt: &R,
-    alloc: Global,
-    service: &Service<'_, C>,
-    pass: &mut Pass<C>,
-) -> Option<Ran>
-    ensures { IfSome result (λ ran. IsRunAnswer service.now.run_limit ran) }
-{
-    let limit = own_limit(service.lending.is_lent(), service.run_limit);
-    if limit == 0 {
-        return None;
-    }
-    Some(service.book.run(rt, pass, alloc, limit))
-}
-
-/// Runs the book, if the replica is to, and looks how far it is: that, and whether it may run on at
-/// once, which no replica does that has a pool.
-fn run_book<C: Counts, R: Wait>(
-    rt: &R,
-    alloc: Global,
-    service: &Service<'_, C>,
-    pass: &mut Pass<C>,
-) -> Result<(Standing, bool), AllocError>
-    ensures seen { IfOk result (λ s. WasSeen C.exact C.home s.0) }
-    ensures on { IfOk result (λ s. s.1 ≡ true → (service.now.lending.now ≡ false)
-        × ((n : ℕ) × IsRunAnswer service.now.run_limit (Limit n))) }
-{
-    let ran = run_own(rt, alloc, service, pass);
-    let runs_on = runs_on(service, ran)?;
-    let standing = service.book.act(rt, pass, Stand);
-    note_progress(service, &standing);
-    Ok((standing, runs_on))
-}
-
-/// Merges what the sister knows after so many polls, where that is to be done then: whether it was,
-/// and what was merged into which book.
-fn merge_at<C: Counts, S, R: Wait>(
-    rt: &R,
-    alloc: Global,
-    service: &Service<'_, C>,
-    holdings: &mut Holdings<'_, C, S>,
-    polls: u64,
-) -> Result<Option<Option<Merged>>, AllocError>
-    ensures due { IfOk result
-        (λ m. is_some m ≡ (polls % MERGE_POLLS == MERGE_POLLS - 1)) }
-    ensures merged { IfOk result (λ m. IfSome m (MergesSister
-        (replica_name service.now.book.now.partition service.now.book.now.replica)
-        (position (λ b. is_sister_of
-        (replica_name service.now.book.now.partition service.now.book.now.replica)
-        (replica_name b.partition b.replica)) service.now.books.now)
-        (length holdings.old.passes.items))) }
-    ensures files { holdings.new.files ≡ holdings.old.files }
-    ensures seats { holdings.new.seats ≡ holdings.old.seats }
-    ensures passes { length holdings.new.passes.items ≡ length holdings.old.passes.items }
-{
-    if polls % MERGE_POLLS != MERGE_POLLS - 1 {
-        return Ok(None);
-    }
-    Ok(Some(merge_sister(rt, alloc, service, holdings)?))
-}
-
-/// What the replica does by itself after a poll: its events, and what its sister knows. It answers
-/// how far the book is, and whether it may run on at once.
-fn act_alone<C: Counts, S, R: Wait>(
-    rt: &R,
-    alloc: Global,
-    service: &Service<'_, C>,
-    holdings: &mut Holdings<'_, C, S>,
-    polls: u64,
-) -> Result<(Standing, bool), AllocError>
-    ensures seen { IfOk result (λ s. WasSeen C.exact C.home s.0) }
-    ensures files { holdings.new.files ≡ holdings.old.files }
-    ensures seats { holdings.new.seats ≡ holdings.old.seats }
-    ensures passes { length holdings.new.passes.items ≡ length holdings.old.passes.items }
-{
-    merge_at(rt, alloc, service, holdings, polls)?;
-    run_book(rt, alloc, service, &mut holdings.pass)
-}
-
 /// What a replica did after a wait.
 #[derive(Clone, Copy)]
 struct Acted {
@@ -437,6 +339,10 @@ struct Acted {
     was_run: bool,
     /// What moved, and whether more may be done at once.
     moves: Moves,
+    /// What a run of its book came to, if it ran.
+    ran: Option<Ran>,
+    /// What was merged, if that was due.
+    merged: Option<Option<Merged>>,
 }
 
 /// The connections have turns in which they hear, and the replica does its own part. Then they
@@ -457,6 +363,7 @@ fn serve_and_act<C: Counts, S, T: Transport, R: Wait>(
 ) -> Result<Acted, Served>
     // Files, seats and the periods that passed stay as they are.
     ensures idle { T.elapsed_periods transport.new ≡ T.elapsed_periods transport.old }
+    ensures waits { (T.asked transport.new).waits ≡ (T.asked transport.old).waits }
     ensures files { holdings.new.files ≡ holdings.old.files }
     ensures seats { holdings.new.seats ≡ holdings.old.seats }
     ensures passes { length holdings.new.passes.items ≡ length holdings.old.passes.items }
@@ -478,6 +385,12 @@ fn serve_and_act<C: Counts, S, T: Transport, R: Wait>(
     ensures run { IfOk result (λ a. (serving.new.events ≡ a.standing.events)
         × (a.was_run ≡ not (a.standing.events == serving.old.events))) }
 
+    // Without a pool its book ran. What its sister knows is merged when that is due, by the polls.
+    ensures ran { IfOk result
+        (λ a. RunsOwn service.now.lending.now service.now.run_limit a.ran) }
+    ensures merged { IfOk result (λ a. is_some a.merged ≡ is_merge_due serving.old.polls) }
+    ensures polls { OnOk result (serving.new.polls ≡ saturated (serving.old.polls + 1)) }
+
     // Where no more is to be done at once, nothing may have come on any connection.
     ensures more { IfOk result (λ a. a.moves.has_more ≡ false
         → IsNoneReady serving.new.connections.open) }
@@ -490,7 +403,8 @@ fn serve_and_act<C: Counts, S, T: Transport, R: Wait>(
         serving,
         Does::Hear,
     )?;
-    let (standing, was_cut) = act_alone(rt, alloc, service, holdings, serving.polls)?;
+    let (own, merged) = act_alone(rt, alloc, service, holdings, serving.polls)?;
+    let standing = own.standing;
     let was_run = standing.events != serving.events;
     serving.events = standing.events;
     serving.polls = serving.polls.saturating_add(1);
@@ -503,11 +417,16 @@ fn serve_and_act<C: Counts, S, T: Transport, R: Wait>(
         Does::Speak,
     )?;
     let mut moves = heard.with(said);
-    moves.has_more = said.has_heard || said.has_more || was_cut || serving.connections.have_more();
+    moves.has_more = said.has_heard
+        || said.has_more
+        || own.runs_on
+        || serving.connections.have_more();
     Ok(Acted {
         standing,
         was_run,
         moves,
+        ran: own.ran,
+        merged,
     })
 }
 
@@ -518,20 +437,29 @@ fn is_newly_done(is_done: bool, was_done: bool) -> bool
     is_done && !was_done
 }
 
+/// What a pool was told, if there is one.
+#[derive(Clone, Copy)]
+pub(crate) enum News {
+    /// That the book is done.
+    Done(Notified),
+    /// That the book keeps fewer records, if it is lent.
+    Written(Result<Notified, NotLent>),
+}
+
 /// Tells a pool, if there is one, that the book that is lent to it keeps fewer records, or that it
 /// is done now and was not when it was looked at last.
 fn note_news<C: Counts>(
     service: &Service<'_, C>,
     has_written: bool,
     is_newly_done: bool,
-) -> Option<Notified>
-    ensures { is_some result ≡ (is_newly_done || has_written) }
+) -> Option<News>
+    ensures { IsNews is_newly_done has_written result }
 {
     if is_newly_done {
-        return Some(service.lending.note());
+        return Some(News::Done(service.lending.note()));
     }
     if has_written {
-        return Some(service.lending.note_if_lent());
+        return Some(News::Written(service.lending.note_if_lent()));
     }
     None
 }
@@ -585,9 +513,15 @@ pub(crate) fn poll<C: Counts, S: Sink, T: Transport, R: Wait>(
     ensures written { IfOk result (λ p. WroteAsCounted S.seen C.exact C.home p.written
         holdings.old.files.files.items holdings.new.files.files.items) }
 
+    // Without a pool the book ran. What the sister knows is merged when that is due, by the polls.
+    ensures ran { IfOk result
+        (λ p. RunsOwn service.now.lending.now service.now.run_limit p.ran) }
+    ensures merged { IfOk result (λ p. is_some p.merged ≡ is_merge_due serving.old.polls) }
+    ensures polls { OnOk result (serving.new.polls ≡ saturated (serving.old.polls + 1)) }
+
     // A pool is told where records were written, and where the book is done since this poll.
-    ensures news { IfOk result (λ p. is_some p.news
-        ≡ ((serving.new.was_done && not serving.old.was_done) || nat_lt 0 p.written)) }
+    ensures news { IfOk result (λ p. IsNews (serving.new.was_done && not serving.old.was_done)
+        (nat_lt 0 p.written) p.news) }
 
     // The next poll waits only where nothing may have come on any connection, and no record is left
     // to hand out, unless the book keeps them.
@@ -599,6 +533,8 @@ pub(crate) fn poll<C: Counts, S: Sink, T: Transport, R: Wait>(
     // It answers whether the wait ran out, and whether all is done. An early ending is no success.
     ensures idle { IfOk result (λ p. T.elapsed_periods transport.new
         ≡ elapsed_after (T.elapsed_periods transport.old) p.ran_out) }
+    ensures waits { OnOk result
+        ((T.asked transport.new).waits ≡ (T.asked transport.old).waits + 1) }
     ensures done { IfOk result (λ p. p.is_done ≡ true
         → WasFinished C.exact C.home service.now.keeps_records) }
     ensures leaves { IfOk result (λ p. p.is_done ≡ true
@@ -611,6 +547,8 @@ pub(crate) fn poll<C: Counts, S: Sink, T: Transport, R: Wait>(
         standing,
         was_run,
         moves,
+        ran,
+        merged,
     } = serve_and_act(rt, alloc, service, holdings, transport, serving)?;
     let may_end = standing.is_done
         && (may_leave(&mut serving.stay, &serving.connections.contacts, ran_out)
@@ -642,6 +580,8 @@ pub(crate) fn poll<C: Counts, S: Sink, T: Transport, R: Wait>(
         octets: moves.octets,
         written: recorded.written,
         was_run,
+        ran,
+        merged,
         news,
         is_done: may_end && is_served(&standing, service.keeps_records, recorded.is_last),
     })

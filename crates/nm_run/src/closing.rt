@@ -108,6 +108,21 @@ fn gather_sides<S: Sink + Drop>(
     Ok(files)
 }
 
+/// The passes of jobs, and those with which a dispatcher looked at books, go to the others.
+///
+/// # Errors
+///
+/// Those of `Passes::add`.
+fn gather_others(passes: &mut Passes, others: Vec<BookPass<Plain>>) -> Result<(), Stop>
+    ensures all { OnOk result (pass_count passes.new ≡ pass_count passes.old + vec_len others) }
+    ensures books { OnOk result (vec_len passes.new.lists ≡ vec_len passes.old.lists) }
+{
+    for other in others {
+        passes.add(other.book, other.pass)?;
+    }
+    Ok(())
+}
+
 /// Whether a book is that of the replica which has this number among so many replicas of each
 /// partition.
 fn is_in_place(book: &Book, replicas: u8, number: usize) -> bool
@@ -175,9 +190,7 @@ pub(crate) fn close_run<S: Sink + Drop>(
 {
     let mut passes = Passes::new(alloc, books.len())?;
     let files = gather_sides(alloc, &mut passes, ends)?;
-    for other in others {
-        passes.add(other.book, other.pass)?;
-    }
+    gather_others(&mut passes, others)?;
     let closed = close_books(alloc, books, passes, plan.replicas)?;
     if closed.len() != plan.topology.partitions() as usize * plan.replicas as usize {
         return Err(Stop::Broken);

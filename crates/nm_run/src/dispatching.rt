@@ -1,7 +1,7 @@
 //! The dispatcher: it gives jobs to a pool as long as there are any.
 
-ghost use Rattle.std.specs.Prelude.{◌≡◌, ◌==◌, ◌+◌, ◌<◌, ◌≤◌, All, IfErr, IfOk, OnOk, is_some, length};
-ghost use Rattle.std.specs.Prelude.{true, vec_len};
+ghost use Rattle.std.specs.Prelude.{◌≡◌, ◌==◌, ◌+◌, ◌<◌, ◌≤◌, All, IfErr, IfOk, OnOk, is_some};
+ghost use Rattle.std.specs.Prelude.{length, true, vec_len};
 ghost use Rattle.std.specs.List.{list_all};
 ghost use Rattle.nm_run.specs.Watching.{Answers, AreOwns, names_of, owns_of};
 ghost use Rattle.nm_shared.specs.Board.{IsSeatOf};
@@ -130,9 +130,9 @@ fn do_in_turn<G: Gate, R: Wait>(
     let mut events = 0u64;
     for (number, job) in jobs.iter().enumerate() {
         if let Some(watched) = dispatcher.watched.get_mut(job.book) {
-            threaded.gate.enter(number);
+            let entered = threaded.gate.enter(number);
             let answer = watched.run(rt, threaded.alloc, job);
-            threaded.gate.leave(number);
+            threaded.gate.leave(entered);
             events = events.saturating_add(note(threaded, watched, job, answer)?.answered.events);
         }
     }

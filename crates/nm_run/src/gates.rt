@@ -3,7 +3,7 @@
 ghost use Rattle.std.specs.Prelude.{◌≡◌, ◌&&◌, not};
 
 use mio::Waker;
-use nm_shared::{Gate, Lending};
+use nm_shared::{Entered, Gate, Lending};
 use std::sync::OnceLock;
 
 /// Lets a replica go on as long as the run's own gate does and no other replica has failed, and
@@ -25,18 +25,19 @@ fn goes_on(may: bool, has_failed: bool) -> bool
 }
 
 impl<'a, G: Gate> Gate for SideGate<'a, G> {
-    fn enter(&self, job: usize) {
-        self.gate.enter(job);
+    fn enter(&self, job: usize) -> Entered {
+        self.gate.enter(job)
     }
 
-    fn leave(&self, job: usize) {
-        self.gate.leave(job);
+    fn leave(&self, entered: Entered) {
+        self.gate.leave(entered);
     }
 
     fn poll(&self, moved: u64) -> bool {
         // The book was lent before this call, so the dispatcher will see it.
-        if self.lending.take_news() {
+        if let Some(news) = self.lending.take_news() {
             let _ = self.dispatcher.wake();
+            news.pass_on();
         }
         goes_on(self.gate.poll(moved), self.has_failed.get().is_some())
     }

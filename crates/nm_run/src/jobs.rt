@@ -6,6 +6,7 @@ ghost use Rattle.nm_book.specs.declared.running.Ran.TheVariants.{Memory};
 ghost use Rattle.nm_run.specs.Replicas.{AreWordsOf};
 ghost use Rattle.nm_run.specs.Watching.{Answers, AreOwns, WasLookedAt, names_of, owns_of};
 ghost use Rattle.nm_shared.specs.Board.{IsSeatOf};
+ghost use Rattle.nm_run.specs.declared.jobs.TheConstants.{JOB_EVENTS};
 ghost use Rattle.nm_shared.specs.Pool.{IsRunAnswer};
 
 use crate::stations::Own;
@@ -158,7 +159,7 @@ impl<'a> Watched<'a> {
 
     /// A job of its book.
     fn job(&self) -> Job
-        ensures { result.book ≡ self.now.own.index }
+        ensures { (result.book ≡ self.now.own.index) × (result.limit ≡ JOB_EVENTS) }
     {
         Job {
             book: self.own.index,

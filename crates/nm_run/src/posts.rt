@@ -1,6 +1,7 @@
 //! Where the replicas of a run listen, and what is kept of each from then on.
 
-ghost use Rattle.std.specs.Prelude.{◌==◌, ◌≡◌, ◌∷◌, [], IfOk, OnOk, map, not};
+ghost use Rattle.std.specs.Prelude.{◌==◌, ◌≡◌, ◌+◌, ◌∷◌, [], IfOk, OnOk, length, map, not};
+ghost use Rattle.std.specs.Prelude.{vec_len};
 ghost use Rattle.std.specs.Net.Addr.{ipv4_octets};
 ghost use Rattle.std.specs.declared.net.socket_addr.SocketAddr.TheVariants.{V4};
 ghost use Rattle.nm_run.specs.Replicas.{IsNextListener, listener_pair};
@@ -78,8 +79,10 @@ fn open_one<R: Net>(
     book: &SharedBook<Plain>,
     lending: Lending,
 ) -> Result<(), Stop>
-    ensures { OnOk result (IsNextListener posts.old.listeners.items posts.new.listeners.items
-        (book.now.partition, book.now.replica)) }
+    ensures named { OnOk result (IsNextListener posts.old.listeners.items
+        posts.new.listeners.items (book.now.partition, book.now.replica)) }
+    ensures one { OnOk result ((vec_len posts.new.stations ≡ vec_len posts.old.stations + 1)
+        × (vec_len posts.new.posts ≡ vec_len posts.old.posts + 1)) }
 {
     let (bound, listener) = listen(net, book)?;
     let (poll, waker) = woken_poll(net)?;
@@ -116,8 +119,10 @@ pub(crate) fn open_posts<R: Net>(
     partitions: u32,
     books: &[SharedBook<Plain>],
 ) -> Result<Posts, Stop>
-    ensures { IfOk result (λ p. map listener_pair p.listeners.items
+    ensures named { IfOk result (λ p. map listener_pair p.listeners.items
         ≡ map (λ b. (b.partition, b.replica)) books.now) }
+    ensures all { IfOk result (λ p. (vec_len p.stations ≡ length books.now)
+        × (vec_len p.posts ≡ length books.now)) }
 {
     let mut posts = Posts {
         stations: Vec::new(alloc),

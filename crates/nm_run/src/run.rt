@@ -104,7 +104,8 @@ fn passes_of<R: Wait>(
     alloc: Global,
     books: &[SharedBook<Plain>],
 ) -> Result<Vec<Pass<Plain>>, AllocError>
-    ensures { IfOk result (λ passes. vec_len passes ≡ length books.now) }
+    ensures { IfOk result (λ passes. map (λ p. (p.partition, p.replica)) passes.items
+        ≡ map (λ b. (b.partition, b.replica)) books.now) }
 {
     let mut passes = Vec::with_capacity(alloc, books.len())?;
     for book in books {
@@ -180,6 +181,9 @@ fn sides_of<'a, F: Outputs, G, R: Wait>(
 ) -> Result<Vec<Side<'a, F::File>>, Stop>
     requires owners { AreFirstOwners threaded.now.board.now owners.items }
     requires names { HaveDistinctNames (names_of threaded.now) }
+    requires all { (vec_len posts ≡ length threaded.now.books.now)
+        × (length threaded.now.stations.now ≡ length threaded.now.books.now) }
+    ensures all { IfOk result (λ sides. vec_len sides ≡ length threaded.now.books.now) }
     ensures own { IfOk result (λ sides. AreOwns (names_of threaded.now)
         (map (λ s. s.own) sides.items)) }
     ensures board { IfOk result
@@ -197,9 +201,7 @@ fn sides_of<'a, F: Outputs, G, R: Wait>(
     let mut sides = Vec::new(threaded.alloc);
     let mut rest = OwnSeats::all(threaded.board, owners);
     for post in posts {
-        let Some(own) = threaded.own_at(sides.len()) else {
-            break;
-        };
+        let own = threaded.own_at(sides.len());
         let topology = threaded.plan.topology;
         let Dealt { own: seats, others } = rest.deal(threaded.alloc, topology, own.name())?;
         rest = others;
@@ -212,8 +214,12 @@ fn sides_of<'a, F: Outputs, G, R: Wait>(
 ///
 /// # Errors
 ///
-/// `Broken` where one is not there. `Memory` where memory was refused.
-fn watch_all<'a, G, R: Wait>(rt: &R, threaded: &Threaded<'a, G>) -> Result<Vec<Watched<'a>>, Stop>
+/// `Memory` where memory was refused.
+fn watch_all<'a, G, R: Wait>(
+    rt: &R,
+    threaded: &Threaded<'a, G>,
+) -> Result<Vec<Watched<'a>>, AllocError>
+    requires { length threaded.now.stations.now ≡ length threaded.now.books.now }
     ensures owns { IfOk result
         (λ watched. AreOwns (names_of threaded.now) (owns_of watched.items)) }
     ensures all { IfOk result (λ watched. vec_len watched ≡ length threaded.now.books.now) }
@@ -221,9 +227,7 @@ fn watch_all<'a, G, R: Wait>(rt: &R, threaded: &Threaded<'a, G>) -> Result<Vec<W
     let (topology, replicas) = (threaded.plan.topology, threaded.plan.replicas);
     let mut watched = Vec::new(threaded.alloc);
     for number in 0..threaded.books.len() {
-        let Some(own) = threaded.own_at(number) else {
-            return Err(Stop::Broken);
-        };
+        let own = threaded.own_at(number);
         let pass = own.book.pass(rt)?;
         watched.push(Watched::new(threaded.alloc, topology, replicas, own, pass)?)?;
     }
@@ -236,7 +240,8 @@ fn dispatcher_of<'a, G, R: Wait>(
     threaded: &Threaded<'a, G>,
     poll: Poll,
     seat: Seat,
-) -> Result<Dispatcher<'a>, Stop>
+) -> Result<Dispatcher<'a>, AllocError>
+    requires { length threaded.now.stations.now ≡ length threaded.now.books.now }
     ensures seat { IfOk result (λ d. d.seat ≡ seat) }
     ensures owns { IfOk result (λ d. AreOwns (names_of threaded.now) (owns_of d.watched.items)) }
     ensures all { IfOk result (λ d. vec_len d.watched ≡ length threaded.now.books.now) }

@@ -179,6 +179,7 @@ pub(crate) fn run_side<S: Sink, G: Gate, R: Net + Wait + Clock + Drop + Copy>(
 ) -> SideEnd<S>
     ensures told { (result.served ≡ Ended) ⊎ (result.told.are_all ≡ true) }
     ensures counted { result.counted.index ≡ side.entry.own.index }
+    ensures index { result.index ≡ side.entry.own.index }
     ensures took { result.served ≡ Ended → TookSome S.seen
         side.entry.holdings.files.files.items result.files.files.items }
 {
@@ -195,8 +196,7 @@ pub(crate) fn run_side<S: Sink, G: Gate, R: Net + Wait + Clock + Drop + Copy>(
         addresses,
         callers,
     } = peers;
-    let socket = bound.into_socket();
-    let served = match TcpTransport::new(*rt, threaded.alloc, poll, socket, addresses) {
+    let served = match TcpTransport::new(*rt, threaded.alloc, poll, bound, addresses) {
         Err(error) => served_of(&error),
         Ok(mut transport) => {
             let role = Role {

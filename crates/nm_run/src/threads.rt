@@ -1,6 +1,6 @@
 //! What the threads of a run share.
 
-ghost use Rattle.std.specs.Prelude.{◌≡◌, IfSome, length, true};
+ghost use Rattle.std.specs.Prelude.{◌≡◌, ◌<◌, IfSome, length, true};
 ghost use Rattle.nm_run.specs.Watching.{IsOwnAt, names_of};
 
 use crate::run::RunPlan;
@@ -41,14 +41,15 @@ pub(crate) struct AllWoken {
 
 impl<'a, G> Threaded<'a, G> {
     /// The replica that has this number among those of the run.
-    pub(crate) fn own_at(&self, number: usize) -> Option<Own<'a>>
-        ensures { IfSome result (IsOwnAt (names_of self.now) number) }
+    pub(crate) fn own_at(&self, number: usize) -> Own<'a>
+        requires { (number < length self.now.books.now) × (number < length self.now.stations.now) }
+        ensures { IsOwnAt (names_of self.now) number result }
     {
-        Some(Own {
+        Own {
             index: number,
-            station: self.stations.get(number)?,
-            book: self.books.get(number)?,
-        })
+            station: &self.stations[number],
+            book: &self.books[number],
+        }
     }
 
     /// Wakes all replicas.

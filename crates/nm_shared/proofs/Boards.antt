@@ -1,5 +1,5 @@
 -- Seats and words as lists: what stays the same, and what fits.
-use Rattle.std.proofs.Common.{◌≡◌, ◌≢◌, ℕ, zero, suc, ◌+◌, ◌<◌, ◌≤◌, List, [], ◌∷◌, ◌++◌, length, map, take, set, get_or, refl, sym, ap, ◌∙◌, arith}
+use Rattle.std.proofs.Common.{◌≡◌, ◌≢◌, ℕ, zero, suc, ◌+◌, ◌<◌, List, [], ◌∷◌, ◌++◌, length, map, take, set, get_or, refl, sym, ap, ◌∙◌, arith}
 use Rattle.std.specs.Prelude.{slice_index, max}
 use Rattle.std.proofs.lemmas.List.{map-set, length-map, map-append, take_more}
 use Rattle.std.proofs.Math.Seq.{map-set_same}
@@ -11,8 +11,7 @@ use Rattle.nm_shared.specs.declared.word.View.{View}
 use Rattle.nm_shared.specs.declared.word.WordSeat.{WordSeat}
 use Rattle.nm_shared.specs.declared.word.Word.{Word}
 use Rattle.nm_shared.specs.Clock.{Fits, all_max, raised_view, looked}
-use Rattle.nm_shared.specs.declared.board.Seat.{Seat}
-use Rattle.nm_shared.specs.Board.{FindsAt, word_id, id_of, view_of, Sit, SitsAt, FitAll, LooksAt, FoundAt}
+use Rattle.nm_shared.specs.Board.{FindsAt, word_id, id_of, view_of, Sit, SitsAt}
 
 pub sit_length : (ws : List Word) (ps : List WordSeat) → Sit ws ps → length ps ≡ length ws
 sit_length ws ps sit = sym (length-map ps id_of) ∙ ap length sit ∙ length-map ws word_id

@@ -19,7 +19,6 @@ use Rattle.nm_sim.specs.Network.{far_from, net_of}
 use Rattle.nm_book.specs.Book.{BookValue, message_channel}
 use Rattle.nm_book.specs.Accepting.{Learns, LearnsIf, Takes, message_taken}
 use Rattle.nm_book.specs.declared.fault.AcceptFault.{AcceptFault}
-use Rattle.nm_book.specs.declared.fault.AcceptFault.TheVariants.{Known}
 use Rattle.nm_book.specs.declared.message.ChannelMessage.{ChannelMessage}
 use Rattle.nm_book.specs.declared.message.ChannelMessage.TheVariants.{Data, Null}
 use Rattle.nm_book.specs.Running.{Runs}

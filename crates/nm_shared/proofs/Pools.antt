@@ -1,6 +1,7 @@
 -- What a pool's done jobs say, as lists of numbers.
 use Rattle.std.proofs.Common.{◌≡◌, ℕ, zero, suc, ◌+◌, ◌-◌, ◌<◌, ◌≤◌, ◌^◌, take, List, [], ◌∷◌, ◌++◌, length, map, get_or, Bool, true, false, cond, refl, sym, ap, ◌∙◌, subst, arith}
-use Rattle.std.specs.Prelude.{slice_get, slice_index, Some, None}
+use Rattle.std.specs.Prelude.{slice_get, slice_index, slice_set, Option, Some, None, Result}
+use Rattle.std.specs.declared.vec.Vec.{Vec}
 use Rattle.std.proofs.lemmas.List.{map-append, length-map, take_more}
 use Rattle.std.proofs.Math.Bridge.{le_prop}
 use Rattle.std.proofs.Math.Logic.{∥∥₁_elim}
@@ -18,7 +19,25 @@ use Rattle.nm_book.specs.declared.running.Ran.{Ran}
 use Rattle.nm_book.specs.declared.running.Ran.TheVariants.{All, Limit, Memory}
 use Rattle.nm_shared.specs.Counted.{Rises}
 use Rattle.nm_shared.specs.Known.{ran}
-use Rattle.nm_shared.specs.Pool.{IsRunAnswer}
+use Rattle.nm_shared.specs.Pool.{IsRunAnswer, done_by, put_in_places}
+
+-- reports that are put behind others
+pub put_behind : {A : Type 0} (place_of : A → ℕ) (slots : List (Option A)) (xs ys : List A) → put_in_places place_of (put_in_places place_of slots xs) ys ≡ put_in_places place_of slots (xs ++ ys)
+unfolding put_in_places
+put_behind place_of slots [] ys = refl
+put_behind place_of slots (x ∷ xs) ys = put_behind place_of (slice_set slots (place_of x) (Some x)) xs ys
+
+-- none
+pub put_none : {A : Type 0} (place_of : A → ℕ) (slots : List (Option A)) (xs : List A) → length xs ≡ 0 → put_in_places place_of slots xs ≡ slots
+unfolding put_in_places
+put_none place_of slots [] none = refl
+put_none place_of slots (x ∷ xs) none = absurd (omega arith)
+
+-- of no threads
+pub done_none : {A Y E : Type 0} (results : List (Result (Vec A Y) E)) → length results ≡ 0 → done_by results ≡ []
+unfolding done_by
+done_none [] none = refl
+done_none (r ∷ rs) none = absurd (omega arith)
 
 pub index_map : {A : Type 0} (f : A → ℕ) (xs : List A) (k : ℕ) (d : A) (ns : List ℕ) → ns ≡ map f xs → k < length xs → slice_index ns k ≡ f (get_or xs k d)
 index_map f xs k d ns e lt = ap (λ l. slice_index l k) e ∙ at f xs k d lt

@@ -1,5 +1,7 @@
 -- What a pool answers of its jobs.
-use Rattle.std.specs.Prelude.{◌≡◌, ℕ, List, [], ◌∷◌, Option, Some, slice_get, slice_index, slice_set}
+use Rattle.std.specs.Prelude.{◌≡◌, ℕ, List, [], ◌∷◌, ◌++◌, Option, Some, Result, Ok, Err}
+use Rattle.std.specs.Prelude.{slice_get, slice_index, slice_set}
+use Rattle.std.specs.declared.vec.Vec.{Vec}
 use Rattle.nm_book.specs.Book.{BookValue}
 use Rattle.nm_book.specs.Running.{Runs}
 use Rattle.nm_book.specs.declared.running.Ran.{Ran}
@@ -14,10 +16,11 @@ put_in_places place_of slots [] = slots
 put_in_places place_of slots (report ∷ more) =
     put_in_places place_of (slice_set slots (place_of report) (Some report)) more
 
--- these were put last
-abbrev pub ArePut : {A : Type 0} → (place_of : A → ℕ) → List A → List (Option A) → Type 0
-ArePut {A} place_of reports slots =
-    (before : List (Option A)) × (slots ≡ put_in_places place_of before reports)
+-- what threads did, one behind another: nothing of one that was refused memory
+unfoldable pub done_by : {A Y E : Type 0} → List (Result (Vec A Y) E) → List A
+done_by [] = []
+done_by (Ok done ∷ more) = done.items ++ done_by more
+done_by (Err e ∷ more) = done_by more
 
 -- each answer is one to the limit of the job at its place
 abbrev pub AreAnswers : List ℕ → List Ran → Type 0

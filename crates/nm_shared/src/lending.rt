@@ -1,9 +1,9 @@
 //! Who runs a book that has a pool beside its replica's own thread.
 
-ghost use Rattle.std.specs.Prelude.{◌≡◌, false, is_some, true};
+ghost use Rattle.std.specs.Prelude.{◌≡◌, IfSome, IsErr, None, false, is_some, true};
 
+use crate::flag::{Flag, WasSet};
 use std::marker::Model;
-use std::sync::atomic::{AtomicBool, Ordering};
 
 /// Says who runs a book: a pool, to which it is lent, or its replica's own thread, after each of
 /// its polls. It is lent at first, and again where its own thread left events to do; what is short
@@ -26,29 +26,53 @@ impl Model for Lending {
 /// What a pool and a replica's own thread know of a book that is lent at times.
 #[derive(Drop)]
 struct Loan {
-    is_lent: AtomicBool,
+    is_lent: Flag,
     /// The pool may do more than when it looked last.
-    has_news: AtomicBool,
+    has_news: Flag,
 }
 
 /// A book was lent to its pool, which is told so: only `Lending::lend` makes it.
 #[derive(Clone, Copy)]
-pub struct Lent(());
+pub struct Lent {
+    lent: WasSet,
+    told: WasSet,
+}
 
-/// A book was given back to its replica's own thread: only `Lending::give_back` makes it.
+/// A book was given back to its replica's own thread, if it has a pool: only `Lending::give_back`
+/// makes it.
 #[derive(Clone, Copy)]
-pub struct GivenBack(());
+pub struct GivenBack {
+    lent: Option<WasSet>,
+}
 
-/// A pool, if there is one that is to know, was told that it may do more: only `Lending::note` and
-/// `Lending::note_if_lent` make it.
+/// A pool, if there is one, was told that it may do more: only `Lending::note` makes it.
 #[derive(Clone, Copy)]
-pub struct Notified(());
+pub struct Notified {
+    told: Option<WasSet>,
+}
+
+/// A book was not lent when it was asked for that: only `Lending::not_lent` makes it.
+#[derive(Clone, Copy)]
+pub struct NotLent(());
+
+/// The pool may do more than when this was taken last. It cannot be let go but by `pass_on`.
+pub struct TakenNews(());
+
+impl TakenNews {
+    /// The pool was told.
+    pub fn pass_on(self) {
+        let TakenNews(()) = self;
+    }
+}
 
 impl Loan {
-    fn lend(&self) -> Lent {
-        self.is_lent.store(true, Ordering::SeqCst);
-        self.has_news.store(true, Ordering::SeqCst);
-        Lent(())
+    fn lend(&self) -> Lent
+        ensures { (result.lent.value ≡ true) × (result.told.value ≡ true) }
+    {
+        Lent {
+            lent: self.is_lent.set(true),
+            told: self.has_news.set(true),
+        }
     }
 }
 
@@ -59,8 +83,8 @@ impl Lending {
     {
         Lending {
             loan: Some(Loan {
-                is_lent: AtomicBool::new(true),
-                has_news: AtomicBool::new(true),
+                is_lent: Flag::new(true),
+                has_news: Flag::new(true),
             }),
         }
     }
@@ -77,15 +101,27 @@ impl Lending {
         ensures { self.now ≡ false → result ≡ false }
     {
         match &self.loan {
-            Some(loan) => loan.is_lent.load(Ordering::SeqCst),
+            Some(loan) => loan.is_lent.is_set(),
             None => false,
+        }
+    }
+
+    /// That the book is not lent, if it is not.
+    fn not_lent(&self) -> Option<NotLent>
+        ensures { self.now ≡ false → is_some result ≡ true }
+    {
+        if self.is_lent() {
+            None
+        } else {
+            Some(NotLent(()))
         }
     }
 
     /// The replica's own thread left events to do: the book is lent to its pool, if there is one,
     /// which is to do them now.
     pub fn lend(&self) -> Option<Lent>
-        ensures { is_some result ≡ self.now }
+        ensures pool { is_some result ≡ self.now }
+        ensures lent { IfSome result (λ l. (l.lent.value ≡ true) × (l.told.value ≡ true)) }
     {
         match &self.loan {
             Some(loan) => Some(loan.lend()),
@@ -94,36 +130,48 @@ impl Lending {
     }
 
     /// The pool left none: the replica's own thread goes on.
-    pub fn give_back(&self) -> GivenBack {
-        if let Some(loan) = &self.loan {
-            loan.is_lent.store(false, Ordering::SeqCst);
+    pub fn give_back(&self) -> GivenBack
+        ensures pool { is_some result.lent ≡ self.now }
+        ensures back { IfSome result.lent (λ l. l.value ≡ false) }
+    {
+        GivenBack {
+            lent: match &self.loan {
+                Some(loan) => Some(loan.is_lent.set(false)),
+                None => None,
+            },
         }
-        GivenBack(())
     }
 
     /// The pool may do more than when it looked last: the book is lent, or keeps fewer records.
-    pub fn note(&self) -> Notified {
-        if let Some(loan) = &self.loan {
-            loan.has_news.store(true, Ordering::SeqCst);
+    pub fn note(&self) -> Notified
+        ensures pool { is_some result.told ≡ self.now }
+        ensures told { IfSome result.told (λ t. t.value ≡ true) }
+    {
+        Notified {
+            told: match &self.loan {
+                Some(loan) => Some(loan.has_news.set(true)),
+                None => None,
+            },
         }
-        Notified(())
     }
 
     /// The same where the book is lent, and else nothing: its own thread knows.
-    pub fn note_if_lent(&self) -> Notified {
-        if self.is_lent() {
-            return self.note();
+    pub fn note_if_lent(&self) -> Result<Notified, NotLent>
+        ensures { self.now ≡ false → IsErr result }
+    {
+        match self.not_lent() {
+            Some(not_lent) => Err(not_lent),
+            None => Ok(self.note()),
         }
-        Notified(())
     }
 
-    /// Whether the pool may do more than when this was asked last.
-    pub fn take_news(&self) -> bool
-        ensures { self.now ≡ false → result ≡ false }
+    /// That the pool may do more than when this was asked last, if it may.
+    pub fn take_news(&self) -> Option<TakenNews>
+        ensures { self.now ≡ false → result ≡ None }
     {
         match &self.loan {
-            Some(loan) => loan.has_news.swap(false, Ordering::SeqCst),
-            None => false,
+            Some(loan) if loan.has_news.take() => Some(TakenNews(())),
+            Some(_) | None => None,
         }
     }
 }

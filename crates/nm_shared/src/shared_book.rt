@@ -1,7 +1,7 @@
 //! A book that threads share.
 
 ghost use Rattle.std.specs.Prelude.{◌≡◌, ◌+◌, ◌-◌, ◌^◌, ◌<◌, ◌≤◌, true, false, Err, length};
-ghost use Rattle.std.specs.Prelude.{vec_len, IfOk, IfErr, IfSome};
+ghost use Rattle.std.specs.Prelude.{vec_len, IfOk, IfErr, IfSome, IsOk};
 ghost use Rattle.std.specs.Arc.{arc_value};
 ghost use Rattle.std.specs.List.{sum_by};
 ghost use Rattle.nm_book.specs.Book.{BookValue, is_replica};
@@ -23,6 +23,9 @@ use std::sync::{Arc, Mutex, Wait};
 /// The right to act on one shared book. It counts what its acts added.
 #[derive(Drop)]
 pub struct Pass<C: Counts> {
+    /// Which replica the book is: its partition, and 0 or 1.
+    pub partition: PartNo,
+    pub replica: u8,
     /// What it counted.
     pub share: C::Share,
     ghost part: { C.parts share ≡ 1 },
@@ -84,16 +87,23 @@ impl<C: Counts> Locked<C> {
         self.book
     }
 
-    /// One more pass.
-    fn pass(&mut self) -> Result<Pass<C>, AllocError>
-        ensures { IfOk result (λ p. (C.messages_of p.share ≡ 0) × (C.events_of p.share ≡ 0)) }
+    /// One more pass, of the book of this replica.
+    fn pass(&mut self, partition: PartNo, replica: u8) -> Result<Pass<C>, AllocError>
+        ensures fresh { IfOk result
+            (λ p. (C.messages_of p.share ≡ 0) × (C.events_of p.share ≡ 0)) }
+        ensures room { self.old.made < 2 ^ 32 → IsOk result }
+        ensures named { IfOk result (λ p. (p.partition ≡ partition) × (p.replica ≡ replica)) }
     {
         if self.made == PARTS {
             return Err(AllocError);
         }
         let share = C::split(&mut self.rest);
         self.made += 1;
-        Ok(Pass { share })
+        Ok(Pass {
+            partition,
+            replica,
+            share,
+        })
     }
 
     /// Acts once, and counts what was added.
@@ -180,7 +190,7 @@ fn gather<C: Counts>(rest: C::Share, passes: Vec<Pass<C>>) -> C::Share
 {
     let mut whole = rest;
     for pass in passes {
-        let Pass { share } = pass;
+        let Pass { share, .. } = pass;
         C::merge(&mut whole, share);
     }
     whole
@@ -249,10 +259,13 @@ impl<C: Counts> SharedBook<C> {
     ///
     /// Where 2^32 passes were made already.
     pub fn pass<R: Wait>(&self, rt: &R) -> Result<Pass<C>, AllocError>
-        ensures { IfOk result (λ p. (C.messages_of p.share ≡ 0) × (C.events_of p.share ≡ 0)) }
+        ensures fresh { IfOk result
+            (λ p. (C.messages_of p.share ≡ 0) × (C.events_of p.share ≡ 0)) }
+        ensures named { IfOk result (λ p. (p.partition ≡ self.now.partition)
+            × (p.replica ≡ self.now.replica)) }
     {
         let mut held = self.lock.lock(rt);
-        held.pass()
+        held.pass(self.partition, self.replica)
     }
 
     /// Acts once on the locked book, which has at least what the pass counted. The pass then counts

@@ -1,23 +1,24 @@
 //! Jobs over a list of shared books, done by a few threads.
 
 ghost use Rattle.std.specs.Prelude.{◌≡◌, ℕ, ◌<◌, ◌≤◌, length, map, slice_index, vec_len, IfOk, All};
+ghost use Rattle.std.specs.Prelude.{true};
 ghost use Rattle.nm_shared.specs.Known.{ran};
 ghost use Rattle.nm_shared.specs.Pool.{AreAnswers};
 
-mod offers;
 mod report;
+mod try_sender;
 mod work;
 
 use crate::counts::Counts;
 use crate::shared_book::{Pass, SharedBook};
 use nm_book::Ran;
-use offers::Offers;
 use report::{gathered, report_of, slots_for};
 use std::alloc::{AllocError, Global};
 use std::marker::Brand;
 use std::sync::Wait;
 use std::thread;
 use std::thread::Threads;
+use try_sender::TrySender;
 use work::{Done, Jobs, feed, work};
 
 /// How many jobs wait at most.
@@ -31,13 +32,19 @@ pub struct Job {
     pub limit: u64,
 }
 
+/// A worker has begun the job at this place of the list. It cannot be let go but by `Gate::leave`.
+pub struct Entered {
+    pub job: usize,
+}
+
 /// What is told, and asked, while threads run.
 pub trait Gate {
     /// A worker begins the job at this place of the list.
-    fn enter(&self, job: usize);
+    fn enter(&self, job: usize) -> Entered
+        ensures { result.job ≡ job };
 
     /// It has ended it.
-    fn leave(&self, job: usize);
+    fn leave(&self, entered: Entered);
 
     /// Whether a thread of input and output goes on, whose wires took and gave so many octets so
     /// far. A pool never asks.
@@ -48,11 +55,17 @@ pub trait Gate {
 pub struct OpenGate;
 
 impl Gate for OpenGate {
-    fn enter(&self, _job: usize) {}
+    fn enter(&self, job: usize) -> Entered {
+        Entered { job }
+    }
 
-    fn leave(&self, _job: usize) {}
+    fn leave(&self, entered: Entered) {
+        let Entered { job: _ } = entered;
+    }
 
-    fn poll(&self, _moved: u64) -> bool {
+    fn poll(&self, _moved: u64) -> bool
+        ensures { result ≡ true }
+    {
         true
     }
 }
@@ -104,7 +117,7 @@ fn pool_of<C: Counts, J: Jobs + Send + Sync, G: Gate + Sync, R: Threads + Wait +
 {
     let slots = slots_for(alloc, jobs.len())?;
     let (to, from) = crossbeam_channel::bounded(alloc, QUEUE)?;
-    let (queue, offers) = (&from, Offers::of(to));
+    let (queue, sender) = (&from, TrySender::of(to));
     let (results, fed) = thread::join(
         rt,
         move ||
@@ -128,7 +141,7 @@ fn pool_of<C: Counts, J: Jobs + Send + Sync, G: Gate + Sync, R: Threads + Wait +
             requires length { length jobs.now ≡ length J.books }
             requires books { J.books ≡ map (λ j. j.book) jobs.now }
             requires limits { J.limits ≡ map (λ j. j.limit) jobs.now }
-        { feed::<C, J, G, R>(rt, alloc, books, jobs, offers, gate) },
+        { feed::<C, J, G, R>(rt, alloc, books, jobs, sender, gate) },
     );
     let slots = gathered(slots, results?, fed?)?;
     report_of::<C, J, G, R>(rt, alloc, books, jobs, slots, gate)

@@ -1,3 +1,4 @@
+pub mod Asked
 pub mod Period
 pub mod Shortage
 pub mod Transport

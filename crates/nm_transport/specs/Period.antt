@@ -9,6 +9,12 @@ abbrev pub nanoseconds_left : (begun now : Instant) → ℕ
 nanoseconds_left begun now =
     PERIOD_MILLISECONDS * 1000000 - (instant_nanos now - instant_nanos begun)
 
+-- how much of a period is left that began then, as the clock says now: all of it where it can't be read
+abbrev pub left_by : (begun now : Option Instant) → ℕ
+left_by (Some begun) (Some now) = nanoseconds_left begun now
+left_by (Some begun) None = PERIOD_MILLISECONDS * 1000000
+left_by None now = PERIOD_MILLISECONDS * 1000000
+
 -- a period is over when nothing is left of it; where one of the readings could not be had, once a
 -- wait for its rest found nothing
 abbrev pub is_over : (begun now : Option Instant) → (was_waited_for : Bool) → Bool

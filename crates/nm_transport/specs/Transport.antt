@@ -1,9 +1,12 @@
 -- What contracts see of a transport and of its connections.
-use Rattle.std.specs.Prelude.{◌≡◌, ◌⊎◌, ℕ, ◌+◌, Bool, true, false, List, [], Option, if◌then◌else◌, slice_get, Some}
+use Rattle.std.specs.Prelude.{◌≡◌, ◌⊎◌, ℕ, ◌+◌, ◌-◌, ◌^◌, ◌==◌, Bool, true, false, List, [], Option, None, if◌then◌else◌, slice_get, Some}
+use Rattle.mio.specs.Event.{event_token}
+use Rattle.mio.specs.declared.event.event.Event.{Event}
 use Rattle.std.specs.declared.io.ErrorKind.{ErrorKind}
 use Rattle.std.specs.declared.io.ErrorKind.TheVariants.{WouldBlock, Interrupted, NotConnected}
 use Rattle.std.specs.declared.net.socket_addr.SocketAddr.{SocketAddr}
 use Rattle.nm_base.specs.Wire.{WireSeen}
+use Rattle.nm_transport.specs.Asked.{Asked}
 use Rattle.nm_transport.specs.declared.tcp_wire.Called.{Called}
 use Rattle.nm_transport.specs.declared.transport.Waited.{Waited}
 use Rattle.nm_transport.specs.declared.transport.Waited.TheVariants.{Ready, RanOut, Fault}
@@ -14,20 +17,38 @@ pub record TcpSeen : Type 0 where
   pub wire : WireSeen
   pub called : Option Called
 
--- What contracts see of a transport over TCP: where its peers listen, by their numbers; whether
+-- What contracts see of a transport over TCP: where it listens, and its peers, by their numbers; whether
 -- somebody may have called; whether the system had too little for one more connection when it was
--- asked last; whether the last wait was asked to wait; and how many waits ran out.
+-- asked last; whether the last wait was asked to wait; what it reported; how many waits ran out; and
+-- what was asked of it.
 pub record TcpTransportSeen : Type 0 where
+  pub at : SocketAddr
   pub peers : List SocketAddr
   pub is_called : Bool
   pub is_short : Bool
   pub was_to_wait : Bool
+  pub reported : List Event
   pub elapsed : ℕ
+  pub asked : Asked
+
+-- the token of what a poll reported
+abbrev pub token_of : Event → ℕ
+token_of event = (event_token event).0
+
+-- it is the listener: its token is the greatest
+abbrev pub is_listener : Event → Bool
+is_listener event = token_of event == 2 ^ 64 - 1
 
 -- the peer with this number was called, at its address
 abbrev pub IsCallTo : (peers : List SocketAddr) → (peer : ℕ) → Called → Type 0
 IsCallTo peers peer called =
     (called.peer ≡ peer) × (slice_get peers peer ≡ Some called.address)
+
+-- a connection has the address that was called at its own end, too
+abbrev pub MeetsItself : (called : Option Called) → (own : Option SocketAddr) → Type 0
+MeetsItself None own = ⊥
+MeetsItself (Some called) None = ⊥
+MeetsItself (Some called) (Some own) = called.address ≡ own
 
 -- an error of this kind says that the call is to be made again once the connection is ready: it
 -- would block, was interrupted, or the connection is not made yet

@@ -2,7 +2,8 @@
 
 ghost use Rattle.std.specs.Prelude.{◌≡◌};
 
-use mio::net::TcpListener;
+use mio::net::{TcpListener, TcpStream};
+use mio::{Interest, Registry, Token};
 use std::io;
 use std::marker::Model;
 use std::net::{Net, SocketAddr};
@@ -11,7 +12,22 @@ use std::net::{Net, SocketAddr};
 #[derive(Drop)]
 pub struct Bound {
     socket: TcpListener,
-    at: SocketAddr,
+    at: LocalAddress,
+}
+
+/// Where the system says that a socket listens: only `LocalAddress::of` makes it.
+#[derive(Clone, Copy)]
+struct LocalAddress {
+    address: SocketAddr,
+}
+
+impl LocalAddress {
+    /// Of this socket.
+    fn of(socket: &TcpListener) -> io::Result<Self> {
+        Ok(LocalAddress {
+            address: socket.local_addr()?,
+        })
+    }
 }
 
 impl Model for Bound {
@@ -19,7 +35,7 @@ impl Model for Bound {
 
     ghost Value = { Address };
 
-    ghost view = { λ b. b.at };
+    ghost view = { λ b. b.at.address };
 }
 
 impl Bound {
@@ -30,7 +46,7 @@ impl Bound {
     /// Where the system does not let it.
     pub fn listen<R: Net>(net: &R, address: SocketAddr) -> io::Result<Self> {
         let socket = TcpListener::bind(net, address)?;
-        let at = socket.local_addr()?;
+        let at = LocalAddress::of(&socket)?;
         Ok(Bound { socket, at })
     }
 
@@ -38,11 +54,18 @@ impl Bound {
     pub fn at(&self) -> SocketAddr
         ensures { result ≡ self.now }
     {
-        self.at
+        self.at.address
     }
 
-    /// The socket.
-    pub fn into_socket(self) -> TcpListener {
-        self.socket
+    /// Has a poll report under this token that somebody may have called.
+    pub(crate) fn register(&mut self, registry: &Registry, token: Token) -> io::Result<()>
+        ensures { self.new ≡ self.old }
+    {
+        registry.register(&mut self.socket, token, Interest::READABLE)
+    }
+
+    /// The next connection that somebody began, as the system answers.
+    pub(crate) fn accept(&self) -> io::Result<(TcpStream, SocketAddr)> {
+        self.socket.accept()
     }
 }

@@ -2,7 +2,9 @@
 //! likes. Time passes here in periods.
 #![tactic(auto)]
 
+pub mod ask_log;
 pub mod bound;
+pub mod laws;
 pub mod limits;
 mod period;
 mod reading;
@@ -11,6 +13,7 @@ pub mod tcp_transport;
 pub mod tcp_wire;
 pub mod transport;
 
+pub use ask_log::{AskLog, AskedToWait};
 pub use bound::Bound;
 pub use tcp_transport::TcpTransport;
 pub use tcp_wire::TcpWire;

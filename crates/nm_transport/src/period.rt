@@ -1,9 +1,11 @@
 //! Time by a clock, in periods that follow one another.
 
-ghost use Rattle.std.specs.Prelude.{◌≡◌, ◌*◌, ◌≤◌};
+ghost use Rattle.std.specs.Prelude.{◌≡◌, Option};
+ghost use Rattle.std.specs.declared.time.Instant.{Instant as InstantValue};
 ghost use Rattle.std.specs.Duration.{as_nanos};
-ghost use Rattle.nm_transport.specs.Period.{ReadsClock, begun_after, is_over, nanoseconds_left};
-ghost use Rattle.nm_transport.specs.declared.limits.TheConstants.{PERIOD_MILLISECONDS};
+ghost use Rattle.std.specs.Result.{result_ok};
+ghost use Rattle.nm_transport.specs.Period.{ReadsClock, begun_after, is_over, left_by};
+ghost use Rattle.nm_transport.specs.Period.{nanoseconds_left};
 
 use crate::limits::PERIOD_MILLISECONDS;
 use crate::reading::Reading;
@@ -32,9 +34,16 @@ impl Period {
 
     /// How much of it is left, and all of it where the clock can't be read.
     pub(crate) fn left(&self, clock: &impl Clock) -> Duration
-        ensures { as_nanos result ≤ PERIOD_MILLISECONDS * 1000000 }
+        ensures { (now : Option InstantValue) × (as_nanos result ≡ left_by self.now.begun now) }
     {
-        match (self.begun, Reading::of(clock).instant()) {
+        self.left_at(Reading::of(clock))
+    }
+
+    /// The same, where the clock says this now.
+    fn left_at(&self, now: Reading) -> Duration
+        ensures { as_nanos result ≡ left_by self.now.begun (result_ok now.answer) }
+    {
+        match (self.begun, now.instant()) {
             (Some(begun), Some(now)) => left_of(begun, now),
             _ => Duration::from_millis(PERIOD_MILLISECONDS),
         }
@@ -50,8 +59,8 @@ impl Period {
 
     /// The same, where the clock says this now.
     fn ends_at(&mut self, now: Reading, was_waited_for: bool) -> bool
-        ensures ends { result ≡ is_over self.old.begun now.instant was_waited_for }
-        ensures begun { self.new.begun ≡ begun_after self.old.begun now.instant result }
+        ensures ends { result ≡ is_over self.old.begun (result_ok now.answer) was_waited_for }
+        ensures begun { self.new.begun ≡ begun_after self.old.begun (result_ok now.answer) result }
     {
         let now = now.instant();
         let is_over = match (self.begun, now) {

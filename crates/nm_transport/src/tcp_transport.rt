@@ -1,19 +1,24 @@
 //! Connections over TCP.
 
 ghost use Rattle.std.specs.Prelude.{◌≡◌, ◌↔◌, ◌||◌, IfErr, IfOk, IfSome, IsSome, IsSomeAnd, IsTrue};
-ghost use Rattle.std.specs.Prelude.{None, Some, false, if◌then◌else◌, is_ok, true};
+ghost use Rattle.std.specs.Prelude.{[], None, Some, false, if◌then◌else◌, is_ok, true};
 ghost use Rattle.std.specs.Duration.{as_nanos};
 ghost use Rattle.nm_transport.specs.Shortage.{IsOfShortage};
 ghost use Rattle.nm_transport.specs.Transport.{IsCallTo, IsFresh, elapsed_after, has_run_out};
-ghost use Rattle.nm_transport.specs.Transport.{waited_as};
+ghost use Rattle.std.specs.List.{list_any};
+ghost use Rattle.mio.specs.Events.{items};
+ghost use Rattle.nm_transport.specs.Asked.{after_accept, after_call, after_wait, nothing_asked};
+ghost use Rattle.nm_transport.specs.Transport.{is_listener, waited_as};
 
+use crate::ask_log::AskLog;
+use crate::bound::Bound;
 use crate::limits::MAX_REPORTS;
 use crate::period::Period;
 use crate::shortage::is_shortage;
-use crate::tcp_wire::{Called, TcpWire};
+use crate::tcp_wire::{Called, Registered, TcpWire};
 use crate::transport::{Reported, Transport, Waited};
-use mio::net::{TcpListener, TcpStream};
-use mio::{Events, Interest, Poll, Token};
+use mio::net::TcpStream;
+use mio::{Events, Poll, Token};
 use nm_base::failures::FailureCount;
 use std::alloc::Global;
 use std::io;
@@ -24,15 +29,16 @@ use std::time::{Clock, Duration};
 /// The token of the listener. Connections have their keys, and wakers the tokens next below.
 const LISTENER: Token = Token(usize::MAX);
 
-/// A listener, the addresses of the peers to connect to, and a poll. A clause sees the addresses,
-/// whether somebody may have called, whether the system has too little for one more connection,
-/// whether the last wait was asked to wait, and how many waits ran out.
+/// A listener, the addresses of the peers to connect to, and a poll. A clause sees where it listens
+/// and those addresses, whether somebody may have called, whether the system has too little for one
+/// more connection, whether the last wait was asked to wait, what it reported, how many waits ran
+/// out, and what was asked.
 #[derive(Drop)]
 pub struct TcpTransport<R> {
     net: R,
     poll: Poll,
     events: Events,
-    listener: TcpListener,
+    listener: Bound,
     peers: Vec<SocketAddr>,
     /// Somebody may have called.
     is_called: bool,
@@ -43,19 +49,24 @@ pub struct TcpTransport<R> {
     /// The period that goes on.
     period: Period,
     idle: FailureCount,
+    log: AskLog,
 }
 
 impl<R> Model for TcpTransport<R> {
+    ghost use Rattle.mio.specs.Events.{items};
     ghost use Rattle.nm_transport.specs.Transport.{TcpTransportSeen};
 
     ghost Value = { TcpTransportSeen };
 
     ghost view = { λ t. record {
+      at = t.listener;
       peers = t.peers.items;
       is_called = t.is_called;
       is_short = t.is_short;
       was_to_wait = t.was_to_wait;
+      reported = items t.events;
       elapsed = t.idle;
+      asked = t.log;
     } };
 }
 
@@ -85,11 +96,12 @@ fn may_be_called(was_called: bool, waited: Waited, has_call: bool) -> bool
     was_called || waited.has_run_out() || has_call
 }
 
-/// A connection that the poll reports, as the system answered.
-fn if_registered(connection: TcpWire, registered: &io::Result<()>) -> Option<TcpWire>
-    ensures { result ≡ (if is_ok registered.now then Some connection else None) }
+/// A connection that the poll reports under this key, as the system answered.
+fn if_registered(connection: TcpWire, registered: &Registered, key: usize) -> Option<TcpWire>
+    requires { registered.now.key ≡ key }
+    ensures { result ≡ (if is_ok registered.now.answer then Some connection else None) }
 {
-    if registered.is_ok() {
+    if registered.is_done() {
         Some(connection)
     } else {
         None
@@ -97,7 +109,9 @@ fn if_registered(connection: TcpWire, registered: &io::Result<()>) -> Option<Tcp
 }
 
 /// Whether the listener was reported.
-fn has_call(events: &Events) -> bool {
+fn has_call(events: &Events) -> bool
+    ensures { result ≡ list_any is_listener (items events.now) }
+{
     events.iter().any(|event| event.token() == LISTENER)
 }
 
@@ -112,23 +126,25 @@ impl<R: Net + Clock> TcpTransport<R> {
         net: R,
         alloc: Global,
         poll: Poll,
-        mut listener: TcpListener,
+        mut listener: Bound,
         peers: Vec<SocketAddr>,
     ) -> io::Result<Self>
     where
         R: Drop,
         ensures { IfOk result
             (λ t. t ≡ record {
+              at = listener;
               peers = peers.items;
               is_called = true;
               is_short = false;
               was_to_wait = false;
+              reported = [];
               elapsed = 0;
+              asked = nothing_asked;
             }) }
     {
         let events = Events::with_capacity(alloc, MAX_REPORTS)?;
-        poll.registry()
-            .register(&mut listener, LISTENER, Interest::READABLE)?;
+        listener.register(poll.registry(), LISTENER)?;
         let period = Period::begin(&net);
         Ok(TcpTransport {
             net,
@@ -141,6 +157,7 @@ impl<R: Net + Clock> TcpTransport<R> {
             was_to_wait: false,
             period,
             idle: FailureCount::new(),
+            log: AskLog::new(),
         })
     }
 
@@ -148,14 +165,13 @@ impl<R: Net + Clock> TcpTransport<R> {
     fn call(&mut self, peer: usize) -> Option<TcpWire>
         ensures fresh { IfSome result (λ w. IsFresh w.wire) }
         ensures called { IfSome result (λ w. IsSomeAnd w.called (IsCallTo self.old.peers peer)) }
-        ensures same { self.new ≡ self.old }
+        ensures asked { self.new ≡ record self.old { asked = after_call self.old.asked } }
     {
+        self.log.note_call();
         let address = *self.peers.get(peer)?;
         let wire = TcpWire::call(&self.net, Called { peer, address })?;
-        if wire.meets_itself() {
-            return None;
-        }
-        Some(wire)
+        let own = wire.own_address();
+        wire.unless_from(own)
     }
 
     /// What the listener answered: a connection that somebody began, or that the system refused one
@@ -185,11 +201,14 @@ impl<R: Net + Clock> TcpTransport<R> {
     /// The next connection that somebody began, if there is one.
     fn next_call(&mut self) -> Option<TcpWire>
         // The system is asked where somebody may have called, until it has no more.
-        ensures quiet { self.old.is_called ≡ false → (result ≡ None) × (self.new ≡ self.old) }
+        ensures quiet { self.old.is_called ≡ false → (result ≡ None)
+            × (self.new ≡ record self.old { asked = after_accept self.old.asked }) }
+        ensures asked { self.new.asked ≡ after_accept self.old.asked }
         ensures none { result ≡ None → self.new.is_called ≡ false }
         ensures fresh { IfSome result (λ w. IsFresh w.wire) }
         ensures idle { self.new.elapsed ≡ self.old.elapsed }
     {
+        self.log.note_accept();
         if !self.is_called {
             return None;
         }
@@ -200,15 +219,18 @@ impl<R: Net + Clock> TcpTransport<R> {
     /// Waits until a connection is ready or the period is over, or only looks.
     fn wait_for(&mut self, may_wait: bool) -> Waited
         ensures idle { self.new.elapsed ≡ elapsed_after self.old.elapsed (has_run_out result) }
-        ensures asked { self.new.was_to_wait ≡ may_wait }
+        ensures waits { self.new.was_to_wait ≡ may_wait }
+        ensures asked { self.new.asked ≡ after_wait self.old.asked }
 
-        // Somebody may have called where that was so before, and where a period was over.
-        ensures called { self.old.is_called ≡ true → self.new.is_called ≡ true }
-        ensures period { has_run_out result ≡ true → self.new.is_called ≡ true }
+        // Somebody may have called where that was so before, where a period was over,
+        // or the listener was reported.
+        ensures called { self.new.is_called ≡ (self.old.is_called || has_run_out result
+            || list_any is_listener self.new.reported) }
     {
+        let asked = self.log.note_wait();
         self.was_to_wait = may_wait;
         let limit = wait_limit(may_wait, self.period.left(&self.net));
-        let has_waited = self.poll.poll(&mut self.events, Some(limit)).is_ok();
+        let has_waited = asked.poll(&mut self.poll, &mut self.events, limit);
         let was_quiet = may_wait && has_waited && self.events.is_empty();
         let waited = waited_as(self.period.ends(&self.net, was_quiet), has_waited);
         self.is_called = may_be_called(self.is_called, waited, has_call(&self.events));
@@ -223,10 +245,18 @@ impl<R: Net + Clock> Transport for TcpTransport<R> {
     type Connection = TcpWire;
 
     ghost use Rattle.std.specs.Option.{option_map};
+    ghost use Rattle.std.specs.Prelude.{slice_get};
+    ghost use Rattle.nm_transport.specs.Transport.{token_of};
+
+    ghost asked = { λ t. t.asked };
+
+    ghost has_too_little = { λ t. t.is_short };
 
     ghost elapsed_periods = { λ t. t.elapsed };
 
     ghost was_to_wait = { λ t. t.was_to_wait };
+
+    ghost reported = { λ t number. option_map token_of (slice_get t.reported number) };
 
     ghost leads_to = { λ w. option_map (λ called. called.peer) w.called };
 
@@ -238,19 +268,19 @@ impl<R: Net + Clock> Transport for TcpTransport<R> {
         self.next_call()
     }
 
-    fn is_short(&self) -> bool
-        ensures { result ≡ self.now.is_short }
-    {
+    fn is_short(&self) -> bool {
         self.is_short
     }
 
     fn watch(&mut self, connection: TcpWire, key: usize) -> Option<TcpWire> {
+        self.log.note_watch();
         let mut connection = connection;
-        let registered = connection.register(self.poll.registry(), Token(key));
-        if_registered(connection, &registered)
+        let registered = connection.register(self.poll.registry(), key);
+        if_registered(connection, &registered, key)
     }
 
     fn unwatch(&mut self, connection: &mut TcpWire) {
+        self.log.note_unwatch();
         let _ = connection.deregister(self.poll.registry());
     }
 

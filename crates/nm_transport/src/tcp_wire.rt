@@ -1,8 +1,9 @@
 //! A wire over a TCP connection that does not wait.
 
-ghost use Rattle.std.specs.Prelude.{◌≡◌, ◌↔◌, IfSome, IsTrue, None, Some, [], true};
+ghost use Rattle.std.specs.Prelude.{◌≡◌, ◌↔◌, IfSome, IsTrue, None, Some, [], is_ok, true};
 ghost use Rattle.std.specs.IoError.{error_kind};
-ghost use Rattle.nm_transport.specs.Transport.{IsToWait};
+ghost use Rattle.mio.specs.Interest.{is_readable, is_writable};
+ghost use Rattle.nm_transport.specs.Transport.{IsToWait, MeetsItself};
 
 use mio::net::TcpStream;
 use mio::{Interest, Registry, Token};
@@ -19,6 +20,23 @@ use std::net::{Net, SocketAddr};
 pub struct Called {
     pub peer: usize,
     pub address: SocketAddr,
+}
+
+/// A poll was to report a connection under this key, and the system answered so: only
+/// `TcpWire::register` makes it.
+#[derive(Drop)]
+pub struct Registered {
+    key: usize,
+    answer: io::Result<()>,
+}
+
+impl Registered {
+    /// Whether the poll reports it.
+    pub fn is_done(&self) -> bool
+        ensures { result ≡ is_ok self.now.answer }
+    {
+        self.answer.is_ok()
+    }
 }
 
 /// A TCP connection. A clause sees the octets that came and went, as the system answered, how often
@@ -72,11 +90,23 @@ impl TcpWire {
         TcpWire::over(stream, None)
     }
 
-    /// Whether the connection meets itself: its own end has the address to which it was begun.
-    pub fn meets_itself(&self) -> bool {
-        match (self.called, self.stream.local_addr()) {
-            (Some(called), Ok(own)) => meets_itself(own, called.address),
-            _ => false,
+    /// The address of its own end, if the system says one.
+    pub fn own_address(&self) -> Option<SocketAddr> {
+        self.stream.local_addr().ok()
+    }
+
+    /// The connection, unless it meets itself: its own end has the address to which it was begun.
+    /// Where nobody listens yet at a port from which the system takes the ports of callers, the two
+    /// may be one (RFC 9293, section 3.5: both ends open at once). That is no connection with a
+    /// peer, and it holds the port at which the peer is to listen.
+    pub fn unless_from(self, own: Option<SocketAddr>) -> Option<Self>
+        ensures kept { IfSome result (λ w. w ≡ self) }
+        ensures none { (result ≡ None) ↔ MeetsItself self.called own }
+    {
+        if meets_itself(self.called, own) {
+            None
+        } else {
+            Some(self)
         }
     }
 
@@ -100,15 +130,13 @@ impl TcpWire {
         }
     }
 
-    /// Has a poll report the connection under this token.
-    pub fn register(&mut self, registry: &Registry, token: Token) -> io::Result<()>
-        ensures { self.new ≡ self.old }
+    /// Has a poll report the connection under this key.
+    pub fn register(&mut self, registry: &Registry, key: usize) -> Registered
+        ensures same { self.new ≡ self.old }
+        ensures key { result.key ≡ key }
     {
-        registry.register(
-            &mut self.stream,
-            token,
-            Interest::READABLE | Interest::WRITABLE,
-        )
+        let answer = registry.register(&mut self.stream, Token(key), both_ways());
+        Registered { key, answer }
     }
 
     /// Ends the reports of the connection.
@@ -155,14 +183,21 @@ impl Wire for TcpWire {
     }
 }
 
-/// Whether a connection to an address has it at its own end, too. Where nobody listens yet at a
-/// port from which the system takes the ports of callers, the two may be one (RFC 9293, section
-/// 3.5: both ends open at once). That is no connection with a peer, and it holds the port at which
-/// the peer is to listen.
-pub fn meets_itself(own: SocketAddr, peer: SocketAddr) -> bool
-    ensures { (result ≡ true) ↔ (own ≡ peer) }
+/// Whether a connection has the address that was called at its own end, too.
+pub fn meets_itself(called: Option<Called>, own: Option<SocketAddr>) -> bool
+    ensures { IsTrue result ↔ MeetsItself called own }
 {
-    own == peer
+    match (called, own) {
+        (Some(called), Some(own)) => called.address == own,
+        _ => false,
+    }
+}
+
+/// What a connection is reported for: octets came, or can go.
+fn both_ways() -> Interest
+    ensures { (is_readable result ≡ true) × (is_writable result ≡ true) }
+{
+    Interest::READABLE | Interest::WRITABLE
 }
 
 /// Whether the call is to be made again once the connection is ready.

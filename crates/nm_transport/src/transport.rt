@@ -40,15 +40,28 @@ pub struct Reported {
 /// periods of `limits::PERIOD_MILLISECONDS`: whoever calls and speaks in one can't make it longer.
 /// A clause sees how many were over.
 pub trait Transport {
+    ghost use Rattle.std.specs.Option.{option_map};
+    ghost use Rattle.nm_transport.specs.Asked.{Asked, after_accept, after_call, after_unwatch};
+    ghost use Rattle.nm_transport.specs.Asked.{after_wait, after_watch};
     ghost use Rattle.nm_transport.specs.Transport.{IsFresh, has_run_out, elapsed_after};
 
     type Connection: Wire + Drop;
+
+    // What was asked of it so far.
+    ghost asked: { Self → Asked };
+
+    // The system had too little for one more connection, when it was asked for one last.
+    ghost has_too_little: { Self → Bool };
 
     // How many waits ended because a period was over, or because it could not wait.
     ghost elapsed_periods: { Self → ℕ };
 
     // The last wait was asked to wait, and not only to look.
     ghost was_to_wait: { Self → Bool };
+
+    // The key of the connection in the report with a number that the last wait made, if it made so
+    // many.
+    ghost reported: { Self → ℕ → Option ℕ };
 
     // The number of the peer to which a connection was begun, if it was begun here.
     ghost leads_to: { Self.Connection → Option ℕ };
@@ -57,28 +70,31 @@ pub trait Transport {
     fn connect(&mut self, peer: usize) -> Option<Self::Connection>
         ensures fresh { IfSome result (λ w. IsFresh (Self.Connection.seen w)) }
         ensures leads { IfSome result (λ w. leads_to w ≡ Some peer) }
+        ensures asked { asked self.new ≡ after_call (asked self.old) }
         ensures idle { elapsed_periods self.new ≡ elapsed_periods self.old };
 
     /// The next connection that a peer began, if there is one.
     fn accept(&mut self) -> Option<Self::Connection>
         ensures fresh { IfSome result (λ w. IsFresh (Self.Connection.seen w)) }
+        ensures asked { asked self.new ≡ after_accept (asked self.old) }
         ensures idle { elapsed_periods self.new ≡ elapsed_periods self.old };
 
     /// Whether the system refused a connection that somebody began, when it was asked for one last,
     /// because it has too little for one more: no peer is to blame.
-    fn is_short(&self) -> bool {
-        false
-    }
+    fn is_short(&self) -> bool
+        ensures { result ≡ has_too_little self.now };
 
     /// Has `wait` end when the connection is ready, which then has this key. A connection that it
     /// can't watch is let go.
     fn watch(&mut self, connection: Self::Connection, key: usize) -> Option<Self::Connection>
         ensures same { IfSome result (λ w. w ≡ connection) }
+        ensures asked { asked self.new ≡ after_watch (asked self.old) }
         ensures idle { elapsed_periods self.new ≡ elapsed_periods self.old };
 
     /// Ends that.
     fn unwatch(&mut self, connection: &mut Self::Connection)
         ensures same { connection.new ≡ connection.old }
+        ensures asked { asked self.new ≡ after_unwatch (asked self.old) }
         ensures idle { elapsed_periods self.new ≡ elapsed_periods self.old };
 
     /// Waits until a connection is ready or the period is over, or only looks. The first call that
@@ -86,10 +102,12 @@ pub trait Transport {
     fn wait(&mut self, may_wait: bool) -> Waited
         ensures idle { elapsed_periods self.new
             ≡ elapsed_after (elapsed_periods self.old) (has_run_out result) }
-        ensures asked { was_to_wait self.new ≡ may_wait };
+        ensures waits { was_to_wait self.new ≡ may_wait }
+        ensures asked { asked self.new ≡ after_wait (asked self.old) };
 
     /// The report with this number of those that the last wait made, if it made so many. A
     /// connection that is not reported is looked at when a period is over: to report all is as
     /// right as to report nothing, and as slow.
-    fn report(&self, number: usize) -> Option<Reported>;
+    fn report(&self, number: usize) -> Option<Reported>
+        ensures key { option_map (λ r. r.key) result ≡ reported self.now number };
 }

@@ -7,7 +7,7 @@ use crate::hub::Shared;
 use crate::wire::WorldWire;
 use nm_base::failures::FailureCount;
 use nm_transport::limits::PERIOD_MILLISECONDS;
-use nm_transport::{Reported, Transport, Waited};
+use nm_transport::{AskLog, Reported, Transport, Waited};
 
 /// The transport of a machine: the others that it calls, by the numbers of its peers.
 #[derive(Drop)]
@@ -19,6 +19,9 @@ pub(crate) struct WorldTransport {
     now: u64,
     period_end: u64,
     idle: FailureCount,
+    log: AskLog,
+    /// The machine had too little for one more connection when it was asked for one last.
+    is_short: bool,
     /// The last wait was asked to wait.
     was_to_wait: bool,
     /// Something came at its last poll, so that more may be left to do.
@@ -35,6 +38,8 @@ impl WorldTransport {
             now,
             period_end: now.saturating_add(PERIOD_MILLISECONDS),
             idle: FailureCount::new(),
+            log: AskLog::new(),
+            is_short: false,
             was_to_wait: false,
             is_busy: true,
         }
@@ -68,6 +73,14 @@ impl WorldTransport {
 impl Transport for WorldTransport {
     type Connection = WorldWire;
 
+    ghost use Rattle.std.specs.Prelude.{Some};
+
+    ghost asked = { λ n. n.log };
+
+    ghost has_too_little = { λ n. n.is_short };
+
+    ghost reported = { λ n number. Some number };
+
     ghost elapsed_periods = { λ n. n.idle };
 
     ghost was_to_wait = { λ n. n.was_to_wait };
@@ -75,32 +88,37 @@ impl Transport for WorldTransport {
     ghost leads_to = { λ w. w.peer };
 
     fn connect(&mut self, peer: usize) -> Option<WorldWire> {
+        self.log.note_call();
         self.call(peer)
     }
 
     fn accept(&mut self) -> Option<WorldWire> {
+        self.log.note_accept();
         match self.hub.try_borrow_mut() {
-            Ok(mut hub) => hub.accept(self.machine),
+            Ok(mut hub) => {
+                self.is_short = hub.is_short(self.machine);
+                hub.accept(self.machine)
+            }
             Err(_) => None,
         }
     }
 
     fn is_short(&self) -> bool {
-        match self.hub.try_borrow_mut() {
-            Ok(hub) => hub.is_short(self.machine),
-            Err(_) => false,
-        }
+        self.is_short
     }
 
     fn watch(&mut self, connection: WorldWire, _key: usize) -> Option<WorldWire> {
+        self.log.note_watch();
         Some(connection)
     }
 
     fn unwatch(&mut self, connection: &mut WorldWire) {
+        self.log.note_unwatch();
         connection.close();
     }
 
     fn wait(&mut self, may_wait: bool) -> Waited {
+        self.log.note_wait().wait();
         self.was_to_wait = may_wait;
         if self.now < self.period_end {
             return Waited::Ready;

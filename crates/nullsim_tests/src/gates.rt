@@ -1,6 +1,6 @@
 //! Gates of runs.
 
-use nm_shared::Gate;
+use nm_shared::{Entered, Gate};
 use std::sync::atomic::{AtomicBool, AtomicU64, Ordering};
 
 /// How often a job looks whether the other has begun.
@@ -47,16 +47,19 @@ impl Watching {
 }
 
 impl Gate for Watching {
-    fn enter(&self, job: usize) {
+    fn enter(&self, job: usize) -> Entered {
         let _ = self.jobs.fetch_add(1, Ordering::SeqCst);
         match job {
             0 if self.waits => self.meet(&self.first, &self.second),
             1 if self.waits => self.meet(&self.second, &self.first),
             _ => {}
         }
+        Entered { job }
     }
 
-    fn leave(&self, _job: usize) {}
+    fn leave(&self, entered: Entered) {
+        let Entered { job: _ } = entered;
+    }
 
     fn poll(&self, moved: u64) -> bool {
         let _ = self.most.fetch_max(moved, Ordering::SeqCst);

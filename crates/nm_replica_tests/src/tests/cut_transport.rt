@@ -57,6 +57,12 @@ impl<N: Transport> CutTransport<N> {
 impl<N: Transport> Transport for CutTransport<N> {
     type Connection = CutWire<N::Connection>;
 
+    ghost asked = { λ n. N.asked n.transport };
+
+    ghost has_too_little = { λ n. N.has_too_little n.transport };
+
+    ghost reported = { λ n. N.reported n.transport };
+
     ghost elapsed_periods = { λ n. N.elapsed_periods n.transport };
 
     ghost was_to_wait = { λ n. N.was_to_wait n.transport };
@@ -82,6 +88,10 @@ impl<N: Transport> Transport for CutTransport<N> {
             left: usize::MAX,
             failed: FailureCount::new(),
         })
+    }
+
+    fn is_short(&self) -> bool {
+        self.transport.is_short()
     }
 
     fn watch(

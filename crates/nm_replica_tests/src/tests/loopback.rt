@@ -79,7 +79,7 @@ fn called(own: SocketAddr) -> Side<'static> {
 /// An address of 127.0.0.1 at a port that is free.
 fn free_address<R: Net + Abort>(rt: &R) -> SocketAddr {
     let listener = listen(rt, SocketAddr::from(ANY));
-    listener.local_addr().expect(rt, "an address")
+    listener.at()
 }
 
 /// Both end, and their books are certified: their traces are those of the one event list. Gives how

@@ -4,7 +4,7 @@ use crate::tests::messages::null;
 use crate::tests::sides::{books_of, topology_of};
 use nm_book::{ChannelMessage, Ran};
 use nm_fixtures::RING;
-use nm_shared::{Gate, Job, Pass, Plain, SharedBook, pool};
+use nm_shared::{Entered, Gate, Job, Pass, Plain, SharedBook, pool};
 use std::alloc::Global;
 use std::process::Abort;
 use std::sync::Wait;
@@ -22,20 +22,23 @@ struct Meeting {
 }
 
 impl Gate for Meeting {
-    fn enter(&self, job: usize) {
+    fn enter(&self, job: usize) -> Entered {
         if job >= 2 {
-            return;
+            return Entered { job };
         }
         self.here[job].store(true, Ordering::SeqCst);
         for _ in 0..TURNS {
             if self.here[1 - job].load(Ordering::SeqCst) {
-                return;
+                return Entered { job };
             }
         }
         self.late.store(true, Ordering::SeqCst);
+        Entered { job }
     }
 
-    fn leave(&self, _job: usize) {}
+    fn leave(&self, entered: Entered) {
+        let Entered { job: _ } = entered;
+    }
 
     fn poll(&self, _moved: u64) -> bool {
         true
@@ -63,11 +66,13 @@ impl<'a, R: Wait> Watching<'a, R> {
 }
 
 impl<'a, R: Wait> Gate for Watching<'a, R> {
-    fn enter(&self, job: usize) {
+    fn enter(&self, job: usize) -> Entered {
         self.note(job, &self.before);
+        Entered { job }
     }
 
-    fn leave(&self, job: usize) {
+    fn leave(&self, entered: Entered) {
+        let Entered { job } = entered;
         self.note(job, &self.after);
     }
 

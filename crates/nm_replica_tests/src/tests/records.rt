@@ -66,6 +66,17 @@ fn alone<'x>(
     }
 }
 
+/// Whether a pool has news of its book, which are taken.
+fn has_news(lending: &Lending) -> bool {
+    match lending.take_news() {
+        Some(news) => {
+            news.pass_on();
+            true
+        }
+        None => false,
+    }
+}
+
 /// What each of three polls left, once all events of the book are done.
 fn three_polls<R: Wait + Abort>(rt: &R, alloc: Global, topology: &Arc<Topology>) -> [Left; 3] {
     let book = book_of(rt, alloc, topology, 0, 0);
@@ -80,7 +91,7 @@ fn three_polls<R: Wait + Abort>(rt: &R, alloc: Global, topology: &Arc<Topology>)
         files: TraceFiles::new(alloc),
     };
     let lending = Lending::new();
-    let _first = lending.take_news();
+    let _first = has_news(&lending);
     let service = alone(topology, &book, &lending);
     let mut running = Running::new(alloc, &service).expect(rt, "memory");
     let mut transport = Scripted::new(alloc, Vec::new(alloc), true, NEVER);
@@ -102,7 +113,7 @@ fn three_polls<R: Wait + Abort>(rt: &R, alloc: Global, topology: &Arc<Topology>)
         left[number] = Left {
             waited: transport.waited,
             handed: book.act(rt, &mut holdings.pass, Stand).handed,
-            has_news: lending.take_news(),
+            has_news: has_news(&lending),
         };
     }
     left

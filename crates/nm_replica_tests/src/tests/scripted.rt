@@ -6,7 +6,7 @@ use crate::tests::cut_transport::CutWire;
 use nm_base::MemWire;
 use nm_base::failures::FailureCount;
 use nm_base::mem_wire::{Ending, ScriptedRead};
-use nm_transport::{Reported, Transport, Waited};
+use nm_transport::{AskLog, Reported, Transport, Waited};
 use std::alloc::Global;
 use std::collections::VecDeque;
 
@@ -72,6 +72,7 @@ pub struct Scripted {
     /// The last wait was asked to wait.
     was_to_wait: bool,
     idle: FailureCount,
+    log: AskLog,
     /// How many connections were given, and how many waits ran out.
     pub given: u64,
     pub waited: u64,
@@ -94,6 +95,7 @@ impl Scripted {
             is_short: false,
             was_to_wait: false,
             idle: FailureCount::new(),
+            log: AskLog::new(),
             given: 0,
             waited: 0,
             watched: 0,
@@ -103,7 +105,7 @@ impl Scripted {
 
     /// Whether this call fails.
     fn fails(&mut self) -> bool
-        ensures { self.new.idle ≡ self.old.idle }
+        ensures { (self.new.idle ≡ self.old.idle) × (self.new.log ≡ self.old.log) }
     {
         self.calls = self.calls.saturating_add(1);
         self.calls == self.fails.at || self.fails.for_good && self.calls > self.fails.at
@@ -115,7 +117,7 @@ impl Scripted {
             (λ w. (w.wire.at ≡ 0) × (w.wire.taken ≡ []) × (w.wire.ends ≡ 0)
             × (w.wire.failures ≡ 0) × (w.failed ≡ 0)) }
         ensures leads { IfSome result (λ w. w.peer ≡ peer) }
-        ensures idle { self.new.idle ≡ self.old.idle }
+        ensures idle { (self.new.idle ≡ self.old.idle) × (self.new.log ≡ self.old.log) }
     {
         let source = self.sources.pop()?;
         self.given = self.given.saturating_add(1);
@@ -143,6 +145,14 @@ impl Scripted {
 impl Transport for Scripted {
     type Connection = CutWire<MemWire>;
 
+    ghost use Rattle.std.specs.Prelude.{None, Some, if◌then◌else◌};
+
+    ghost asked = { λ n. n.log };
+
+    ghost has_too_little = { λ n. n.is_short };
+
+    ghost reported = { λ n number. if n.is_silent then None else Some number };
+
     ghost elapsed_periods = { λ n. n.idle };
 
     ghost was_to_wait = { λ n. n.was_to_wait };
@@ -150,6 +160,7 @@ impl Transport for Scripted {
     ghost leads_to = { λ w. w.peer };
 
     fn connect(&mut self, peer: usize) -> Option<CutWire<MemWire>> {
+        self.log.note_call();
         if self.fails() || self.called {
             return None;
         }
@@ -157,6 +168,7 @@ impl Transport for Scripted {
     }
 
     fn accept(&mut self) -> Option<CutWire<MemWire>> {
+        self.log.note_accept();
         if self.fails() || !self.called {
             return None;
         }
@@ -168,6 +180,7 @@ impl Transport for Scripted {
     }
 
     fn watch(&mut self, connection: CutWire<MemWire>, _key: usize) -> Option<CutWire<MemWire>> {
+        self.log.note_watch();
         if self.fails() {
             return None;
         }
@@ -177,10 +190,12 @@ impl Transport for Scripted {
     }
 
     fn unwatch(&mut self, _connection: &mut CutWire<MemWire>) {
+        self.log.note_unwatch();
         self.watched = self.watched.saturating_sub(1);
     }
 
     fn wait(&mut self, may_wait: bool) -> Waited {
+        self.log.note_wait().wait();
         let fails = self.fails();
         self.was_to_wait = may_wait;
         if !may_wait && !fails {

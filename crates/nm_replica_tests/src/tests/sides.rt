@@ -3,7 +3,6 @@
 ghost use Rattle.std.specs.Prelude.{◌≤◌};
 
 use mio::Poll;
-use mio::net::TcpListener;
 use nm_base::{MemSink, PartNo};
 use nm_book::Book;
 use nm_files::TraceFiles;
@@ -11,9 +10,9 @@ use nm_frames::ReplicaName;
 use nm_policy::limits::LINGER_PERIODS;
 use nm_progress::{Figure, Progress};
 use nm_replica::{Holdings, OwnSeats, Served, Service, run_replica};
-use nm_shared::{ClockBoard, Gate, Lending, Pass, Plain, SharedBook};
+use nm_shared::{ClockBoard, Entered, Gate, Lending, Pass, Plain, SharedBook};
 use nm_topology::Topology;
-use nm_transport::{TcpTransport, Transport};
+use nm_transport::{Bound, TcpTransport, Transport};
 use std::alloc::Global;
 use std::net::{Ipv4Addr, Net, SocketAddr};
 use std::process::Abort;
@@ -90,9 +89,13 @@ impl Noting {
 }
 
 impl Gate for Noting {
-    fn enter(&self, _job: usize) {}
+    fn enter(&self, job: usize) -> Entered {
+        Entered { job }
+    }
 
-    fn leave(&self, _job: usize) {}
+    fn leave(&self, entered: Entered) {
+        let Entered { job: _ } = entered;
+    }
 
     fn poll(&self, moved: u64) -> bool {
         self.moved.store(moved, Ordering::SeqCst);
@@ -241,8 +244,8 @@ pub fn serve<N: Transport, R: Wait + Abort>(
 pub const ANY: (Ipv4Addr, u16) = (Ipv4Addr::LOCALHOST, 0);
 
 /// A listener at an address.
-pub fn listen<R: Net + Abort>(net: &R, address: SocketAddr) -> TcpListener {
-    TcpListener::bind(net, address).expect(net, "a free port")
+pub fn listen<R: Net + Abort>(net: &R, address: SocketAddr) -> Bound {
+    Bound::listen(net, address).expect(net, "a free port")
 }
 
 /// A transport over TCP with these peers.
@@ -250,7 +253,7 @@ pub fn over_tcp<R: Net + Clock + Abort + Drop + Copy>(
     net: &R,
     alloc: Global,
     poll: Poll,
-    listener: TcpListener,
+    listener: Bound,
     peers: &[SocketAddr],
 ) -> TcpTransport<R> {
     let peers = peers.to_vec(alloc).expect(net, "memory");

@@ -1,9 +1,9 @@
 //! What a pool answers.
 
 ghost use Rattle.std.specs.Prelude.{◌≡◌, ℕ, ◌<◌, ◌≤◌, length, map, slice_index, vec_len, IfOk, All};
-ghost use Rattle.std.specs.Prelude.{Some, slice_set};
+ghost use Rattle.std.specs.Prelude.{◌++◌, IfSome, Ok, Some, slice_get, slice_set};
 ghost use Rattle.nm_shared.specs.Known.{ran};
-ghost use Rattle.nm_shared.specs.Pool.{AreAnswers, ArePut, put_in_places};
+ghost use Rattle.nm_shared.specs.Pool.{AreAnswers, done_by, put_in_places};
 
 use super::work::{Done, Jobs, run_one};
 use super::{BookPass, Gate, Job, PoolReport};
@@ -55,7 +55,8 @@ pub(super) fn gathered<C: Counts, J: Jobs>(
 ) -> Result<Vec<Option<Done<C, J>>>, AllocError>
     requires { vec_len slots ≡ length J.books }
     ensures length { IfOk result (λ s. vec_len s ≡ length J.books) }
-    ensures fed { IfOk result (λ s. ArePut (λ d. d.place) fed.items s.items) }
+    ensures put { IfOk result (λ s. s.items ≡ put_in_places (λ d. d.place) slots.items
+        (done_by results.items ++ fed.items)) }
 {
     let mut slots = slots;
     for result in results {
@@ -79,7 +80,10 @@ fn done_at<C: Counts, J: Jobs, G: Gate, R: Wait>(
     requires named { All (λ j. j.book < length books.now) jobs.now }
     requires books { J.books ≡ map (λ j. j.book) jobs.now }
     requires limits { J.limits ≡ map (λ j. j.limit) jobs.now }
-    ensures { IfOk result (λ d. d.place ≡ place) }
+    ensures place { IfOk result (λ d. d.place ≡ place) }
+
+    // What was done stays as it is.
+    ensures kept { IfSome slot (λ d. d.place ≡ place → result ≡ Ok d) }
 {
     match slot {
         Some(done) if done.place == place => Ok(done),

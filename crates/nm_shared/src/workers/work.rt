@@ -9,7 +9,7 @@ use super::{Gate, Job};
 use crate::calls::OwnRun;
 use crate::counts::Counts;
 use crate::shared_book::{Pass, SharedBook};
-use crate::workers::offers::Offers;
+use crate::workers::try_sender::TrySender;
 use crossbeam_channel::Receiver;
 use nm_base::PartNo;
 use nm_book::Ran;
@@ -84,9 +84,9 @@ pub(super) fn run_one<C: Counts, J: Jobs, G: Gate, R: Wait>(
         (λ b. (d.partition ≡ b.partition) × (d.replica ≡ b.replica))) }
 {
     let job = &jobs[place];
-    gate.enter(place);
+    let entered = gate.enter(place);
     let run = books[job.book].run_anew(rt, alloc, job.limit);
-    gate.leave(place);
+    gate.leave(entered);
     let OwnRun {
         partition,
         replica,
@@ -112,7 +112,7 @@ pub(super) fn feed<C: Counts, J: Jobs, G: Gate, R: Wait>(
     alloc: Global,
     books: &[SharedBook<C>],
     jobs: &[Job],
-    to: Offers<J>,
+    to: TrySender<J>,
     gate: &G,
 ) -> Result<Vec<Done<C, J>>, AllocError>
     requires named { All (λ j. j.book < length books.now) jobs.now }
@@ -122,7 +122,7 @@ pub(super) fn feed<C: Counts, J: Jobs, G: Gate, R: Wait>(
 {
     let mut all = Vec::new(alloc);
     for place in 0..jobs.len() {
-        if let Some(back) = to.offer(rt, to_queue(place)) {
+        if let Some(back) = to.try_send(rt, to_queue(place)) {
             all.push(run_one::<C, J, G, R>(rt, alloc, books, jobs, back.place, gate)?)?;
         }
     }

@@ -1,5 +1,9 @@
-use Rattle.std.proofs.Common.{◌≡◌}
+use Rattle.std.proofs.Common.{◌≡◌, ◌<◌, ℕ, Some}
+use Rattle.nm_replica.proofs.Readiness.{IsReadyAt}
 use Rattle.nm_replica.proofs.serving.note_reports.Given as goal
 
 abbrev pub invariant-loop-number : goal.invariant-loop-number
-invariant-loop-number g l = l.connections.contacts ≡ l.fn.connections.contacts
+invariant-loop-number g l = record {
+  contacts : l.connections.contacts ≡ l.fn.connections.contacts;
+  ready : (k : ℕ) (key : ℕ) → k < l.number → g.T.Transport.reported l.transport k ≡ Some key → IsReadyAt l.connections.«open» key;
+}

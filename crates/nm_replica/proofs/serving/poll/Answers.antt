@@ -1,4 +1,6 @@
-use Rattle.std.proofs.Common.{◌≡◌, ◌⊎◌, inl, inr, Bool, true, false, length, ap, refl, subst, sym, ◌∙◌, true≢false}
+use Rattle.std.proofs.Common.{◌≡◌, ◌⊎◌, ◌&&◌, inl, inr, Bool, true, false, not, length, ap, refl, subst, sym, ◌∙◌, true≢false}
+use Rattle.std.specs.Prelude.{nat_lt}
+use Rattle.nm_replica.specs.Polls.{IsNews}
 use Rattle.nm_replica.specs.Recording.{Streamed, Streams, WroteAsCounted}
 use Rattle.nm_replica.specs.Served.{AllWereFinished, HasStayed}
 use Rattle.nm_replica.proofs.Endings.{is_no_net}
@@ -91,9 +93,8 @@ returns-clause-news g c =
       | then-standing+else-may_leave w ↦ ap was_done w.serving-is ∙ c.in_ok-standing.ensures.done ∙ c.in_ok-ran_out.ensures.kept.4
       | else-standing w ↦ ap was_done w.serving-is ∙ c.in_ok-standing.ensures.done ∙ c.in_ok-ran_out.ensures.kept.4
     ] in
-    let told = c.note_news-news.ensures in
-    let newly = c.is_newly_done-is_new.ensures in
-    cc
+    subst (λ b. IsNews b (nat_lt 0 c.in-Ok.recorded.written) c.note_news-news.result)
+    (c.is_newly_done-is_new.ensures ∙ ap (λ (d : Bool). c.in_ok-standing.field-0.standing.is_done && not d) kept) c.note_news-news.ensures
 
 pub returns-clause-streams : goal.returns-clause-streams
 returns-clause-streams g c =

@@ -5,6 +5,8 @@ use Rattle.nm_replica.proofs.serving.serve_all.Given as goal
 abbrev pub invariant-loop-key : goal.invariant-loop-key
 invariant-loop-key g l = record {
   idle : g.T.Transport.elapsed_periods l.transport ≡ g.T.Transport.elapsed_periods l.fn.transport;
+  waits : (g.T.Transport.asked l.transport).waits ≡ (g.T.Transport.asked l.fn.transport).waits;
+  polls : l.serving.polls ≡ l.fn.serving.polls;
   moved : l.serving.moved ≡ l.fn.serving.moved;
   counted : l.serving.counted ≡ l.fn.serving.counted;
   events : l.serving.events ≡ l.fn.serving.events;

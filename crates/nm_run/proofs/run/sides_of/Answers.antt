@@ -22,7 +22,7 @@ loop-post-preserved g c =
     let sides = c.loop-post.sides.items in
     let side = c.in_ok-side_of.field-0 in
     let last : c.push.new.self.items ≡ sides ++ side ∷ [] = search rules in
-    let own = c.in-Some-own_at.own in
+    let own = c.own_at.result in
     let p = own.book.now.partition in
     let r = own.book.now.replica in
     let at : IsOwnAt names (length sides) own = search rules in
@@ -32,6 +32,7 @@ loop-post-preserved g c =
     let others = c.in_ok-seats.ensures.others ∙ ap (λ f. filter (λ w. not (f w)) rest) same in
     let is = c.in_ok-side_of.ensures in
     record {
+      all = search rules;
       rest = c.in_ok-seats.ensures.board.1 ∙ was.rest;
       left = subst (λ n. AreLeft t names n (words_of c.in_ok-seats.field-0.others) words) (sym (ap length last ∙ length_push sides side))
           (left_more t names (length sides) p r rest (words_of c.in_ok-seats.field-0.others) words c.requires.names at.1 others was.left);

@@ -6,6 +6,7 @@ use Rattle.nm_replica.proofs.connections.Connections.dial_all.Given as goal
 abbrev pub invariant-loop-peer : goal.invariant-loop-peer
 invariant-loop-peer g l = record {
   idle : g.T.Transport.elapsed_periods l.transport ≡ g.T.Transport.elapsed_periods l.initial.transport;
+  waits : (g.T.Transport.asked l.transport).waits ≡ (g.T.Transport.asked l.initial.transport).waits;
   many : length l.self.contacts.peers ≡ length l.initial.self.contacts.peers;
   none : NoneWanted l.self.contacts l.peer;
   calls : (n : ℕ) × CallsSome n l.initial.self.contacts l.self.contacts;

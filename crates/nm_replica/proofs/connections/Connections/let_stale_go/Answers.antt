@@ -13,6 +13,6 @@ loop-key-preserved g c =
           let more =
           one_more_gone c.args.self.now.contacts c.loop-key.self.contacts w.break_at.new.self.contacts c.loop-key.key c.loop-key.invariant.went stale w.break_at.ensures.goes
           in
-          record { idle = search rules; long = search rules; gone = search rules; went = search rules })
-      | else-is_stale w ↦ record { idle = search rules; long = search rules; gone = search rules; went = search rules }
+          record { idle = search rules; waits = search rules; long = search rules; gone = search rules; went = search rules })
+      | else-is_stale w ↦ record { idle = search rules; waits = search rules; long = search rules; gone = search rules; went = search rules }
     ]
