@@ -1,6 +1,6 @@
 //! A run of all partitions.
 
-ghost use Rattle.std.specs.Prelude.{◌≡◌, ◌⊎◌, ◌≤◌, All, IfErr, IfOk, OnOk, length, map, true};
+ghost use Rattle.std.specs.Prelude.{◌≡◌, ◌⊎◌, ◌≤◌, ℕ, All, IfErr, IfOk, OnOk, length, map, true};
 ghost use Rattle.std.specs.Prelude.{vec_len};
 ghost use Rattle.std.specs.Arc.{arc_value};
 ghost use Rattle.nm_book.specs.Book.{is_replica};
@@ -104,7 +104,7 @@ fn passes_of<R: Wait>(
     alloc: Global,
     books: &[SharedBook<Plain>],
 ) -> Result<Vec<Pass<Plain>>, AllocError>
-    ensures { IfOk result (λ passes. map (λ p. (p.partition, p.replica)) passes.items
+    ensures { IfOk result (λ passes. map {B = ℕ × ℕ} (λ p. (p.partition, p.replica)) passes.items
         ≡ map (λ b. (b.partition, b.replica)) books.now) }
 {
     let mut passes = Vec::with_capacity(alloc, books.len())?;
