@@ -1,5 +1,5 @@
 -- Of which replicas a run keeps what, and what the dispatcher remembers of them.
-use Rattle.std.specs.Prelude.{◌≡◌, ◌⊎◌, ℕ, Bool, true, false, List, map, slice_get, Some, is_some}
+use Rattle.std.specs.Prelude.{◌≡◌, ◌⊎◌, ℕ, true, false, List, map, slice_get, Some, is_some}
 use Rattle.nm_book.specs.declared.running.Ran.{Ran}
 use Rattle.nm_book.specs.declared.running.Ran.TheVariants.{All, Limit, Memory}
 use Rattle.nm_run.specs.declared.jobs.Answered.{Answered}

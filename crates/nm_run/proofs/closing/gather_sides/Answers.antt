@@ -1,4 +1,4 @@
-use Rattle.std.proofs.Common.{◌≡◌, ◌+◌, All, rules, sym, subst, arith}
+use Rattle.std.proofs.Common.{All, rules, sym, subst, arith}
 use Rattle.std.proofs.lemmas.List.Elements.{All-head, All-push, All-rest}
 use Rattle.std.proofs.lemmas.List.Sums.{sum_by_push}
 use Rattle.std.specs.Vec.Iter.{into_iter_items}

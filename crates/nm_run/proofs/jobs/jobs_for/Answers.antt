@@ -27,7 +27,7 @@ loop-number-preserved g c =
         | then-wants+in_ok-push w ↦
             subst (λ v. All (λ j. j.book < length books) v.items) (sym w.jobs-is)
             (subst (All (λ j. j.book < length books)) (sym w.in_ok-push.ensures.items)
-            (All-push (λ j. j.book < length books) c.loop-number.jobs.items w.job.result c.loop-number.invariant.named (subst (λ (i : ℕ). i < length books) (sym (w.job.ensures ∙ here)) low)))
+            (All-push (λ j. j.book < length books) c.loop-number.jobs.items w.job.result c.loop-number.invariant.named (subst (λ (i : ℕ). i < length books) (sym (w.job.ensures.0 ∙ here)) low)))
         | else-wants w ↦ subst (λ v. All (λ j. j.book < length books) v.items) (sym w.jobs-is) c.loop-number.invariant.named
       ];
       owns =

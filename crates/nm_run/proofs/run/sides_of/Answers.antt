@@ -1,4 +1,4 @@
-use Rattle.std.proofs.Common.{◌≡◌, ◌+◌, ◌∷◌, [], ◌++◌, All, length, map, not, Some, slice_get, sym, ◌∙◌, ap, subst, rules}
+use Rattle.std.proofs.Common.{◌≡◌, ◌∷◌, [], ◌++◌, All, length, map, not, sym, ◌∙◌, ap, subst, rules}
 use Rattle.std.specs.Arc.{arc_value}
 use Rattle.std.specs.List.{filter}
 use Rattle.std.proofs.lemmas.List.{length_push}
@@ -22,7 +22,7 @@ loop-post-preserved g c =
     let sides = c.loop-post.sides.items in
     let side = c.in_ok-side_of.field-0 in
     let last : c.push.new.self.items ≡ sides ++ side ∷ [] = search rules in
-    let own = c.own_at.result in
+    let own = c.own_at-own.result in
     let p = own.book.now.partition in
     let r = own.book.now.replica in
     let at : IsOwnAt names (length sides) own = search rules in

@@ -8,7 +8,7 @@ loop-number-preserved g c =
     let names = names_of c.args.threaded.now in
     let watched = c.loop-number.watched.items in
     let here : length watched ≡ c.loop-number.number = search rules in
-    let at : IsOwnAt names (length watched) c.own_at.result = subst (λ n. IsOwnAt names n c.own_at.result) (sym here) (search rules) in
+    let at : IsOwnAt names (length watched) c.own_at-own.result = subst (λ n. IsOwnAt names n c.own_at-own.result) (sym here) (search rules) in
     record {
       within = search rules;
       count = search rules;
