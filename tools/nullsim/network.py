@@ -5,7 +5,6 @@ import csv
 import os
 
 from networks import importing, making, measured, spec, toml, writing
-from networks import program as programs
 
 from nullsim import faults, records
 from nullsim.said import Said, caller
@@ -108,8 +107,8 @@ class Network(Topology):
     def flows(self) -> "records.Rows[records.Flow]":
         """What became of the packets of each flow, over all its sources (`network flows`)."""
         found, made, _ = self._making()
-        sources = programs.Report(self.answer("report", "csv").decode()).sources
-        delays = csv.DictReader(self.answer("report", "delays").decode().splitlines())
+        sources, delays = (list(csv.DictReader(self.answer("report", *words).decode().splitlines()))
+                           for words in (("csv", "delays"), ("delays",)))
         with faults.told():
             rows = measured.table(made.network, found.scale, self._said.name, sources, delays)
         return records.Rows(records.Flow, (records.typed(records.Flow, row) for row in rows))
