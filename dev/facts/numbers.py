@@ -1,4 +1,7 @@
-"""Numbers that documents and tools say, beside the constants of the code that they are."""
+"""Numbers that documents and tools say, beside the constants of the code that they are.
+
+A number that a document says is a row of SENTENCES: the file, the constant, and the sentence with `#` in the place of
+the number. `make check-tools` makes each of them wrong, and has it found."""
 
 import re
 import runpy
