@@ -90,8 +90,8 @@ def do_show(words):
 def parser():
     """What the words mean."""
     top = argparse.ArgumentParser(
-        prog="network", description="Makes topology texts for nullsim. `network WORD --help` has all of a word, and that "
-                                    "of `make` the keys of a SPEC. What was chosen is written to standard error.",
+        prog="network", description="Makes topology texts for nullsim. `network WORD --help` has all of a word, and "
+                                    "that of `make` the keys of a SPEC. What was chosen is written to standard error.",
         allow_abbrev=False
     )
     some = top.add_subparsers(dest="word", required=True, metavar="WORD")
