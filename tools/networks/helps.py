@@ -66,6 +66,31 @@ flow of kind "trace":
   stretch       what times are multiplied by, 0.000001 to 1,000,000 (1)
   addresses     instead of from and to: which addresses of the capture are which nodes, as
                 {"192.0.2.1" = "a", "198.51.100.0/24" = "b"}; the longest prefix decides
+
+What is made:
+- An interface is named after its node and the node at the far end: denver-kansas-city. If that is longer than 32
+  letters or taken, it is cut or numbered.
+- A router and its hosts have addresses of one block, with a size that is a power of two, so that one prefix leads to
+  all of them. Blocks follow a tree from the first router, or the SPEC: whichever needs fewer routes. The two ends of a
+  link have addresses of different blocks.
+- Each node has a route to each other one, by a path of the least weight; of equal delays, the one of fewer links.
+  Hosts are never inside a path. A host with one link has a default route. The other tables are as small as
+  longest-prefix tables can be, whatever they say of addresses that no interface has.
+- The port at which a cbr flow ends is open. Flows go to the first address of a node.
+- What is drawn follows from the flow's seed, or else from that of the SPEC and the flow's number; of flows between
+  several nodes each has draws of its own. All is computed in whole numbers (SplitMix64; Knuth's algorithm S, section
+  3.4.1), and times are rounded to nanoseconds, 1 at least.
+- A flow of packets that are drawn or read becomes cbr sources, one for each run of packets of one size at one
+  distance, if these have two packets or more in the mean and are not more than the flow's share of the sources that
+  are left. Else it becomes raw sources of 1,024 packets, with identifications that count on for each node. More
+  packets than fit are refused with what would fit.
+- Captures are pcap of either byte order, with microseconds or nanoseconds, and pcapng; of Ethernet, raw IP, PPP,
+  loopback or Linux's cooked links. Their packets go as they were taken, but for addresses and checksums. Left out and
+  counted are packets that are not whole or not IPv4, longer than the mtu, at the end of the flow or behind it, or
+  between unmapped addresses. Of two at one time the second goes 1 ns later. The UDP ports to which they go are opened.
+- scale divides all rates of links, limits of queues in octets, and octets of packets with their 28 of headers: these
+  have to be multiples of it. rate and size of flows are written as without it, and `network flows` multiplies octets
+  again.
 """,
     "import": """
 The format is recognised by the text and the name of the file. Taken are
