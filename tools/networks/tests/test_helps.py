@@ -16,7 +16,7 @@ class Helps(unittest.TestCase):
 
     def test_make_has_each_key_and_kind(self):
         known = set(re.findall(r"[\w-]+", helps.WORDS["make"]))
-        keys = {*spec.TOP, *spec.ARRAYS, *spec.DEFAULTS, *spec.NODE, *spec.LINK, *spec.COST, *flowkeys.FLOW, *flowkeys.OWN}
-        keys |= {"name", "ports", "place", "a", "b", *flowkeys.KINDS, *groups.KINDS}
+        keys = {*spec.TOP, *spec.ARRAYS, *spec.DEFAULTS, *spec.NODE, *spec.LINK, *spec.COST, "ports", "place", "a", "b"}
+        keys |= {"name", *flowkeys.FLOW, *flowkeys.OWN, *flowkeys.KINDS, *groups.KINDS}
         keys |= {key for _, own in groups.KINDS.values() for key in own}
         self.assertEqual(keys - known, set())
