@@ -13,8 +13,8 @@ from nullsim.topology import Topology
 
 class Network(Topology):
     """A network, whose topology text is made when it is asked for. All that may be said of it is a key of a SPEC
-    (docs/NETWORKS.md): the words of these calls are those keys, and `from_` is `from`. `chosen` has lines of what was
-    chosen for it."""
+    (`network make --help`): the words of these calls are those keys, and `from_` is `from`. `chosen` has lines of what
+    was chosen for it."""
 
     def __init__(self, *, asked: str | None = None, **top):
         """An empty network; `top` are keys of the top of a SPEC, such as `stop`, `seed`, `mtu`, `weight`."""
