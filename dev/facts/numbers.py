@@ -1,4 +1,7 @@
-"""Numbers that documents and tools say, beside the constants of the code that they are."""
+"""Numbers that documents and tools say, beside the constants of the code that they are.
+
+A number that a document says is a row of SENTENCES: the file, the constant, and the sentence with `#` in the place of
+the number. `make check-tools` makes each of them wrong, and has it found."""
 
 import re
 import runpy
@@ -43,7 +46,7 @@ nm_base/limits MAX_REPLICAS: and REPLICAS 1 or #,
 nm_base/limits MAX_PARTITION: over TCP, PARTITION 0 to # and
 nm_run/sides OWN_EVENTS: does up to # events after each poll
 nm_replica/limits MERGE_POLLS: merge what the other knows after every # polls
-nm_base/limits MAX_SCRIPT_STEPS: each step past the first #;
+nm_base/limits MAX_SCRIPT_STEPS: each step past the first #.
 nm_check/faults MAX_FAULTS: each other table follows, at most # and
 nm_paths/path DEFAULT_TIME_TO_LIVE: sends to ADDRESS with a time to live of #:
 nm_measure/spread EXACT_ROWS: while a source has up to # different delays

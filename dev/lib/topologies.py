@@ -1,7 +1,23 @@
 #!/usr/bin/env python3
 """Writes a topology for a measurement or an attack to standard output.
 
-docs/BENCH.md says what each kind is, and how many packets it sends where no number is given."""
+What each kind is, with how many packets where no number is given:
+
+- line: 64 routers in a line; 15,900 packets of 100 octets from one end to the other.
+- grid, large: 8 by 8 routers, a flow of 2,000 packets of 228, or 1,500, octets from each to the one across.
+- star: 32 hosts that send packets of 528 octets to one over a link that is too slow: most are dropped.
+- line-1000, ring-1000, grid-1000, star-1000: 64 routers in a line or a ring; 16 by 16, with flows from two sides to the
+  sides across; 32 hosts that send twice what the link to the last one takes. A million events, packets of 1,000 octets.
+- mixed: grid with links of 100 Mbit/s to 10 Gbit/s and of 1 us to 10 ms; a quarter of the packets is dropped.
+- routes; many: 1,024 routers with 64 routes and a source each; 1,024 sources at one host.
+- hub, spread: 256 hosts that send to a hub over links with delays of 1 ms, so that arrivals come in the order of their
+  keys; or of 1 us to 1 s in equal ratios.
+- grid-far, grid-near: 16 by 16 routers with links of 1 ms, or 10 us; a million packet-hops of 1,000 octets.
+- line-cut, grid-cut, ring-cut: the line, the grid or a ring in NUMBER partitions. both: four routers in a ring, two in
+  each of two partitions.
+- nulls, one-way: a host in each of two partitions: NUMBER null messages each way in turn; or packets of 100 octets one
+  way.
+- limits: at the limits of nodes, interfaces, routes, sources, partitions and channels; 4.5 MB of text."""
 
 import sys
 

@@ -1,5 +1,8 @@
 """Where nodes run: this machine, hosts that ssh reaches, those of an Open MPI host file, or of a Slurm job; and which
-words start a command there."""
+words start a command there.
+
+A way to start nodes is a class here; wrapper.sh runs on a host, in any POSIX shell. Tests: test_launch.py of
+networks/tests, with mock launchers and programs; dev/attack/launches has real ones."""
 
 import os
 import shlex

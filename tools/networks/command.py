@@ -4,7 +4,7 @@ import argparse
 import os
 import sys
 
-from networks import editing, errors, making, paths, routes, spec, toml, topology, writing
+from networks import editing, errors, helps, making, paths, routes, spec, toml, topology, writing
 
 # Exit statuses: done, words that are no command, an input that is refused, a package that is missing.
 DONE, USAGE, REFUSED, LACKING = 0, 2, 3, 4
@@ -90,8 +90,9 @@ def do_show(words):
 def parser():
     """What the words mean."""
     top = argparse.ArgumentParser(
-        prog="network", description="Makes topology texts for nullsim; docs/NETWORKS.md says more. What was chosen is "
-                                    "said on standard error.", allow_abbrev=False
+        prog="network", description="Makes topology texts for nullsim. `network WORD --help` has all of a word, and "
+                                    "that of `make` the keys of a SPEC. What was chosen is written to standard error.",
+        allow_abbrev=False
     )
     some = top.add_subparsers(dest="word", required=True, metavar="WORD")
     one = some.add_parser("make", help="SPEC.toml > x.toml: a whole topology from a short description")
@@ -124,6 +125,7 @@ def parser():
     one.add_argument("--nullsim", metavar="PROGRAM", help="instead of bin/nullsim or nullsim")
     one.set_defaults(do=do_sweep)
     for name, found in some.choices.items():
+        found.epilog, found.formatter_class = helps.WORDS[name].strip("\n"), argparse.RawDescriptionHelpFormatter
         found.add_argument("file", metavar="FILE", help="a file, or - for standard input")
         if name == "partition":
             found.add_argument("count", metavar="N", type=int, help="how many partitions: 1 to 64")

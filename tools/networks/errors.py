@@ -17,7 +17,7 @@ class Lacking(Exception):
 
 def meant(word, known):
     """A question about the known word that is nearest, or nothing."""
-    near = difflib.get_close_matches(word, list(known), 1, 0.6)
+    near = difflib.get_close_matches(word, list(known), 1, 0.5)
     return f'; did you mean "{near[0]}"?' if near else ""
 
 

@@ -1,5 +1,8 @@
 """Groups of nodes in a known shape: each maker gives the names of its nodes, which of them have hosts, and its links by
-names."""
+names.
+
+To add a kind: a function that gives a `Shape`, and a line in KINDS; its keys in helps.py; a line in GROUPS of
+tests/test_routes.py, and how many nodes and links there are in tests/test_spec.py."""
 
 from dataclasses import dataclass, field
 

@@ -1,4 +1,8 @@
-"""A SPEC from a file of another maker's, which says what it took and from where."""
+"""A SPEC from a file of another maker's, which says what it took and from where.
+
+To add a format: a module with `read(name, text)`, which gives a `Found` (found.py); a line in READERS, one in
+`format_of`, and the word in command.py; what is taken of it in helps.py; a file in tests/data, and its mistakes in
+tests/test_imports.py."""
 
 import os
 import re

@@ -79,7 +79,7 @@ def table(network, scale, topology, sources, delays):
 def of_file(network, scale, topology, asked=None):
     """The same of a topology in a file, which the program runs twice."""
     nullsim = program.found(asked)
-    return table(network, scale, topology, program.report(nullsim, topology).sources,
+    return table(network, scale, topology, program.rows(nullsim, topology, "report", "csv", "delays"),
                  program.rows(nullsim, topology, "report", "delays"))
 
 

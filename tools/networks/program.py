@@ -1,4 +1,4 @@
-"""Calls the program nullsim, and reads what `report TOPO csv` prints."""
+"""Calls the program nullsim, and reads the comma-separated values that it prints."""
 
 import csv
 import os
@@ -45,19 +45,18 @@ def rows(program, topology, *words):
 
 
 class Report:
-    """What `report TOPO csv` says: for each kind (node, interface, source), by name, the number of each measure; and a
-    row for each source, a dictionary of texts, with these columns. Where that word prints another form, this class
-    alone changes."""
+    """What `report TOPO csv` says of a topology with these tables of sources: for each kind (node, interface, source),
+    by name, the number of each measure; and a row for each source with these columns, as `report TOPO csv delays` has
+    it, but that a measure which it does not have is missing. Where that word prints another form, this class alone
+    changes."""
 
-    def __init__(self, text):
-        long, _, wide = text.partition("\n\n")
+    NAMES = ("source", "kind", "node", "to")
+
+    def __init__(self, text, tables):
         self.measures = {}
-        for row in csv.DictReader(long.splitlines()):
+        for row in csv.DictReader(text.splitlines()):
             self.measures.setdefault(row["kind"], {}).setdefault(row["name"], {})[row["measure"]] = int(row["value"])
-        reader = csv.DictReader(wide.splitlines())
-        self.columns, self.sources = reader.fieldnames or [], list(reader)
-
-
-def report(program, topology):
-    """The report of a topology."""
-    return Report(printed(program, topology, "report", "csv"))
+        found = self.measures.get("source", {})
+        self.sources = [{"source": number, "kind": table["kind"], "node": table["node"], "to": table.get("to", "-"),
+                         **found[str(number)]} for number, table in enumerate(tables)]
+        self.columns = [*self.NAMES, *max(found.values(), key=len, default=())]

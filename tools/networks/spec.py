@@ -1,4 +1,4 @@
-"""Reads a SPEC, the short description of a network: docs/NETWORKS.md has each key."""
+"""Reads a SPEC, the short description of a network: `network make --help` has each key."""
 
 from dataclasses import dataclass, field
 

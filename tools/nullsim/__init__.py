@@ -13,6 +13,19 @@
 Times are whole nanoseconds, or texts with a unit ("5 ms"); rates whole bits per second, or texts ("2 Mbit/s"); sizes
 octets of data; queues packets. What is measured is in nanoseconds, octets, packets and bits per second, as the program
 says it (docs/FORMATS.md). It needs Python 3.11 or later, and no other package.
+
+- `Network.from_spec(path)`, `Network.from_text(text)`, `Network.imported(path)`: the network of a SPEC, or of a file
+  that `network import` takes. `Network(stop=.., seed=..)` with `add_router`, `add_host`, `add_node`, `add_link`,
+  `add_group`, `add_flow`: one by calls, whose words are the keys of a SPEC (`network make --help`).
+  `with_values({"flow.0.rate": "5 Mbit/s"})`: another one with other values, by the keys of a sweep.
+- `topology()`, `save(path)`, `Topology.read(path)`: the text; as a file; of a file.
+- `check()`, `report()`, `flows()`, `delays()`, `series(step)`, `series_of_sources(step)`, `packets(source)`,
+  `trace(interface)`: what the words of these names print, as lists of records.
+- `run(folder, partitions, workers)`: a run that is certified, with its trace files. `sweep(network, values, seeds)`:
+  means of variants with their intervals, of a network or of a function of values and a seed.
+- `.frame()`, `.arrays()`, `.columns()` of a list of records: a pandas frame; numpy arrays; lists.
+- `Refused`, `Failed`, `Lacking`: faults of the input, of a run, and of a package or program that is not there, each
+  with `number`, `place` and `cure`.
 """
 
 import os as _os

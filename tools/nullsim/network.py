@@ -5,7 +5,6 @@ import csv
 import os
 
 from networks import importing, making, measured, spec, toml, writing
-from networks import program as programs
 
 from nullsim import faults, records
 from nullsim.said import Said, caller
@@ -14,8 +13,8 @@ from nullsim.topology import Topology
 
 class Network(Topology):
     """A network, whose topology text is made when it is asked for. All that may be said of it is a key of a SPEC
-    (docs/NETWORKS.md): the words of these calls are those keys, and `from_` is `from`. `chosen` has lines of what was
-    chosen for it."""
+    (`network make --help`): the words of these calls are those keys, and `from_` is `from`. `chosen` has lines of what
+    was chosen for it."""
 
     def __init__(self, *, asked: str | None = None, **top):
         """An empty network; `top` are keys of the top of a SPEC, such as `stop`, `seed`, `mtu`, `weight`."""
@@ -108,8 +107,8 @@ class Network(Topology):
     def flows(self) -> "records.Rows[records.Flow]":
         """What became of the packets of each flow, over all its sources (`network flows`)."""
         found, made, _ = self._making()
-        sources = programs.Report(self.answer("report", "csv").decode()).sources
-        delays = csv.DictReader(self.answer("report", "delays").decode().splitlines())
+        sources, delays = (list(csv.DictReader(self.answer("report", *words).decode().splitlines()))
+                           for words in (("csv", "delays"), ("delays",)))
         with faults.told():
             rows = measured.table(made.network, found.scale, self._said.name, sources, delays)
         return records.Rows(records.Flow, (records.typed(records.Flow, row) for row in rows))

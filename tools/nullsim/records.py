@@ -1,6 +1,8 @@
 """Records of what was measured, each with typed fields, and lists of them as pandas frames or numpy arrays.
 
-Times and delays are whole nanoseconds, octets those of IPv4 packets with their headers, rates bits per second."""
+Times and delays are whole nanoseconds, octets those of IPv4 packets with their headers, rates bits per second. A
+column that the program prints is a field of a record, and a word a method of `Topology` (topology.py); only `Report` of
+networks/program.py reads what `report TOPO csv` prints. Tests: networks/tests/test_python.py."""
 
 import dataclasses
 from dataclasses import dataclass

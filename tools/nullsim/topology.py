@@ -1,10 +1,12 @@
 """A topology, and what the program says of it: its check, and what was measured of its run."""
 
 import csv
+import dataclasses
 import io
 import os
 import re
 import tempfile
+import tomllib
 from collections.abc import Callable
 from dataclasses import dataclass
 
@@ -89,12 +91,14 @@ class Topology:
 
     def report(self, tell: Callable[[records.Progress], None] | None = None) -> Report:
         """What was measured of the whole run. `tell` is called once a second with how far it is."""
-        found = programs.Report(self.answer("report", "csv", tell=tell).decode())
+        text = self.answer("report", "csv", tell=tell).decode()
+        found = programs.Report(text, tomllib.loads(self.topology()).get("source", []))
         ifaces = (records.typed(records.Interface, {"name": name, **own})
                   for name, own in found.measures.get("interface", {}).items())
         counters = (records.Counter(name, counter, count) for name, own in found.measures.get("node", {}).items()
                     for counter, count in own.items())
-        sources = (records.typed(records.Source, row) for row in found.sources)
+        none = dict.fromkeys((field.name for field in dataclasses.fields(records.Source)), 0)
+        sources = (records.typed(records.Source, {**none, **row}) for row in found.sources)
         return Report(Rows(records.Interface, ifaces), Rows(records.Counter, counters), Rows(records.Source, sources))
 
     def delays(self) -> Rows[records.Delay]:
@@ -141,8 +145,8 @@ def nanoseconds(time: int | str) -> int:
 
 
 def packet_of(row: dict) -> records.Packet:
-    """A packet of a row of `packets`; `-` stands where nothing is."""
-    reason, place, end = (None if row[key] == "-" else row[key] for key in ("reason", "place", "ended_nanoseconds"))
+    """A packet of a row of `packets`, whose fields are empty where nothing is."""
+    reason, place, end = (row[key] or None for key in ("reason", "place", "ended_nanoseconds"))
     way = tuple(records.Arrival(name, sign == ">", int(at)) for name, sign, at in WAY.findall(row["way"]))
     return records.Packet(int(row["packet"]), int(row["sent_nanoseconds"]), row["outcome"], reason, place,
                           None if end is None else int(end), way)

@@ -1,5 +1,5 @@
 -- The words of the program.
-use Rattle.std.specs.Prelude.{ℕ, ◌+◌, ◌≤◌, Bool, true, false, ◌&&◌, leb, if◌then◌else◌, List, [], ◌∷◌, codes, decimal, Option, Some, None, option_map, map, string_bytes}
+use Rattle.std.specs.Prelude.{ℕ, ◌+◌, ◌≤◌, Bool, true, false, ◌&&◌, ◌||◌, leb, if◌then◌else◌, List, [], ◌∷◌, codes, decimal, Option, Some, None, option_map, map, string_bytes}
 use Rattle.std.specs.Str.{bytes_eq}
 use Rattle.nm_command.specs.declared.command.Command.{Command}
 use Rattle.nm_command.specs.declared.command.Command.TheVariants as command
@@ -7,7 +7,7 @@ use Rattle.nm_base.specs.declared.limits.TheConstants.{MAX_PARTITION, MAX_REPLIC
 use Rattle.nm_command.specs.declared.view.Subject.{Subject}
 use Rattle.nm_command.specs.declared.view.Subject.TheVariants.{Interfaces, Sources}
 use Rattle.nm_command.specs.declared.view.View.{View}
-use Rattle.nm_command.specs.declared.view.View.TheVariants.{Tables, Values, Delays, Graph, Load}
+use Rattle.nm_command.specs.declared.view.View.TheVariants.{Tables, Values, Rows, Delays, Graph, Load}
 use Rattle.nm_command.specs.declared.ways.Ways.{Ways}
 use Rattle.nm_command.specs.declared.ways.Ways.TheVariants.{Both, Sent, Received}
 use Rattle.nm_pcap.specs.declared.form.Form.{Form}
@@ -111,14 +111,19 @@ abbrev pub trace_from : List ℕ → Option (List ℕ) → Option (Form × Ways)
 trace_from topology iface None = None
 trace_from topology iface (Some form) = Some (Trace form.0 form.1 topology iface)
 
+-- the word asks for the help of the one before it
+abbrev pub asks_help : List ℕ → Bool
+asks_help word = bytes_eq word (codes "--help") || bytes_eq word (codes "-h")
+
 -- `check TOPO`, `report TOPO`, `dot TOPO`, and else `one TOPO`, `onehex TOPO`, `sent TOPO` or
--- `received TOPO`
+-- `received TOPO`, unless help is asked for
 abbrev pub of_two : List ℕ → List ℕ → Option CommandValue
 of_two word topology =
-    if bytes_eq word (codes "check") then Some (Check topology)
+    if asks_help topology then None
+    else (if bytes_eq word (codes "check") then Some (Check topology)
     else (if bytes_eq word (codes "report") then Some (Show topology Tables)
     else (if bytes_eq word (codes "dot") then Some (Show topology Graph)
-    else trace_from topology None (form_of word)))
+    else trace_from topology None (form_of word))))
 
 -- `text TOPO IFACE`, `report TOPO csv`, `report TOPO delays` and `dot TOPO load`; for other words
 -- what else they are
@@ -157,12 +162,15 @@ of_three word topology third =
     else timed_of word topology third
     (shown_of word topology third (trace_from topology (Some third) (form_of word))))
 
--- `series TOPO STEP flows` and `path TOPO NODE ADDRESS`
+-- `series TOPO STEP flows`, `path TOPO NODE ADDRESS` and `report TOPO csv delays`
 abbrev pub of_four : List ℕ → List ℕ → List ℕ → List ℕ → Option CommandValue
 of_four word topology third fourth =
     if bytes_eq word (codes "series") && bytes_eq fourth (codes "flows") then
     series_of topology Sources (asked_number 1 MAX_TIME third)
-    else (if bytes_eq word (codes "path") then Some (Path topology third fourth) else None)
+    else (if bytes_eq word (codes "path") then Some (Path topology third fourth)
+    else (if bytes_eq word (codes "report")
+    && (bytes_eq third (codes "csv") && bytes_eq fourth (codes "delays"))
+    then Some (Show topology Rows) else None))
 
 -- `run`, if its two numbers are such
 abbrev pub run_of : List ℕ → List ℕ → Option ℕ → Option ℕ → Bool → Option CommandValue

@@ -2,7 +2,8 @@
 
 ghost use Rattle.std.specs.Prelude.{◌≡◌, ℕ, ◌≤◌, map, IfSome, Some, decimal, option_map};
 ghost use Rattle.std.specs.Prelude.{string_bytes};
-ghost use Rattle.nm_command.specs.Command.{AsksWithinLimits, asked_number, command_of};
+ghost use Rattle.nm_command.specs.Command.{AsksWithinLimits, asked_number, asks_help};
+ghost use Rattle.nm_command.specs.Command.{command_of};
 ghost use Rattle.nm_command.specs.Command.{certify_of, certify_or, command_value, form_of, node_of};
 ghost use Rattle.nm_command.specs.Command.{of_four};
 ghost use Rattle.nm_command.specs.Command.{of_number, of_six, of_three, of_two, run_of, shown_of};
@@ -132,11 +133,21 @@ fn asked_number(word: &str, low: u64, high: u64) -> Option<u64>
     number_between(word, low, high)
 }
 
+/// Whether a word asks for the help of the one before it.
+fn asks_help(word: &str) -> bool
+    ensures { result ≡ asks_help word.now }
+{
+    word == "--help" || word == "-h"
+}
+
 /// The command of two words.
 fn of_two<'a>(word: &str, topology: &'a str) -> Option<Command<'a>>
     ensures value { option_map command_value result ≡ of_two word.now topology.now }
     ensures limits { IfSome result AsksWithinLimits }
 {
+    if asks_help(topology) {
+        return None;
+    }
     match word {
         "check" => Some(Command::Check { topology }),
         "report" => Some(Command::Show {
@@ -250,6 +261,10 @@ fn of_four<'a>(
             node: third,
             address: fourth,
         })),
+        "report" if third == "csv" && fourth == "delays" => Some(Command::Show {
+            topology,
+            view: View::Rows,
+        }),
         _ => None,
     }
 }
@@ -413,12 +428,12 @@ impl<'a> Command<'a> {
     /// The command of the words after the program's name: `one TOPO IFACE`, `onehex TOPO IFACE`,
     /// `sent TOPO IFACE` or `received TOPO IFACE`, where IFACE may be left out, `all TOPO DIR` or
     /// `verify TOPO DIR` with or without names of interfaces behind it, `rounds TOPO MAX`, `script
-    /// TOPO STEPS`, `check TOPO`, `report TOPO`, `report TOPO csv` or `report TOPO delays`, `dot
-    /// TOPO` or `dot TOPO load`, `text TOPO IFACE`, `series TOPO STEP` or `series TOPO STEP flows`,
-    /// `packets TOPO SOURCE`, `path TOPO NODE ADDRESS`, `run TOPO DIR WORKERS REPLICAS` or `node
-    /// TOPO DIR PARTITION REPLICA ADDRESSES` with or without `keep` behind it, or `certify TOPO
-    /// WORKERS` with one folder or more behind it. No words are `onehex -`. `None` if the words are
-    /// no command.
+    /// TOPO STEPS`, `check TOPO`, `report TOPO`, `report TOPO csv`, `report TOPO csv delays` or
+    /// `report TOPO delays`, `dot TOPO` or `dot TOPO load`, `text TOPO IFACE`, `series TOPO STEP`
+    /// or `series TOPO STEP flows`, `packets TOPO SOURCE`, `path TOPO NODE ADDRESS`, `run TOPO DIR
+    /// WORKERS REPLICAS` or `node TOPO DIR PARTITION REPLICA ADDRESSES` with or without `keep`
+    /// behind it, or `certify TOPO WORKERS` with one folder or more behind it. No words are `onehex
+    /// -`. `None` if the words are no command: of two words the second may ask for help.
     pub fn of(words: &'a [String]) -> Option<Command<'a>>
         ensures value { option_map command_value result
             ≡ command_of (map (λ w. string_bytes w) words.now) }

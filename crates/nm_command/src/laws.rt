@@ -8,7 +8,7 @@ ghost use Rattle.nm_topology.specs.declared.fault.Refusal.TheVariants.{Hex};
 ghost use Rattle.nm_pcap.specs.declared.form.Form.TheVariants.{Octets, Hexadecimal};
 ghost use Rattle.nm_command.specs.Command.{All, Certify, Check, Node, Packets, Path, Rounds, Run};
 ghost use Rattle.nm_command.specs.Command.{Script, Series, Show, Text, Trace, Verify, asked_number};
-ghost use Rattle.nm_command.specs.Command.{command_of};
+ghost use Rattle.nm_command.specs.Command.{asks_help, command_of};
 ghost use Rattle.nm_command.specs.Command.{node_of, run_of};
 ghost use Rattle.nm_command.specs.Status.{code_of, line_of};
 ghost use Rattle.nm_command.specs.declared.status.Status.TheVariants as status;
@@ -19,9 +19,10 @@ ghost use Rattle.nm_command.specs.declared.ways.Ways.TheVariants.{Both, Sent, Re
 /// What the words of the program ask for, those with no number. No words are `onehex -`.
 pub fn words_of_the_program()
     ensures none { command_of [] ≡ Some (Trace Hexadecimal Both (codes "-") None) }
+    ensures one { (t : List ℕ) → asks_help t ≡ false
+        → command_of (codes "one" ∷ t ∷ []) ≡ Some (Trace Octets Both t None) }
     ensures trace { (t i : List ℕ)
-        → (command_of (codes "one" ∷ t ∷ []) ≡ Some (Trace Octets Both t None))
-        × (command_of (codes "one" ∷ t ∷ i ∷ []) ≡ Some (Trace Octets Both t (Some i)))
+        → (command_of (codes "one" ∷ t ∷ i ∷ []) ≡ Some (Trace Octets Both t (Some i)))
         × (command_of (codes "onehex" ∷ t ∷ i ∷ [])
         ≡ Some (Trace Hexadecimal Both t (Some i)))
         × (command_of (codes "sent" ∷ t ∷ i ∷ []) ≡ Some (Trace Octets Sent t (Some i)))
@@ -33,19 +34,26 @@ pub fn words_of_the_program()
         × (command_of (codes "certify" ∷ t ∷ d ∷ []) ≡ None) }
     ensures script { (t s : List ℕ)
         → command_of (codes "script" ∷ t ∷ s ∷ []) ≡ Some (Script t s) }
-    ensures looks { (t i a : List ℕ) → (command_of (codes "check" ∷ t ∷ []) ≡ Some (Check t))
-        × (command_of (codes "text" ∷ t ∷ i ∷ []) ≡ Some (Text t i))
+    ensures looks { (t i a : List ℕ)
+        → (command_of (codes "text" ∷ t ∷ i ∷ []) ≡ Some (Text t i))
         × (command_of (codes "path" ∷ t ∷ i ∷ a ∷ []) ≡ Some (Path t i a)) }
-    ensures shown { (t : List ℕ)
-        → (command_of (codes "report" ∷ t ∷ []) ≡ Some (Show t view.Tables))
-        × (command_of (codes "report" ∷ t ∷ codes "csv" ∷ []) ≡ Some (Show t view.Values))
+    ensures shown { (t : List ℕ) → asks_help t ≡ false
+        → (command_of (codes "check" ∷ t ∷ []) ≡ Some (Check t))
+        × (command_of (codes "report" ∷ t ∷ []) ≡ Some (Show t view.Tables))
+        × (command_of (codes "dot" ∷ t ∷ []) ≡ Some (Show t view.Graph)) }
+    ensures measured { (t : List ℕ)
+        → (command_of (codes "report" ∷ t ∷ codes "csv" ∷ []) ≡ Some (Show t view.Values))
         × (command_of (codes "report" ∷ t ∷ codes "delays" ∷ []) ≡ Some (Show t view.Delays))
-        × (command_of (codes "dot" ∷ t ∷ []) ≡ Some (Show t view.Graph))
+        × (command_of (codes "report" ∷ t ∷ codes "csv" ∷ codes "delays" ∷ [])
+        ≡ Some (Show t view.Rows))
         × (command_of (codes "dot" ∷ t ∷ codes "load" ∷ []) ≡ Some (Show t view.Load)) }
     ensures others { (t i : List ℕ) → (command_of (t ∷ []) ≡ None)
         × (command_of (codes "sum" ∷ t ∷ []) ≡ None)
         × (command_of (codes "check" ∷ t ∷ i ∷ []) ≡ None)
-        × (command_of (codes "report" ∷ t ∷ codes "load" ∷ []) ≡ None) }
+        × (command_of (codes "report" ∷ t ∷ codes "load" ∷ []) ≡ None)
+        × (command_of (codes "report" ∷ t ∷ codes "delays" ∷ codes "csv" ∷ []) ≡ None) }
+    ensures help { (w : List ℕ) → (command_of (w ∷ codes "--help" ∷ []) ≡ None)
+        × (command_of (w ∷ codes "-h" ∷ []) ≡ None) }
 {}
 
 /// The words with numbers, and from which number to which they may be.

@@ -5,8 +5,10 @@
 pub enum View {
     /// The measures of its run as tables, for a reader.
     Tables,
-    /// The measures of its run as comma-separated values, for a program.
+    /// The measures of its run as comma-separated values, for a program: a line for each.
     Values,
+    /// The measures of sources as comma-separated values: a row for each source.
+    Rows,
     /// How the delays of each source are spread, as comma-separated values.
     Delays,
     /// It as a graph.

@@ -27,6 +27,20 @@ fn nanoseconds_between(earlier: Time, later: Time) -> u64 {
     later.nanoseconds().saturating_sub(earlier.nanoseconds())
 }
 
+/// The rate of so many octets, in bits per second, from one time to another, rounded down; 0 where
+/// that is no time.
+pub fn rate_of(octets: u64, from: Option<Time>, until: Time) -> u64 {
+    let Some(from) = from else {
+        return 0;
+    };
+    let time = nanoseconds_between(from, until);
+    if time == 0 {
+        return 0;
+    }
+    let bits = u128::from(octets) * 8 * 1_000_000_000;
+    u64::try_from(bits / u128::from(time)).unwrap_or(u64::MAX)
+}
+
 impl FlowTimes {
     /// Nothing was sent.
     pub(crate) fn new(alloc: Global) -> Self {
@@ -46,18 +60,24 @@ impl FlowTimes {
         self.octets
     }
 
+    /// The time of the source's first event, if it had one.
+    pub fn begun(&self) -> Option<Time>
+        ensures { result ≡ self.now.begun }
+    {
+        self.begun
+    }
+
+    /// When a packet was delivered last; 0 where none was.
+    pub fn ended(&self) -> Time
+        ensures { result ≡ self.now.ended }
+    {
+        self.ended
+    }
+
     /// The rate of what was delivered, in bits per second, from the source's first event to the
     /// last arrival, rounded down; 0 where that is no time.
     pub fn rate(&self) -> u64 {
-        let Some(begun) = self.begun else {
-            return 0;
-        };
-        let time = nanoseconds_between(begun, self.ended);
-        if time == 0 {
-            return 0;
-        }
-        let bits = u128::from(self.octets) * 8 * 1_000_000_000;
-        u64::try_from(bits / u128::from(time)).unwrap_or(u64::MAX)
+        rate_of(self.octets, self.begun, self.ended)
     }
 
     /// The source had an event.

@@ -29,7 +29,7 @@ pub use amounts::{Amount, IfaceTraffic};
 pub use courses::{Course, Ended, Hop};
 pub use delays::Delays;
 pub use flow_counts::{FlowCounts, PacketOutcome};
-pub use flow_times::FlowTimes;
+pub use flow_times::{FlowTimes, rate_of};
 pub use lines::{Appended, MadeText, end_line};
 pub use measured::Measured;
 pub use measuring::measure;

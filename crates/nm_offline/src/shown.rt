@@ -16,7 +16,7 @@ use nm_base::{IfaceNo, Record, Sink, Wanted};
 use nm_command::{Status, View};
 use nm_measure::measure;
 use nm_progress::Progress;
-use nm_report::{csv_text, dot_text, load_text, push_packet_line, report_text};
+use nm_report::{csv_text, dot_text, load_text, push_packet_line, report_text, rows_text};
 use nm_series::delays_text;
 use nm_sim::Tracer;
 use nm_topology::Topology;
@@ -39,6 +39,7 @@ fn view_text(
     match view {
         View::Tables => report_text(alloc, network, &measured),
         View::Values => csv_text(alloc, network, &measured),
+        View::Rows => rows_text(alloc, network, &measured),
         View::Delays => delays_text(alloc, network, &measured),
         View::Graph | View::Load => load_text(alloc, network, &measured),
     }

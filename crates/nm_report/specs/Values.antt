@@ -1,7 +1,10 @@
--- The values of interfaces as comma-separated values.
-use Rattle.std.specs.Prelude.{◌≡◌, ◌⊎◌, ℕ, suc, List, [], ◌∷◌, ◌++◌, codes, decimal}
+-- The values of nodes and interfaces as comma-separated values.
+use Rattle.std.specs.Prelude.{◌≡◌, ◌⊎◌, ℕ, suc, List, [], ◌∷◌, ◌++◌, codes, decimal, slice_index}
+use Rattle.nm_forward.specs.Counter.{counter_name, counter_number}
+use Rattle.nm_forward.specs.declared.counter.Counter.{Counter}
+use Rattle.nm_forward.specs.declared.counter.TheConstants.Counter.{ALL}
 use Rattle.nm_model.specs.Run.{one_list}
-use Rattle.nm_topology.specs.PartValues.{IfaceValue}
+use Rattle.nm_topology.specs.PartValues.{IfaceValue, NodeValue}
 use Rattle.nm_topology.specs.TopologyValue.{TopologyValue}
 use Rattle.nm_sim.specs.Network.{net_of}
 use Rattle.nm_measure.specs.Amounts.{drops_of, iface_traffic_of}
@@ -13,6 +16,10 @@ use Rattle.nm_measure.specs.declared.amounts.IfaceTraffic.{IfaceTraffic}
 -- whole lines, or nothing
 abbrev pub AreWholeLines : List ℕ → Type 0
 AreWholeLines text = (text ≡ []) ⊎ EndsLine text
+
+-- the names of the columns
+abbrev pub head : List ℕ
+head = codes "kind,name,measure,value\n"
 
 -- a line: what kind of thing has the value, its name, which measure it is, and the value
 abbrev pub value_line : (kind name measure : List ℕ) → ℕ → List ℕ
@@ -52,10 +59,22 @@ module _ (t : TopologyValue) (events : ℕ) where
   all_values i [] = []
   all_values i (x ∷ xs) = iface_values i x.name ++ all_values (suc i) xs
 
-  -- the lines of all interfaces, in the order of the topology's text, between others
+  -- the counters of node v of this name, in this order, after so many events of the one event list
+  abbrev pub node_counts : ℕ → List ℕ → List Counter → List ℕ
+  node_counts v name [] = []
+  node_counts v name (c ∷ cs) =
+      value_line (codes "node") name (counter_name c)
+      (slice_index ((one_list (net_of t) events).node v).counters (counter_number c))
+      ++ node_counts v name cs
+
+  -- all counters of nodes from number v on
+  abbrev pub all_counts : ℕ → List NodeValue → List ℕ
+  all_counts v [] = []
+  all_counts v (x ∷ xs) = node_counts v x.name ALL ++ all_counts (suc v) xs
+
+  -- the names of the columns, the lines of all nodes and of all interfaces, in the order of the
+  -- topology's text, and whole lines
   pub record HaveValues (text : List ℕ) : Type 0 where
-    pub front : List ℕ
     pub rest : List ℕ
-    pub before : AreWholeLines front
-    pub after : EndsLine rest
-    pub is : text ≡ front ++ all_values 0 t.ifaces ++ rest
+    pub after : AreWholeLines rest
+    pub is : text ≡ head ++ all_counts 0 t.nodes ++ all_values 0 t.ifaces ++ rest

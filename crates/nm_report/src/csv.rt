@@ -1,156 +1,120 @@
-//! The measures of a run as comma-separated values for a program (RFC 4180).
+//! The measures of a run as comma-separated values for a program (RFC 4180), in one table.
 
-ghost use Rattle.std.specs.Prelude.{◌≡◌, ℕ, ◌<◌, ◌++◌, IfOk, OnOk, codes, length};
+ghost use Rattle.std.specs.Prelude.{◌≡◌, ℕ, ◌<◌, ◌++◌, IfOk, OnOk, Some, codes, length, slice_get};
+ghost use Rattle.std.specs.Prelude.{slice_index};
+ghost use Rattle.nm_model.specs.Run.{one_list};
+ghost use Rattle.nm_forward.specs.Counter.{counter_number};
 ghost use Rattle.nm_topology.specs.TopologyValue.{TopologyValue};
+ghost use Rattle.nm_sim.specs.Network.{net_of};
 ghost use Rattle.nm_measure.specs.Lines.{EndsLine};
 ghost use Rattle.nm_measure.specs.Measured.{IsMeasuredBefore};
-ghost use Rattle.nm_report.specs.Values.{AreWholeLines, HaveValues, all_values, iface_line};
-ghost use Rattle.nm_report.specs.Values.{iface_values, traffic_lines, use_lines};
+ghost use Rattle.nm_report.specs.Values.{AreWholeLines, HaveValues, all_counts, all_values, head};
+ghost use Rattle.nm_report.specs.Values.{iface_line, iface_values, node_counts, traffic_lines};
+ghost use Rattle.nm_report.specs.Values.{use_lines, value_line};
 
 use crate::iface_table::traffic_at;
-use crate::source_rows::push_source_rows;
+use crate::measures::{NAMES, ONE_WAY, measures_of};
 use crate::source_tables::flow_of;
 use nm_base::{IfaceNo, NodeNo, SourceNo, push_number, push_text};
 use nm_forward::Counter;
-use nm_measure::{
-    Appended, Delays, FlowCounts, FlowTimes, IfaceTraffic, MadeText, Measured, end_line,
-};
+use nm_measure::{Appended, IfaceTraffic, MadeText, Measured};
 use nm_topology::Topology;
 use nm_topology::traffic::{Source, Traffic};
 use std::alloc::Global;
 
-/// A node or a source that has values. The names of nodes need no quotes, and that of a source is
-/// its number.
-#[derive(Clone, Copy)]
-enum Owner<'a> {
-    Node(&'a str),
-    Source(SourceNo),
-}
-
-/// Appends what has a value: its kind and its name.
-fn push_owner(text: &mut Vec<u8>, owner: &Owner<'_>) -> Appended {
-    match owner {
-        Owner::Node(name) => {
-            push_text(text, b"node,")?;
-            push_text(text, name.as_bytes())
-        }
-        Owner::Source(source) => {
-            push_text(text, b"source,")?;
-            push_number(text, source.index() as u64)
-        }
-    }
-}
-
-/// Appends values of a node or a source, each with which measure it is.
-fn push_values(text: &mut Vec<u8>, owner: &Owner<'_>, values: &[(&str, u64)]) -> Appended
-    requires { AreWholeLines text.old.items }
-    ensures { OnOk result (AreWholeLines text.new.items) }
-{
-    for (measure, value) in values {
-        push_owner(text, owner)?;
-        push_text(text, b",")?;
-        push_text(text, measure.as_bytes())?;
-        push_text(text, b",")?;
-        push_number(text, *value)?;
-        end_line(text)?;
-    }
-    Ok(())
-}
-
-/// The counters of a node, also those that are 0.
-fn push_node(text: &mut Vec<u8>, measured: &Measured, name: &str, node: NodeNo) -> Appended
-    requires { AreWholeLines text.old.items }
-    ensures { OnOk result (AreWholeLines text.new.items) }
-{
-    for counter in Counter::ALL {
-        let count = measured.counter(node, counter).unwrap_or(0);
-        push_values(text, &Owner::Node(name), &[(counter.name(), count)])?;
-    }
-    Ok(())
-}
-
-/// The values that each source has.
-fn push_flow(text: &mut Vec<u8>, source: SourceNo, flow: &FlowCounts, times: &FlowTimes) -> Appended
-    requires { AreWholeLines text.old.items }
-    ensures { OnOk result (AreWholeLines text.new.items) }
-{
-    push_values(
-        text,
-        &Owner::Source(source),
-        &[
-            ("sent", flow.sent),
-            ("delivered", flow.delivered),
-            ("refused", flow.refused),
-            ("dropped", flow.dropped),
-            ("discarded", flow.discarded),
-            ("under_way", flow.under_way),
-            ("least_delay_nanoseconds", times.delays.least()),
-            ("mean_delay_nanoseconds", times.delays.mean()),
-            ("greatest_delay_nanoseconds", times.delays.greatest()),
-        ],
-    )
-}
-
-/// The values of a source that may have echo replies.
-fn push_replies(text: &mut Vec<u8>, source: SourceNo, astray: u64, trips: &Delays) -> Appended
-    requires { AreWholeLines text.old.items }
-    ensures { OnOk result (AreWholeLines text.new.items) }
-{
-    push_values(
-        text,
-        &Owner::Source(source),
-        &[
-            ("answered", trips.count()),
-            ("astray", astray),
-            ("least_round_trip_nanoseconds", trips.least()),
-            ("mean_round_trip_nanoseconds", trips.mean()),
-            ("greatest_round_trip_nanoseconds", trips.greatest()),
-        ],
-    )
-}
-
-/// The values of a source.
-fn push_source(
-    text: &mut Vec<u8>,
-    measured: &Measured,
-    source: &Source,
-    number: SourceNo,
-) -> Appended
-    requires { AreWholeLines text.old.items }
-    ensures { OnOk result (AreWholeLines text.new.items) }
-{
-    let flow = flow_of(measured, number);
-    let Some(times) = measured.times(number) else {
-        return Ok(());
-    };
-    push_flow(text, number, &flow, times)?;
-    match &source.traffic {
-        Traffic::Cbr(_) => Ok(()),
-        Traffic::Echo(_) | Traffic::Raw(_) => {
-            push_replies(text, number, flow.astray, &times.round_trips)
-        }
-    }
-}
-
 /// Appends a line feed behind a value.
 fn end_value(text: &mut Vec<u8>) -> Appended
-    ensures { OnOk result (text.new.items ≡ text.old.items ++ codes "\n") }
+    ensures is { OnOk result (text.new.items ≡ text.old.items ++ codes "\n") }
+    ensures ends { OnOk result (EndsLine text.new.items) }
 {
     push_text(text, b"\n")
 }
 
-/// Appends a value of an interface.
-fn push_value(text: &mut Vec<u8>, name: &str, measure: &[u8], value: u64) -> Appended
-    ensures { OnOk result (text.new.items
-        ≡ text.old.items ++ iface_line name.now measure.now value) }
+/// Appends a value: the kind and the name of what has it, and which measure it is. No name needs
+/// quotes.
+fn push_line(text: &mut Vec<u8>, kind: &[u8], name: &[u8], measure: &[u8], value: u64) -> Appended
+    ensures is { OnOk result (text.new.items
+        ≡ text.old.items ++ value_line kind.now name.now measure.now value) }
+    ensures ends { OnOk result (EndsLine text.new.items) }
 {
-    push_text(text, b"interface,")?;
-    push_text(text, name.as_bytes())?;
+    push_text(text, kind)?;
+    push_text(text, b",")?;
+    push_text(text, name)?;
     push_text(text, b",")?;
     push_text(text, measure)?;
     push_text(text, b",")?;
     push_number(text, value)?;
     end_value(text)
+}
+
+/// The counter in this place.
+fn counter_at(counters: &[Counter], place: usize) -> Counter
+    requires { place < length counters.now }
+    ensures { slice_get counters.now place ≡ Some result }
+{
+    counters[place]
+}
+
+/// How often a node counted.
+fn count_of(measured: &Measured, node: NodeNo, counter: Counter) -> u64
+    ensures { (t : TopologyValue) (until : ℕ) (m : IsMeasuredBefore t until measured.now)
+        → node < length t.nodes → result ≡ slice_index
+        ((one_list (net_of t) m.events).node node).counters (counter_number counter) }
+{
+    measured.counter(node, counter).unwrap_or(0)
+}
+
+/// Appends these counters of a node, also those that are 0.
+fn push_node(
+    text: &mut Vec<u8>,
+    measured: &Measured,
+    name: &str,
+    node: NodeNo,
+    counters: &[Counter],
+) -> Appended
+    requires { EndsLine text.old.items }
+    ensures is { (t : TopologyValue) (until : ℕ) (m : IsMeasuredBefore t until measured.now)
+        → node < length t.nodes → OnOk result (text.new.items
+        ≡ text.old.items ++ node_counts t m.events node name.now counters.now) }
+    ensures ends { OnOk result (EndsLine text.new.items) }
+{
+    for place in 0..counters.len() {
+        let counter = counter_at(counters, place);
+        push_line(
+            text,
+            b"node",
+            name.as_bytes(),
+            counter.name().as_bytes(),
+            count_of(measured, node, counter),
+        )?;
+    }
+    Ok(())
+}
+
+/// The names of the columns, and the values of all nodes, in the order of the topology's text.
+fn nodes_text(alloc: Global, topology: &Topology, measured: &Measured) -> MadeText
+    ensures is { (until : ℕ) (m : IsMeasuredBefore topology.now until measured.now)
+        → IfOk result (λ text. text.items
+        ≡ head ++ all_counts topology.now m.events 0 topology.now.nodes) }
+    ensures ends { IfOk result (λ text. EndsLine text.items) }
+{
+    let mut text = Vec::new(alloc);
+    push_text(&mut text, b"kind,name,measure,value\n")?;
+    for number in 0..topology.nodes().len() {
+        let node = topology.node_number(number);
+        let name = topology.node(node).name();
+        push_node(&mut text, measured, name, node, &Counter::ALL)?;
+    }
+    Ok(text)
+}
+
+/// Appends a value of an interface.
+fn push_value(text: &mut Vec<u8>, name: &str, measure: &[u8], value: u64) -> Appended
+    ensures is { OnOk result (text.new.items
+        ≡ text.old.items ++ iface_line name.now measure.now value) }
+    ensures ends { OnOk result (EndsLine text.new.items) }
+{
+    push_line(text, b"interface", name.as_bytes(), measure, value)
 }
 
 /// Appends how much came to an interface and went from it.
@@ -167,8 +131,9 @@ fn push_traffic(text: &mut Vec<u8>, name: &str, traffic: &IfaceTraffic) -> Appen
 /// Appends how many packets an interface dropped, how many waited there at most, and for how many
 /// nanoseconds it transmitted.
 fn push_use(text: &mut Vec<u8>, name: &str, dropped: u64, longest: u64, busy: u64) -> Appended
-    ensures { OnOk result (text.new.items
+    ensures is { OnOk result (text.new.items
         ≡ text.old.items ++ use_lines name.now dropped longest busy) }
+    ensures ends { OnOk result (EndsLine text.new.items) }
 {
     push_value(text, name, b"dropped", dropped)?;
     push_value(text, name, b"longest_queue", longest)?;
@@ -177,9 +142,10 @@ fn push_use(text: &mut Vec<u8>, name: &str, dropped: u64, longest: u64, busy: u6
 
 /// Appends the values of an interface.
 fn push_iface(text: &mut Vec<u8>, measured: &Measured, name: &str, iface: IfaceNo) -> Appended
-    ensures { (t : TopologyValue) (until : ℕ) (m : IsMeasuredBefore t until measured.now)
+    ensures is { (t : TopologyValue) (until : ℕ) (m : IsMeasuredBefore t until measured.now)
         → iface < length t.ifaces → OnOk result (text.new.items
         ≡ text.old.items ++ iface_values t m.events iface name.now) }
+    ensures ends { OnOk result (EndsLine text.new.items) }
 {
     let traffic = traffic_at(measured, iface);
     push_traffic(text, name, &traffic)?;
@@ -194,9 +160,10 @@ fn push_iface(text: &mut Vec<u8>, measured: &Measured, name: &str, iface: IfaceN
 
 /// The values of all interfaces, in the order of the topology's text.
 fn ifaces_text(alloc: Global, topology: &Topology, measured: &Measured) -> MadeText
-    ensures { (until : ℕ) (m : IsMeasuredBefore topology.now until measured.now)
+    ensures is { (until : ℕ) (m : IsMeasuredBefore topology.now until measured.now)
         → IfOk result (λ text. text.items
         ≡ all_values topology.now m.events 0 topology.now.ifaces) }
+    ensures ends { IfOk result (λ text. AreWholeLines text.items) }
 {
     let mut text = Vec::new(alloc);
     for number in 0..topology.ifaces().len() {
@@ -206,34 +173,50 @@ fn ifaces_text(alloc: Global, topology: &Topology, measured: &Measured) -> MadeT
     Ok(text)
 }
 
-/// The names of the columns, and the values of nodes.
-fn nodes_text(alloc: Global, topology: &Topology, measured: &Measured) -> MadeText
+/// How many measures of a source have lines: those of replies are left out of one that has none.
+fn measures(source: &Source) -> usize {
+    match &source.traffic {
+        Traffic::Cbr(_) => ONE_WAY,
+        Traffic::Echo(_) | Traffic::Raw(_) => NAMES.len(),
+    }
+}
+
+/// Appends the values of a source, whose name is its number.
+fn push_source(
+    alloc: Global,
+    text: &mut Vec<u8>,
+    measured: &Measured,
+    source: &Source,
+    number: SourceNo,
+) -> Appended
+    requires { AreWholeLines text.old.items }
+    ensures { OnOk result (AreWholeLines text.new.items) }
+{
+    let Some(times) = measured.times(number) else {
+        return Ok(());
+    };
+    let mut name = Vec::new(alloc);
+    push_number(&mut name, number.index() as u64)?;
+    let values = measures_of(alloc, &flow_of(measured, number), times)?;
+    for (measure, value) in NAMES.iter().zip(values.iter()).take(measures(source)) {
+        push_line(text, b"source", name.as_slice(), measure.as_bytes(), *value)?;
+    }
+    Ok(())
+}
+
+/// The values of all sources.
+fn sources_text(alloc: Global, topology: &Topology, measured: &Measured) -> MadeText
     ensures { IfOk result (λ text. AreWholeLines text.items) }
 {
     let mut text = Vec::new(alloc);
-    push_text(&mut text, b"kind,name,measure,value")?;
-    end_line(&mut text)?;
-    for (number, node) in (0..u32::MAX).zip(topology.nodes()) {
-        push_node(&mut text, measured, node.name(), NodeNo::new(number))?;
-    }
-    Ok(text)
-}
-
-/// The values of sources, and after an empty line a row for each source with all its measures.
-fn sources_text(alloc: Global, topology: &Topology, measured: &Measured) -> MadeText
-    ensures { IfOk result (λ text. EndsLine text.items) }
-{
-    let mut text = Vec::new(alloc);
     for (number, source) in (0..u32::MAX).zip(topology.sources()) {
-        push_source(&mut text, measured, source, SourceNo::new(number))?;
+        push_source(alloc, &mut text, measured, source, SourceNo::new(number))?;
     }
-    end_line(&mut text)?;
-    push_source_rows(&mut text, topology, measured)?;
     Ok(text)
 }
 
 /// A line for each value: its owner's kind and name, the measure, and the value. A source's name is
-/// its number. Then, after an empty line, a row for each source with all its measures.
+/// its number.
 ///
 /// # Errors
 ///

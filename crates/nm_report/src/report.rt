@@ -72,8 +72,7 @@ pub fn report_text(alloc: Global, topology: &Topology, measured: &Measured) -> M
     }
     push_text(
         &mut text,
-        b"\nTimes are in nanoseconds, rates in bits per second; under way is what waited or was on \
-a link at stop.",
+        b"\nUnder way is what waited or was on a link at stop.",
     )?;
     end_line(&mut text)?;
     Ok(text)

@@ -3,8 +3,9 @@
 ghost use Rattle.std.specs.Prelude.{◌≡◌, ◌∷◌, []};
 
 use crate::table::{Table, push_left_out};
-use crate::units::{PERCENTILES, push_address};
-use nm_base::{SourceNo, push_number, push_text};
+use crate::units::{PERCENTILES, push_address, push_time};
+use crate::whole::Whole;
+use nm_base::{SourceNo, push_text};
 use nm_measure::{Appended, Delays, FlowCounts, FlowTimes, Measured};
 use nm_topology::Topology;
 use nm_topology::traffic::{Source, Traffic};
@@ -25,6 +26,9 @@ const COUNT_HEAD: [&str; 12] = [
     "octets",
     "rate",
 ];
+
+/// How many of them are texts: which source it is.
+const COUNT_TEXTS: usize = 4;
 
 /// The columns of delays.
 const DELAY_HEAD: [&str; 12] = [
@@ -106,19 +110,19 @@ fn add_percentile(alloc: Global, table: &mut Table, delays: &Delays, thousandths
     if delays.is_rounded() {
         push_text(&mut cell, b"~")?;
     }
-    push_number(&mut cell, delays.percentile(thousandths))?;
+    push_time(&mut cell, delays.percentile(thousandths))?;
     table.text(cell.as_slice())
 }
 
 /// The cells of a row with the times that packets took.
 fn add_delays(alloc: Global, table: &mut Table, delays: &Delays) -> Appended {
-    table.number(delays.least())?;
+    table.time(delays.least())?;
     for percentile in PERCENTILES {
         add_percentile(alloc, table, delays, percentile)?;
     }
-    table.number(delays.greatest())?;
-    table.number(delays.mean())?;
-    table.number(delays.jitter())
+    table.time(delays.greatest())?;
+    table.time(delays.mean())?;
+    table.time(delays.jitter())
 }
 
 /// How many packets a source sent, and what became of them.
@@ -136,38 +140,49 @@ pub(crate) fn fates(flow: &FlowCounts) -> [u64; 6]
     ]
 }
 
-/// The row of what became of a source's packets.
-fn add_counts(table: &mut Table, flow: &FlowCounts, times: Option<&FlowTimes>) -> Appended {
-    let (octets, rate) = match times {
-        Some(times) => (times.octets(), times.rate()),
-        None => (0, 0),
-    };
-    for count in fates(flow) {
+/// The cells of a row with what became of packets, and how much arrived, and how fast.
+fn add_counts(table: &mut Table, fates: [u64; 6], octets: u64, rate: u64) -> Appended {
+    for count in fates {
         table.number(count)?;
     }
     table.number(octets)?;
-    table.number(rate)
+    table.rate(rate)
 }
 
-/// What became of the packets of sources, and how many sent nothing.
+/// Adds the last row: the sums over all sources, if there are at least two.
+fn add_whole(table: &mut Table, whole: &Whole) -> Appended {
+    if whole.sources < 2 {
+        return Ok(());
+    }
+    table.text(b"all")?;
+    for _ in 1..COUNT_TEXTS {
+        table.text(b"-")?;
+    }
+    add_counts(table, whole.fates, whole.octets, whole.rate())
+}
+
+/// What became of the packets of sources, of all of them together, and how many sent nothing.
 pub(crate) fn push_sources(
     alloc: Global,
     text: &mut Vec<u8>,
     topology: &Topology,
     measured: &Measured,
 ) -> Appended {
-    let mut table = Table::new(alloc, &COUNT_HEAD, 4)?;
-    let mut idle = 0u64;
+    let mut table = Table::new(alloc, &COUNT_HEAD, COUNT_TEXTS)?;
+    let (mut whole, mut idle) = (Whole::new(), 0u64);
     for (number, source) in (0..u32::MAX).zip(topology.sources()) {
         let place = SourceNo::new(number);
         let flow = flow_of(measured, place);
-        if flow.sent == 0 {
-            idle = idle.saturating_add(1);
-        } else {
-            add_source(alloc, &mut table, topology, source, place)?;
-            add_counts(&mut table, &flow, measured.times(place))?;
+        match measured.times(place) {
+            Some(times) if flow.sent > 0 => {
+                add_source(alloc, &mut table, topology, source, place)?;
+                add_counts(&mut table, fates(&flow), times.octets(), times.rate())?;
+                whole.add(fates(&flow), times);
+            }
+            _ => idle = idle.saturating_add(1),
         }
     }
+    add_whole(&mut table, &whole)?;
     table.print(text)?;
     push_left_out(text, "sources", idle)
 }

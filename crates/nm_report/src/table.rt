@@ -1,5 +1,6 @@
 //! Tables with aligned columns.
 
+use crate::units::{push_rate, push_time};
 use nm_base::{push_number, push_text};
 use nm_measure::{Appended, end_line};
 use std::alloc::{AllocError, Global};
@@ -48,6 +49,22 @@ impl Table {
     pub(crate) fn number(&mut self, number: u64) -> Appended {
         let mut cell = Vec::new(self.alloc);
         push_number(&mut cell, number)?;
+        self.cells.push(cell)?;
+        Ok(())
+    }
+
+    /// One more cell, with a rate in bits per second.
+    pub(crate) fn rate(&mut self, rate: u64) -> Appended {
+        let mut cell = Vec::new(self.alloc);
+        push_rate(&mut cell, rate)?;
+        self.cells.push(cell)?;
+        Ok(())
+    }
+
+    /// One more cell, with a time in nanoseconds.
+    pub(crate) fn time(&mut self, nanoseconds: u64) -> Appended {
+        let mut cell = Vec::new(self.alloc);
+        push_time(&mut cell, nanoseconds)?;
         self.cells.push(cell)?;
         Ok(())
     }

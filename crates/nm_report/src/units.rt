@@ -17,8 +17,27 @@ const TIMES: [(u64, &[u8]); 3] = [(1_000_000_000, b" s"), (1_000_000, b" ms"), (
 /// The percentiles that are shown, in thousandths.
 pub(crate) const PERCENTILES: [u64; 4] = [500, 900, 990, 999];
 
-/// Appends a quantity in the greatest unit of which it is a whole number, or in the least one.
-/// Units come from the greatest down, each with how many of the least it has.
+/// Appends what is left of a unit behind a point, without zeros at its end. The unit has so many of
+/// the least one, a power of ten up to 10^9.
+fn push_decimals(text: &mut Vec<u8>, rest: u64, size: u64) -> Appended {
+    if rest == 0 {
+        return Ok(());
+    }
+    push_text(text, b".")?;
+    let (mut rest, mut place) = (rest, size / 10);
+    for _ in 0..9 {
+        if rest == 0 || place == 0 {
+            return Ok(());
+        }
+        push_number(text, rest / place)?;
+        rest %= place;
+        place /= 10;
+    }
+    Ok(())
+}
+
+/// Appends a quantity as an exact decimal in the greatest unit of which there is at least one, or
+/// in the least one. Units come from the greatest down, each with how many of the least it has.
 fn push_quantity(
     text: &mut Vec<u8>,
     quantity: u64,
@@ -26,8 +45,9 @@ fn push_quantity(
     least: &[u8],
 ) -> Appended {
     for (size, name) in units {
-        if *size > 0 && quantity >= *size && quantity % *size == 0 {
+        if *size > 0 && quantity >= *size {
             push_number(text, quantity / *size)?;
+            push_decimals(text, quantity % *size, *size)?;
             return push_text(text, name);
         }
     }

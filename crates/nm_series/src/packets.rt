@@ -34,7 +34,7 @@ fn reason_word(reason: Reason) -> &'static str {
     match reason {
         Reason::Counted(counter) => counter.name(),
         Reason::NoRoom => "queue",
-        Reason::Unknown => "-",
+        Reason::Unknown => "",
     }
 }
 
@@ -97,7 +97,7 @@ fn push_under_way(
     ensures { OnOk result (EndsLine text.new.items) }
 {
     push_start(text, course)?;
-    push_text(text, b",under_way,-,-,-")?;
+    push_text(text, b",under_way,,,")?;
     push_way(text, topology, course.hops.as_slice())
 }
 

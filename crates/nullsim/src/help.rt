@@ -88,10 +88,10 @@ status 3, and where its mistakes are.
     (
         "report",
         "\
-nullsim report TOPO [csv | delays]
+nullsim report TOPO [csv | csv delays | delays]
 Runs the network and prints what nodes counted, what interfaces carried and dropped, and
-what became of the packets of each source. csv: as comma-separated values. delays: how
-often each delay came, as comma-separated values.
+what became of the packets of each source. The others print comma-separated values; csv: a
+line for each value; csv delays: a row for each source; delays: how often each delay came.
 ",
     ),
     (
@@ -206,18 +206,22 @@ fn asks(word: &str) -> bool {
     ["help", "--help", "-h"].contains(&word)
 }
 
-/// The text on itself that these words ask for, if they do.
+/// More of a word, or all words if the word is of the help itself.
+fn about(word: &str) -> Option<&'static str> {
+    if asks(word) || word == "version" || word == "--version" {
+        return Some(HELP);
+    }
+    more_of(word)
+}
+
+/// The text on itself that these words ask for, if they do: `help`, `help WORD` or `WORD --help`,
+/// also as `-h`, and `--version`.
 pub fn asked(words: &[String]) -> Option<&'static str> {
-    let first = words.first()?;
-    if words.len() == 1 && first.as_str() == "--version" {
-        return Some(VERSION);
-    }
-    if !asks(first.as_str()) {
-        return None;
-    }
-    match words.get(1) {
-        None => Some(HELP),
-        Some(word) if words.len() == 2 => more_of(word.as_str()),
-        Some(_) => None,
+    match words {
+        [word] if word.as_str() == "--version" => Some(VERSION),
+        [word] if asks(word.as_str()) => Some(HELP),
+        [first, second] if asks(first.as_str()) => about(second.as_str()),
+        [first, second] if asks(second.as_str()) => about(first.as_str()),
+        _ => None,
     }
 }

@@ -161,6 +161,7 @@ fn over_system<N: Runtime, E: Sink>(
     };
     let out = StdSink::new(writer);
     let (status, mut out) = run(&means, words, &mut inputs, &mut outputs, out, errors);
+    outputs.note_writing();
     conclude(status, out.flush().is_ok(), errors)
 }
 
@@ -241,12 +242,21 @@ fn unless_closed<N: Runtime>(
     ended.status
 }
 
-/// Says something of the program itself.
-fn say(rt: &HostRuntime, text: &str) -> Status {
-    match rt.stdout().write_all(text.as_bytes()) {
-        Ok(()) => Status::Done,
-        Err(_) => Status::File,
+/// Says something of the program itself. Nothing is said of an output that nobody reads.
+fn say<E: Sink>(rt: &HostRuntime, text: &str, errors: &mut E) -> Status {
+    let Err(error) = rt.stdout().write_all(text.as_bytes()) else {
+        return Status::Done;
+    };
+    if error.kind() == ErrorKind::BrokenPipe {
+        return Status::File;
     }
+    let status = report(Status::File, errors);
+    if explains(rt) {
+        if let Ok(text) = format!(in rt.alloc(); "standard output: {error}\n") {
+            let _ = write_all(errors, text.as_str().as_bytes());
+        }
+    }
+    status
 }
 
 /// The program's text on itself: if words that are no command ask for it, and if there are no words
@@ -290,7 +300,7 @@ where
         Err(_) => return report(Status::Usage, &mut errors),
     };
     if let Some(text) = said_of_itself(rt, words.as_slice()) {
-        return say(rt, text);
+        return say(rt, text, &mut errors);
     }
     match MemSink::new(rt.alloc(), MAX_ERROR_OCTETS) {
         Ok(mut said) => unless_closed(rt, system, &mut words, &mut said, &mut errors),

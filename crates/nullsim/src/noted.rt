@@ -1,31 +1,38 @@
 //! What went wrong at the system, for further lines.
 
+use nm_base::limits::MAX_INPUT_OCTETS;
 use nm_program::Notes;
 use std::alloc::{AllocError, Global};
 use std::cell::Cell;
-use std::io::{self, ErrorKind, Write};
-use std::sync::atomic::{AtomicI32, Ordering};
+use std::io::{self, ErrorKind, Read, Write};
+use std::sync::atomic::{AtomicBool, AtomicU64, Ordering};
+
+/// How many numbers of errors there may be.
+const CODES: u64 = 1 << 32;
 
 /// The last error of the system at a file that was written, whichever thread wrote it.
 #[derive(Drop)]
 pub struct LastError {
-    /// Its number, or 0.
-    code: AtomicI32,
+    /// The number of the file, and below it that of the error; 0 if there was none.
+    both: AtomicU64,
 }
 
 impl LastError {
-    /// Notes an error.
-    pub fn note(&self, error: &io::Error) {
-        if let Some(code) = error.raw_os_error() {
-            self.code.store(code, Ordering::Relaxed);
+    /// Notes an error at the file with this number.
+    pub fn note(&self, file: u32, error: &io::Error) {
+        let code = u32::try_from(error.raw_os_error().unwrap_or(0)).unwrap_or(0);
+        if code != 0 {
+            let both = u64::from(file) * CODES + u64::from(code);
+            self.both.store(both, Ordering::Relaxed);
         }
     }
 
-    /// The last one, if there was any.
-    pub fn last(&self) -> Option<io::Error> {
-        match self.code.load(Ordering::Relaxed) {
-            0 => None,
-            code => Some(io::Error::from_raw_os_error(code)),
+    /// The last one, with the number of its file, if there was any.
+    pub fn last(&self) -> Option<(u64, io::Error)> {
+        let both = self.both.load(Ordering::Relaxed);
+        match i32::try_from(both % CODES) {
+            Ok(code) if code != 0 => Some((both / CODES, io::Error::from_raw_os_error(code))),
+            _ => None,
         }
     }
 }
@@ -36,6 +43,8 @@ impl LastError {
 pub struct Noted {
     pub notes: Notes,
     pub writing: LastError,
+    /// Whether what was read has more octets than an input may have.
+    pub is_long: AtomicBool,
     file: Cell<Option<String>>,
     is_closed: Cell<bool>,
 }
@@ -51,8 +60,9 @@ impl Noted {
         Noted {
             notes: Notes::new(),
             writing: LastError {
-                code: AtomicI32::new(0),
+                both: AtomicU64::new(0),
             },
+            is_long: AtomicBool::new(false),
             file: Cell::new(None),
             is_closed: Cell::new(false),
         }
@@ -103,5 +113,25 @@ impl<'a, W: Write> Write for NotedWriter<'a, W> {
 
     fn flush(&mut self) -> io::Result<()> {
         self.writer.flush()
+    }
+}
+
+/// A reader that notes that it gave more octets than an input may have.
+#[derive(Drop)]
+pub struct NotedReader<'a, R> {
+    pub reader: R,
+    pub is_long: &'a AtomicBool,
+    /// How many octets it gave.
+    pub count: u64,
+}
+
+impl<'a, R: Read> Read for NotedReader<'a, R> {
+    fn read(&mut self, octets: &mut [u8]) -> io::Result<usize> {
+        let count = self.reader.read(octets)?;
+        self.count = self.count.saturating_add(count as u64);
+        if self.count > MAX_INPUT_OCTETS {
+            self.is_long.store(true, Ordering::Relaxed);
+        }
+        Ok(count)
     }
 }

@@ -68,11 +68,13 @@ fn is_part(name: &str) -> bool {
     false
 }
 
-/// A part that is open, how many octets the system took of it, and a note of why it took no more.
+/// A part that is open, how many octets the system took of it, its number, and a note of why the
+/// system took no more.
 #[derive(Drop)]
 pub struct PartFile<'a> {
     file: File,
     count: u64,
+    number: u32,
     writing: &'a LastError,
 }
 
@@ -84,7 +86,7 @@ impl<'a> Write for PartFile<'a> {
                 Ok(taken)
             }
             Err(error) => {
-                self.writing.note(&error);
+                self.writing.note(self.number, &error);
                 Err(error)
             }
         }
@@ -122,6 +124,7 @@ impl<'a> PartFile<'a> {
     pub fn make(
         runtime: &HostRuntime,
         part: &str,
+        number: u32,
         writing: &'a LastError,
     ) -> io::Result<PartFile<'a>> {
         for _ in 0..MAX_TRIES {
@@ -130,6 +133,7 @@ impl<'a> PartFile<'a> {
                 return Ok(PartFile {
                     file,
                     count: 0,
+                    number,
                     writing,
                 });
             }

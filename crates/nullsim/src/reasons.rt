@@ -6,6 +6,7 @@ use nm_base::limits::MAX_INPUT_OCTETS;
 use nm_command::{Command, NodeArguments};
 use std::alloc::{AllocError, Global};
 use std::net::Net;
+use std::sync::atomic::Ordering;
 use std::{fs, io};
 
 /// The words with a folder as their third.
@@ -43,6 +44,20 @@ fn inputs_of<'a>(alloc: Global, words: &'a [String]) -> Result<Vec<&'a str>, All
         }
     }
     Ok(inputs)
+}
+
+/// The input that gave more octets than it may have, if one did. The words that read trace files,
+/// which may be longer, have none.
+fn long_input(words: &[String]) -> Option<&str> {
+    let [word, topology, ..] = words else {
+        return None;
+    };
+    match word.as_str() {
+        "verify" | "certify" => None,
+        "script" | "node" => Some("an input"),
+        _ if topology.as_str() == "-" => Some("standard input"),
+        _ => Some(topology.as_str()),
+    }
 }
 
 /// Why a folder or an input of the words is none, if one is not.
@@ -84,13 +99,17 @@ pub fn file_reason<N: Net>(
     if let Some(text) = noted.take_file() {
         return Ok(Some(text));
     }
-    if let Some(error) = noted.writing.last() {
-        let alloc = rt.alloc();
-        return Ok(Some(format!(in alloc; "a file that was written: {error}")?));
-    }
     let fault = words_fault(rt, words)?;
     if fault.is_some() {
         return Ok(fault);
+    }
+    if noted.is_long.load(Ordering::Relaxed) {
+        if let Some(name) = long_input(words) {
+            let alloc = rt.alloc();
+            return Ok(Some(format!(in alloc;
+                "{name}: has more than {MAX_INPUT_OCTETS} octets, and an input may have so many"
+            )?));
+        }
     }
     match node_of(words) {
         Some(words) => listening_fault(rt, system, &words),

@@ -2,7 +2,7 @@
 
 ghost use Rattle.std.specs.Prelude.{None};
 
-use crate::noted::Noted;
+use crate::noted::{Noted, NotedReader};
 use crate::parts::{Letters, PartFile, clean, part_of};
 use nm_base::StdSink;
 use nm_files::{OutputFault, Outputs};
@@ -18,23 +18,36 @@ pub struct SystemInputs<'a> {
     pub noted: &'a Noted,
 }
 
-impl<'a> Inputs for SystemInputs<'a> {
-    type Standard = StdinLock<'static>;
+impl<'a> SystemInputs<'a> {
+    /// A reader, which notes if it gives too much.
+    fn noted<R>(&self, reader: R) -> NotedReader<'a, R> {
+        NotedReader {
+            reader,
+            is_long: &self.noted.is_long,
+            count: 0,
+        }
+    }
+}
 
-    type File = File;
+impl<'a> Inputs for SystemInputs<'a> {
+    type Standard = NotedReader<'a, StdinLock<'static>>;
+
+    type File = NotedReader<'a, File>;
 
     ghost seen = { λ _. record { standard = None; file = λ _. None } };
 
-    fn standard(&self) -> StdinLock<'static> {
-        self.runtime.reader()
+    fn standard(&self) -> NotedReader<'a, StdinLock<'static>> {
+        self.noted(self.runtime.reader())
     }
 
-    fn open(&self, name: &str) -> io::Result<File> {
-        let file = fs::open(self.runtime, name);
-        if let Err(error) = &file {
-            self.noted.file(self.runtime.alloc(), name, error);
+    fn open(&self, name: &str) -> io::Result<NotedReader<'a, File>> {
+        match fs::open(self.runtime, name) {
+            Ok(file) => Ok(self.noted(file)),
+            Err(error) => {
+                self.noted.file(self.runtime.alloc(), name, &error);
+                Err(error)
+            }
         }
-        file
     }
 }
 
@@ -50,6 +63,8 @@ pub struct SystemOutputs<'a> {
     noted: &'a Noted,
     /// Drawn when the first file is made.
     letters: Option<Letters>,
+    /// The names of the files that were made, by their numbers.
+    names: Vec<String>,
 }
 
 /// A sink over a part.
@@ -87,6 +102,16 @@ impl<'a> SystemOutputs<'a> {
             runtime,
             noted,
             letters: None,
+            names: Vec::new(runtime.alloc()),
+        }
+    }
+
+    /// Notes the file that was the last one to fail while it was written, if there was any.
+    pub fn note_writing(&self) {
+        if let Some((number, error)) = self.noted.writing.last() {
+            if let Some(name) = self.names.get(number as usize) {
+                self.noted.file(self.runtime.alloc(), name.as_str(), &error);
+            }
         }
     }
 
@@ -110,9 +135,11 @@ impl<'a> SystemOutputs<'a> {
 
     /// The name of the part of a file, and that it is made.
     fn make(&mut self, name: &str) -> io::Result<PartFile<'a>> {
-        let letters = self.letters(name)?;
-        let part = part_of(self.runtime.alloc(), name, &letters)?;
-        PartFile::make(self.runtime, part.as_str(), &self.noted.writing)
+        let (letters, alloc) = (self.letters(name)?, self.runtime.alloc());
+        let part = part_of(alloc, name, &letters)?;
+        let number = u32::try_from(self.names.len()).unwrap_or(u32::MAX);
+        self.names.push(String::from_str(alloc, name)?)?;
+        PartFile::make(self.runtime, part.as_str(), number, &self.noted.writing)
     }
 
     /// A closed file of this name, with its part written.

@@ -60,7 +60,7 @@ class Flows(tool.Folder):
             'kind = "echo"\ncount = 4\n'
         web, burst, echo = self.rows(text)
         path = self.accepted(tool.made(text))
-        own = list(csv.DictReader(self.nullsim("report", path, "csv").decode().split("\n\n")[-1].splitlines()))
+        own = list(csv.DictReader(self.nullsim("report", path, "csv", "delays").decode().splitlines()))
         self.assertEqual((web["flow"], web["kind"], web["sources"]), ("web", "poisson", "4"))
         self.assertEqual((burst["flow"], burst["sources"], burst["sent"], burst["octets"]), ("1", "10", "30", "3840"))
         self.assertEqual((echo["kind"], echo["sent"], echo["answered"]), ("echo", "4", "4"))
