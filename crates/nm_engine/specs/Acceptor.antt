@@ -1,4 +1,4 @@
--- A peer that connected says who it is by its first frame, which makes the session.
+-- The first frame of a peer that connected names that peer and makes the session.
 use Rattle.std.specs.Prelude.{ℕ, ◌<◌, nat_lt, ◌&&◌, length, Option, Some, None, Result, Ok, Err, if◌then◌else◌}
 use Rattle.nm_topology.specs.TopologyValue.{TopologyValue}
 use Rattle.nm_frames.specs.declared.frame.Frame.{Frame}
@@ -8,7 +8,7 @@ use Rattle.nm_frames.specs.declared.session_fault.SessionFault.TheVariants.{Orde
 use Rattle.nm_frames.specs.Channels.{channels_between}
 use Rattle.nm_frames.specs.Session.{SessionValue, new_session, taken}
 
--- the replica that is connected to: of this topology and partition, with this number
+-- the replica to which peers connect: of this topology and partition, with this number
 pub record AcceptorValue : Type 0 where
   pub topology : TopologyValue
   pub me : ℕ
@@ -18,7 +18,7 @@ pub record AcceptorValue : Type 0 where
 abbrev pub session_with : AcceptorValue → ℕ → SessionValue
 session_with h peer = new_session h.topology h.me h.replica peer
 
--- the session after the first frame, or why that is refused: it has to be a Hello of a partition
+-- the session after the first frame, or why that is refused: it must be a Hello of a partition
 -- below its own from which a channel comes
 abbrev pub first_taken : AcceptorValue → Frame → Result SessionValue SessionFault
 first_taken h (Hello hello) =

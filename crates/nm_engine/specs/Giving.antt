@@ -1,4 +1,4 @@
--- What a session gave, and what of it stands in the buffer.
+-- What a session gave, and what of it is in the buffer.
 use Rattle.std.specs.Prelude.{◌≡◌, ℕ, ◌≤◌, ◌⊎◌, List, [], ◌++◌, length, map, Option, Some, None, Result, Ok, Err}
 use Rattle.nm_base.specs.declared.limits.TheConstants.{FULL_OUT_OCTETS}
 use Rattle.nm_book.specs.Book.{BookValue}
@@ -12,7 +12,7 @@ use Rattle.nm_engine.specs.Acceptor.{AcceptorValue}
 use Rattle.nm_engine.specs.Lives.{LinkLives}
 use Rattle.nm_engine.specs.Passes.{IsMet, LinkState, Owner}
 
--- frames were given, and stand at the end of the buffer but for the lost octets
+-- frames were given, and are at the end of the buffer but for the lost octets
 pub record GivesFrames (o : Owner) (h : Option AcceptorValue) (x y : LinkState)
     (before after lost : List ℕ) : Type 0 where
   pub outs : List Frame
@@ -27,7 +27,7 @@ GivesOr o x y before after (Ok r) =
 GivesOr o x y before after (Err e) =
     (h : Option AcceptorValue) → (lost : List ℕ) × GivesFrames o h x y before after lost
 
--- a session owes nothing of the book as it was met last; where there is no session, nothing is owed
+-- a session owes nothing of the book as the last act met it; without a session nothing is owed
 abbrev pub OwesNone : Owner → PassCounts → Option SessionValue → Type 0
 OwesNone o counts None = Unit {0}
 OwesNone o counts (Some s) = (b : BookValue) × IsMet o counts b × (owed s b ≡ None)

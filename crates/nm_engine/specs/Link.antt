@@ -8,9 +8,9 @@ use Rattle.nm_base.specs.declared.limits.TheConstants.{MAX_FRAME_OCTETS, MAX_OUT
 
 pub record LinkValue (W : Type 0) : Type 0 where
   pub wire : W
-  -- who awaits a session, where the peer connected
+  -- the acceptor that awaits a session, if the peer connected
   pub acceptor : Option AcceptorValue
-  -- None up to the peer's first frame, where the peer connected
+  -- None up to the peer's first frame, if the peer connected
   pub session : Option SessionValue
   -- the octets of a frame that has not come whole
   pub rest : List ℕ
@@ -18,14 +18,14 @@ pub record LinkValue (W : Type 0) : Type 0 where
   pub out : List ℕ
   pub failed : Bool
 
--- octets of a frame that has not come whole: they show no fault, and are fewer than its length
--- says, if they say its length at all
+-- octets of a frame that has not come whole: they show no fault, and are fewer than its length, if
+-- they have that
 pub record IsPart (rest : List ℕ) : Type 0 where
   pub none : fault_shown rest ≡ None
   pub short : length rest < 4 + stated_length rest
   pub most : length rest < MAX_FRAME_OCTETS
 
--- what a link keeps of octets has limits, whatever the peer sends and takes
+-- the octets that a link keeps are bounded, whatever the peer sends and takes
 pub record IsBounded (rest out : List ℕ) : Type 0 where
   pub part : IsPart rest
   pub out_most : length out ≤ MAX_OUT_OCTETS
@@ -35,7 +35,7 @@ abbrev pub has_greeted : Option SessionValue → Bool
 has_greeted None = false
 has_greeted (Some session) = is_some session.hello_taken
 
--- the peer has said Bye
+-- the peer has sent Bye
 abbrev pub bye_taken : Option SessionValue → Bool
 bye_taken None = false
 bye_taken (Some session) = session.bye_taken

@@ -1,4 +1,4 @@
--- What a link's session took and gave, step by step, and what was done with it.
+-- What a link's session took and gave, step by step, and what the book did with it.
 use Rattle.std.specs.Prelude.{◌≡◌, List, [], ◌∷◌, Option, Some, Ok, Err}
 use Rattle.nm_knowledge.specs.declared.answer.Accepted.{Accepted}
 use Rattle.nm_knowledge.specs.declared.answer.KnowFault.TheVariants.{Memory}
@@ -19,9 +19,10 @@ use Rattle.nm_shared.specs.Known.{news}
 use Rattle.nm_engine.specs.Acceptor.{AcceptorValue, taken_at}
 use Rattle.nm_engine.specs.Passes.{CountsMore, IsMet, LinkState, Owner, at}
 
--- Of a book of this owner, if counts are exact, by a pass.
+-- A pass acts on a book, which is this owner's if counts are exact.
 module _ (o : Owner) where
-  -- It took the message in. The pass had counted so much before, and counts it where it is new.
+  -- The book took the message in. The pass had counted `before`, and counts the message if it is
+  -- new.
   abbrev pub IsTold : (before after : PassCounts) → ChannelMessage → Type 0
   IsTold before after m = (b : BookValue) × (c : BookValue) × (a : Accepted)
       × IsMet o before b × Takes b c (message_channel m) (message_taken b.knows m) (Ok a)
@@ -38,15 +39,15 @@ module _ (o : Owner) where
   LacksMemory counts m = (b : BookValue) × (c : BookValue) × IsMet o counts b
       × Takes b c (message_channel m) (message_taken b.knows m) (Err (Known Memory))
 
-  -- what a frame was for was done
+  -- the book did what a frame is for
   abbrev pub IsServed : (before after : PassCounts) → Taken → Type 0
   IsServed before after Greeted = after ≡ before
   IsServed before after Cursor = after ≡ before
   IsServed before after (ForBook m) = IsTold before after m
   IsServed before after Ended = after ≡ before
 
-  -- Step by step: each frame taken is one that the session takes, and what it was for was done;
-  -- each frame given is what the session owes of the book as it then was.
+  -- Step by step: the session takes each frame taken, and the book did what it is for; each frame
+  -- given is what the session owes of the book as it then was.
   abbrev pub LinkLives : Option AcceptorValue → LinkState → List SessionStep → LinkState → Type 0
   LinkLives h x [] y = y ≡ x
   LinkLives h x (Took f ∷ r) y =

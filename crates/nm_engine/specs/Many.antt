@@ -10,7 +10,7 @@ use Rattle.nm_engine.specs.Lives.{LinkLives, frames_in, frames_out}
 use Rattle.nm_engine.specs.Passes.{ByPass, anyone, at, none_counted}
 use Rattle.nm_engine.specs.Turn.{Hears, Turns}
 
--- Turn by turn, or half of one in which the link only heard: each answer, and the link after it.
+-- Turn by turn, or half turn in which the link only read: each answer, and the link after it.
 -- Between turns the pass may count what others do.
 abbrev pub GoesOn : {W : Type 0} → (W → WireSeen) → LinkValue W → List (Turn × LinkValue W)
     → LinkValue W → Type 0
@@ -19,11 +19,10 @@ GoesOn seen old (p ∷ path) new =
     (by : ByPass) × (Turns seen by old p.1 p.0 ⊎ Hears seen by old p.1 p.0)
     × GoesOn seen p.1 path new
 
--- What came over all turns, with the octets held at first, are the octets of the frames that
--- were taken, and then the rest, which a link that has not failed holds. What went, and then
--- what is left, which it holds too, is what waited at first and the octets of the frames that
--- were given. So nothing that was taken over is lost, and nothing is made up. Which book took and
--- owed what, each turn says.
+-- Over all turns, the octets held at first and those received are the octets of the frames taken,
+-- and then the rest. The octets written, and then what is left, are the octets that waited at first
+-- and those of the frames given. A link that has not failed holds the rest and what is left. So
+-- nothing is lost, and nothing is made up. Each turn defines which book took and owed what.
 pub record Accounts {W : Type 0} (seen : W → WireSeen) (first last : LinkValue W) : Type 0 where
   pub steps : List SessionStep
   pub came : List ℕ
@@ -39,7 +38,7 @@ pub record Accounts {W : Type 0} (seen : W → WireSeen) (first last : LinkValue
   pub acceptor : last.acceptor ≡ first.acceptor
   pub whole : last.failed ≡ false → (rest ≡ last.rest) × (left ≡ last.out)
 
--- the number of the next message on channel c, which is none before there is a session
+-- the number of the next message on channel c; there is none before there is a session
 abbrev pub HasDue : ℕ → Option ℕ → Option SessionValue → Type 0
 HasDue c due None = due ≡ None
 HasDue c due (Some s) = HasCursor c due s.outgoing

@@ -1,4 +1,4 @@
--- What a session took of the frames that came, and why it took no more.
+-- Which of the received frames a session took, and why no more.
 use Rattle.std.specs.Prelude.{◌≡◌, ◌⊎◌, List, ◌∷◌, ◌++◌, map, Option, Some, None, Result, Ok, Err}
 use Rattle.nm_book.specs.declared.message.ChannelMessage.{ChannelMessage}
 use Rattle.nm_frames.specs.declared.frame.Frame.{Frame}
@@ -13,8 +13,8 @@ use Rattle.nm_engine.specs.Acceptor.{AcceptorValue, IsFromBelow, first_taken, ta
 use Rattle.nm_engine.specs.Lives.{IsRefused, IsServed, IsTold, LacksMemory, LinkLives}
 use Rattle.nm_engine.specs.Passes.{LinkState, Owner}
 
--- Of a book of this owner, if counts are exact, by a pass that had counted so much before and has
--- after it.
+-- A pass acts on a book, which is this owner's if counts are exact. It had counted `before`, and
+-- has counted `after`.
 module _ (o : Owner) where
   -- it took a message in, or why not
   abbrev pub Tells : (before after : PassCounts) → ChannelMessage → Result Unit Cause → Type 0
@@ -22,7 +22,7 @@ module _ (o : Owner) where
   Tells before after m (Err cause) = (after ≡ before)
       × (((cause ≡ Book) × IsRefused o before m) ⊎ ((cause ≡ Memory) × LacksMemory o before m))
 
-  -- it refuses what a frame is for
+  -- it refuses a frame's message or null message
   abbrev pub BookRefuses : PassCounts → Frame → Type 0
   BookRefuses counts f =
       (m : ChannelMessage) × (purpose f ≡ ForBook m) × IsRefused o counts m
@@ -42,8 +42,8 @@ abbrev pub SessionRefuses : Option AcceptorValue → Option SessionValue → Fra
 SessionRefuses h s f = (e : SessionFault) × (taken_at h s f ≡ Err e)
 
 module _ (o : Owner) (h : Option AcceptorValue) where
-  -- why a frame is not taken: the session refuses it, or the book refuses what it is for, or memory
-  -- is refused
+  -- why a frame is not taken: the session refuses it, the book refuses what it is for, or memory is
+  -- refused
   abbrev pub Stops : Cause → LinkState → Frame → Type 0
   Stops cause x f =
       ((cause ≡ BadSession) × SessionRefuses h x.session f)

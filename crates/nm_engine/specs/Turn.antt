@@ -18,7 +18,7 @@ use Rattle.nm_engine.specs.Passes.{ByPass, LinkState, at}
 use Rattle.nm_engine.specs.Reading.{ShowsFault}
 use Rattle.nm_engine.specs.Taking.{BookRefuses, RunsShort, SessionRefuses}
 
--- the faults of a wire that a cause tells of
+-- how many faults of the wire a cause stands for
 abbrev pub faults_of : Cause → ℕ
 faults_of End = 0
 faults_of Fault = 1
@@ -27,7 +27,7 @@ faults_of BadSession = 0
 faults_of Book = 0
 faults_of Memory = 0
 
--- both sides have said Bye, and nothing waits
+-- both ends have sent Bye, and nothing waits
 pub record HasEnded (session : Option SessionValue) (out : List ℕ) : Type 0 where
   pub last : SessionValue
   pub there : session ≡ Some last
@@ -39,11 +39,11 @@ pub record HasEnded (session : Option SessionValue) (out : List ℕ) : Type 0 wh
 abbrev pub answer_of : Bool → ℕ → Turn
 answer_of ended moved = if ended then Ended else if nat_lt 0 moved then Progress else Idle
 
--- What acts of a pass were done in it.
+-- The acts of the pass in the turn are `by`.
 module _ {W : Type 0} (seen : W → WireSeen) (by : ByPass) (old new : LinkValue W) where
-  -- What came, with the octets held before, are the octets of the frames that the session
-  -- took, and then the rest. What went, and then what is left, is what waited before and the
-  -- octets of the frames that the session gave once it had taken those.
+  -- The octets held before and those received are the octets of the frames that the session took,
+  -- and then the rest. The octets written, and then what is left, are those that waited before and
+  -- those of the frames that the session gave after that.
   pub record Moves (rest left : List ℕ) : Type 0 where
     pub was_whole : old.failed ≡ false
     pub came : List ℕ
@@ -60,10 +60,9 @@ module _ {W : Type 0} (seen : W → WireSeen) (by : ByPass) (old new : LinkValue
     pub sent : went ++ left ≡ old.out ++ stream_octets outs
     pub acceptor : new.acceptor ≡ old.acceptor
 
-  -- A turn that went well: the link holds the rest and what is left. The end of what the peer
-  -- sends was not found, unless its Bye was taken before. The rest is no whole frame, and
-  -- shows no fault. What stood in the buffer before the write is all that the session owed, or
-  -- enough.
+  -- A turn that went well: the link holds the rest and what is left. The end was not found, unless
+  -- the peer's Bye was taken before. The rest is no whole frame, and shows no fault. Before the
+  -- write the buffer had all that the session owed, or was full.
   pub record Went : Type 0 where
     pub moves : Moves new.rest new.out
     pub sound : (seen new.wire).failures ≡ (seen old.wire).failures
@@ -77,14 +76,14 @@ module _ {W : Type 0} (seen : W → WireSeen) (by : ByPass) (old new : LinkValue
   StopsAt Refuses rest =
       (f : Frame) × (more : List ℕ) × IsFrame f × (rest ≡ frame_octets f ++ more) × Refuses f
 
-  -- where a turn stopped to which memory was refused: at a frame that could not be taken for want
-  -- of it, before a frame of what came was taken, or once all whole frames were
+  -- where a turn stopped because memory was refused: at a frame that needed it, before any received
+  -- frame was taken, or once all whole frames were
   abbrev pub StopsShort : (taken : List Frame) → List ℕ → LinkState → Type 0
   StopsShort taken rest mid =
       StopsAt (RunsShort by.owner old.acceptor mid.session mid.counts) rest
       ⊎ (taken ≡ []) ⊎ IsPart rest
 
-  -- the reason of a cause, where these frames were taken, and then the rest was left
+  -- the reason of a cause, if these frames were taken and then the rest was left
   abbrev pub IsReason : Cause → (taken : List Frame) → List ℕ → LinkState → Type 0
   IsReason End taken rest mid =
       ((seen new.wire).ends ≡ (seen old.wire).ends + 1) × (bye_taken old.session ≡ false)
@@ -94,7 +93,7 @@ module _ {W : Type 0} (seen : W → WireSeen) (by : ByPass) (old new : LinkValue
   IsReason Book taken rest mid = StopsAt (BookRefuses by.owner mid.counts) rest
   IsReason Memory taken rest mid = StopsShort taken rest mid
 
-  -- a turn at which the link broke: the rest was not taken, and what is left has not gone
+  -- a turn in which the link broke: the rest was not taken, and what is left was not written
   pub record Breaks (cause : Cause) : Type 0 where
     pub rest : List ℕ
     pub left : List ℕ
@@ -103,7 +102,7 @@ module _ {W : Type 0} (seen : W → WireSeen) (by : ByPass) (old new : LinkValue
     pub faults : (seen new.wire).failures ≡ (seen old.wire).failures + faults_of cause
     pub over : new.failed ≡ true
 
-  -- a turn in which the link only heard: the session gave nothing, and nothing was written
+  -- a turn in which the link only read: the session gave nothing, and nothing was written
   pub record Heard : Type 0 where
     pub moves : Moves new.rest new.out
     pub none_given : moves.outs ≡ []
@@ -113,8 +112,8 @@ module _ {W : Type 0} (seen : W → WireSeen) (by : ByPass) (old new : LinkValue
     pub part : IsPart new.rest
     pub whole : new.failed ≡ false
 
-  -- what the answer says of a turn, or of half of one: it went well, with so many octets moved;
-  -- or the link broke, or had broken before
+  -- what an answer means of a turn or half of one: it went well, with so many octets moved; or the
+  -- link broke, or had broken before
   abbrev pub Says : (Well : Type 0) → (Well → ℕ) → Turn → Type 0
   Says Well moved Progress = (w : Well) × (0 < moved w) × (HasEnded new.session new.out → ⊥)
   Says Well moved Idle = (w : Well) × (moved w ≡ 0) × (HasEnded new.session new.out → ⊥)
@@ -147,7 +146,7 @@ module _ {W : Type 0} (seen : W → WireSeen) (by : ByPass) (old new : Parts W) 
   OrBreaks Fine (Err cause) =
       Breaks seen by (link_of old false) (link_of new true) cause
 
-  -- the link heard, and so many octets came
+  -- the link read, and received so many octets
   abbrev pub TakesIn : Result ℕ Cause → Type 0
   TakesIn result = OrBreaks
       (λ n. (h : Heard seen by (link_of old false) (link_of new false))

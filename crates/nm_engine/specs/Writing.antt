@@ -1,11 +1,11 @@
--- What one write of a link came to.
+-- The result of one write of a link.
 use Rattle.std.specs.Prelude.{◌≡◌, ℕ, ◌+◌, List, ◌++◌, length, Result, Ok, Err}
 use Rattle.nm_base.specs.Wire.{WireSeen}
 use Rattle.nm_engine.specs.declared.answer.Cause.{Cause}
 use Rattle.nm_engine.specs.declared.answer.Cause.TheVariants.{Fault}
 
 module _ (old new : WireSeen) (before after : List ℕ) where
-  -- these octets went from the front of the buffer
+  -- these octets were written from the front of the buffer
   pub record Leaves : Type 0 where
     pub went : List ℕ
     pub went_out : new.taken ≡ old.taken ++ went

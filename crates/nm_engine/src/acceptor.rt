@@ -1,4 +1,4 @@
-//! Links that peers connect: the first frame says with whom the session is.
+//! Links that peers connect: the first frame names the peer of the session.
 
 ghost use Rattle.std.specs.Prelude.{◌≡◌};
 ghost use Rattle.std.specs.Arc.{arc_value};
@@ -12,7 +12,7 @@ use std::alloc::Global;
 use std::marker::Model;
 use std::sync::Arc;
 
-/// A replica that peers connect to, and which learns by their first frame who they are.
+/// A replica to which peers connect, and which learns from their first frame who they are.
 #[derive(Drop)]
 pub struct Acceptor {
     topology: Arc<Topology>,
@@ -34,7 +34,7 @@ impl Model for Acceptor {
 }
 
 impl Acceptor {
-    /// This replica of partition `me`.
+    /// Replica `replica` of partition `me`.
     pub fn new(topology: Arc<Topology>, me: PartNo, replica: u8) -> Self
         ensures { result ≡ record {
           topology = arc_value topology;
@@ -54,8 +54,8 @@ impl Acceptor {
     ///
     /// # Errors
     ///
-    /// `Session` where the frame is no such Hello, or the session refuses it. `Memory` where memory
-    /// was refused.
+    /// `Session` if the frame is no such Hello, or the session refuses it; `Memory` if memory was
+    /// refused.
     pub(crate) fn greet(&self, alloc: Global, frame: Frame) -> Result<Session, Cause>
         ensures { Greets self.now frame result }
     {

@@ -1,4 +1,4 @@
-//! What a link does with a shared book in one go.
+//! What a link does with a shared book in one act.
 
 ghost use Rattle.std.specs.Prelude.{◌≡◌, IfOk, OnErr, Some};
 ghost use Rattle.nm_frames.specs.Owed.{given_maybe, owed};
@@ -9,8 +9,7 @@ use nm_frames::{Frame, Session};
 use nm_shared::Act;
 use std::alloc::AllocError;
 
-/// `Session::next_out`: asks a session for the frame that it owes next. The session goes in and
-/// comes back.
+/// `Session::next_out`: asks a session for the frame that it owes next. The answer has the session.
 #[derive(Drop)]
 pub struct NextOut {
     pub session: Session,

@@ -1,4 +1,4 @@
-//! What a turn of a link answers.
+//! The answers of a link's turn.
 
 ghost use Rattle.std.specs.Prelude.{◌≡◌};
 ghost use Rattle.nm_engine.specs.declared.answer.Cause.TheVariants.{Memory};
@@ -8,11 +8,11 @@ use std::alloc::AllocError;
 /// Why a link broke.
 #[derive(Clone, Copy, Debug, PartialEq, Eq)]
 pub enum Cause {
-    /// The peer sends no more, and has not said Bye.
+    /// The peer sends no more, and has not sent Bye.
     End,
-    /// The wire failed in this turn.
+    /// The wire failed.
     Fault,
-    /// What came is no frame.
+    /// The received octets are no frame.
     Frame,
     /// The session refused a frame, or the first frame of a link that the peer connected makes no
     /// session.
@@ -31,17 +31,17 @@ impl From<AllocError> for Cause {
     }
 }
 
-/// What a turn came to.
+/// The answer of a turn.
 #[derive(Clone, Copy, Debug, PartialEq, Eq)]
 pub enum Turn {
-    /// Octets came or went.
+    /// Octets were received or written.
     Progress,
-    /// None did.
+    /// No octets were.
     Idle,
-    /// Both sides have said Bye, and all octets have gone.
+    /// Both ends have sent Bye, and all octets are written.
     Ended,
-    /// The link broke in this turn. It has failed from now on. Messages that it took in before
-    /// stay with the book.
+    /// The link broke in this turn, and stays failed. Messages that were taken in before stay in
+    /// the book.
     Broken(Cause),
     /// The link broke in an earlier turn. Nothing was done.
     Failed,

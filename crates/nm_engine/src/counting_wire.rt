@@ -1,4 +1,4 @@
-//! A wire that counts what moves on it, and is read only where something may have come.
+//! A wire that counts its octets, and is read only if there may be something to read.
 
 ghost use Rattle.std.specs.Prelude.{◌≡◌, ◌+◌, ◌<◌, false, length, nat_lt, true};
 ghost use Rattle.nm_base.specs.Count.{saturated};
@@ -10,17 +10,17 @@ use nm_base::Wire;
 use nm_base::wire::{Read, Written};
 use std::marker::Model;
 
-/// A wire, and how many octets moved on it both ways, which stops at the greatest `u64`. A read
-/// asks the wire only where something may have come: at first, and once it was reported, up to the
-/// read that finds no more. So a connection on which nothing comes costs no call of the system.
+/// A wire, and how many octets moved on it both ways; counts stop at the greatest `u64`. A read
+/// asks the wire only if there may be something to read: at first, and after a report, up to the
+/// read that finds no more. So an idle connection costs no call of the system.
 #[derive(Drop)]
 pub struct CountingWire<W> {
     wire: W,
-    /// How many octets came.
+    /// How many octets were received.
     came: u64,
     /// How many octets were written.
     written: u64,
-    /// Something may have come.
+    /// There may be something to read.
     is_ready: bool,
     /// A read found the end.
     has_ended: bool,
@@ -67,7 +67,7 @@ impl<W> CountingWire<W> {
         self.came.saturating_add(self.written)
     }
 
-    /// How many of them came.
+    /// How many of them were received.
     pub fn came(&self) -> u64
         ensures { result ≡ self.now.came }
     {
@@ -88,14 +88,14 @@ impl<W> CountingWire<W> {
         self.has_ended
     }
 
-    /// Whether something may have come.
+    /// Whether there may be something to read.
     pub fn is_ready(&self) -> bool
         ensures { result ≡ self.now.is_ready }
     {
         self.is_ready
     }
 
-    /// Something may have come.
+    /// There may be something to read.
     pub fn report(&mut self)
         ensures { self.new ≡ reported self.old }
     {
@@ -109,8 +109,8 @@ impl<W> CountingWire<W> {
         self.wire
     }
 
-    /// Notes what a read of the wire came to: how many octets, or that the other side sends no
-    /// more. Where none came the wire is asked again once it is reported.
+    /// Notes the answer of a read: how many octets, or that the peer sends no more. If it found
+    /// none, the wire is read again after the next report.
     fn note(&mut self, read: Read)
         ensures { self.new ≡ noted self.old read }
     {
@@ -135,7 +135,7 @@ impl<W> CountingWire<W> {
 }
 
 impl<W: Wire> CountingWire<W> {
-    /// Reads what came next, where something may have, and notes what the read came to.
+    /// Reads, if there may be something to read, and notes the answer.
     fn read_noted(&mut self, buffer: &mut [u8]) -> Read
         requires { 0 < length buffer.old }
         ensures noted { self.new ≡ record (noted self.old result) { wire = self.new.wire } }
@@ -161,7 +161,7 @@ impl<W: Wire> Wire for CountingWire<W> {
         ensures reads { ReadDoes (W.seen self.old.wire) (W.seen self.new.wire) result buffer.new }
         ensures keeps { (W.seen self.new.wire).taken ≡ (W.seen self.old.wire).taken }
 
-        // What it came to is noted.
+        // The answer is noted.
         ensures noted { self.new ≡ record (noted self.old result) { wire = self.new.wire } }
     {
         self.read_noted(buffer)

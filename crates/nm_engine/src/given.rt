@@ -1,5 +1,5 @@
-//! What a link has given to its peer, as far as its buffer: counted, where that is asked for. No
-//! answer of a link hangs on it.
+//! What a link has put into its buffer for the peer, if that is to be counted. It affects no answer
+//! of a link.
 
 ghost use Rattle.std.specs.Prelude.{◌+◌, ◌-◌, ◌≡◌};
 ghost use Rattle.nm_base.specs.Count.{saturated};
@@ -24,7 +24,7 @@ impl GivenCounts {
         nulls: 0,
     };
 
-    /// What these are more than others.
+    /// By how much these exceed others.
     pub fn since(self, before: GivenCounts) -> GivenCounts
         ensures { (result.messages ≡ self.messages - before.messages)
             × (result.nulls ≡ self.nulls - before.nulls) }
@@ -35,7 +35,7 @@ impl GivenCounts {
         }
     }
 
-    /// These and others.
+    /// The sum of these and others.
     pub fn with(self, other: GivenCounts) -> GivenCounts
         ensures { (result.messages ≡ saturated (self.messages + other.messages))
             × (result.nulls ≡ saturated (self.nulls + other.nulls)) }
@@ -56,7 +56,7 @@ pub struct MessageRange {
     pub next: u64,
 }
 
-/// A range with another of the same channel: all that either has, and what is between.
+/// The least range that holds both of these, which are of the same channel.
 fn widened(range: MessageRange, more: MessageRange) -> MessageRange
     ensures { result ≡ widened range more }
 {
@@ -67,7 +67,7 @@ fn widened(range: MessageRange, more: MessageRange) -> MessageRange
     }
 }
 
-/// How many messages both have.
+/// How many messages both ranges have.
 fn common_count(range: &MessageRange, other: &MessageRange) -> u64
     ensures { result ≡ common_of range.now other.now }
 {
@@ -78,7 +78,7 @@ fn common_count(range: &MessageRange, other: &MessageRange) -> u64
     next.saturating_sub(range.first.max(other.first))
 }
 
-/// How many a range and others have both, up to 2^64 - 1.
+/// How many messages a range has in common with others, up to 2^64 - 1.
 #[tactic(auto, using(std::proofs::lemmas::List::Sums::sum_by_more))]
 fn common_count_with(range: &MessageRange, others: &[MessageRange]) -> u64
     ensures { result ≡ saturated (common_with range.now others.now) }
@@ -90,8 +90,8 @@ fn common_count_with(range: &MessageRange, others: &[MessageRange]) -> u64
     count
 }
 
-/// Which messages were given by one link, or by all those to one replica, by channel. Where memory
-/// was refused some are not noted.
+/// Which messages were given by one link, or by all links to one replica, by channel. If memory was
+/// refused, some are not noted.
 #[derive(Drop)]
 pub struct GivenMessages {
     pub ranges: Vec<MessageRange>,
@@ -105,7 +105,7 @@ impl GivenMessages {
         }
     }
 
-    /// Where the range of a channel is, if there is one.
+    /// The place of a channel's range, if there is one.
     fn place_of(&self, channel: ChanNo) -> Option<usize>
         ensures { result ≡ place_of channel self.now.ranges.items }
     {
@@ -114,8 +114,8 @@ impl GivenMessages {
             .position(|range| range.channel == channel)
     }
 
-    /// The messages of a channel in this range were given. Those between them and others of the
-    /// channel count too: the peer had them from elsewhere.
+    /// The messages in this range were given. Those between it and the channel's other messages
+    /// count too: the peer got them from elsewhere.
     fn note_range(&mut self, more: MessageRange)
         ensures { NotesRange self.old.ranges.items self.new.ranges.items more }
     {
@@ -142,7 +142,7 @@ impl GivenMessages {
         });
     }
 
-    /// What another link to the same replica gave, too.
+    /// Adds what another link to the same replica gave.
     pub fn merge(&mut self, other: &GivenMessages)
         ensures { NotesAll self.old.ranges.items self.new.ranges.items other.now.ranges.items }
     {
@@ -151,7 +151,7 @@ impl GivenMessages {
         }
     }
 
-    /// How many messages both have, up to 2^64 - 1.
+    /// How many messages both have in common, up to 2^64 - 1.
     #[tactic(auto, using(std::proofs::lemmas::List::Sums::sum_by_more))]
     pub fn common_count(&self, other: &GivenMessages) -> u64
         ensures { result

@@ -12,7 +12,8 @@ use nm_shared::{Counts, Pass, SharedBook};
 use std::alloc::AllocError;
 use std::sync::Wait;
 
-/// Puts the frame that the session owes next at the end of the buffer. Whether there was one.
+/// Puts the frame that the session owes next at the end of the buffer. Answers whether there was
+/// one.
 fn give_one<C: Counts, R: Wait>(
     rt: &R,
     session: &mut Option<Session>,

@@ -22,18 +22,17 @@ ghost use Rattle.nm_frames.specs.Lives.{AreConsecutive, SessionStep, Took, due_a
 ghost use Rattle.nm_frames.specs.Session.{SessionValue};
 ghost use Rattle.nm_knowledge.specs.declared.answer.Accepted.{Accepted};
 
-/// Over any number of turns and halves of turns, whatever they answered, nothing that was taken
-/// over is lost and nothing is made up: the octets that came are those of the frames that were
-/// taken and a rest, and those that went begin the octets of the frames that were given.
+/// Over any number of turns and half turns, whatever they answered, nothing is lost and nothing is
+/// made up: the octets received are those of the frames taken and a rest, and the octets written
+/// begin those of the frames given.
 pub fn nothing_is_lost<W>()
     ensures { (seen : W → WireSeen) (first last : LinkValue W)
         (path : List (Turn × LinkValue W)) → GoesOn seen first path last
         → Accounts seen first last }
 {}
 
-/// Over any steps of a link's session, each message that is given on a channel has the number that
-/// is due there: that of the session's cursor or of the peer's last Have, and then one more each
-/// time.
+/// Over any steps of a link's session, each message given on a channel has the number that is due:
+/// that of the session's cursor or of the peer's last Have, and then one more each time.
 pub fn messages_are_consecutive()
     ensures { (o : Owner) (h : Option AcceptorValue) (x y : LinkState)
         (steps : List SessionStep) (c : ℕ) (due : Option ℕ) → HasDue c due x.session
@@ -41,9 +40,9 @@ pub fn messages_are_consecutive()
         → AreConsecutive c due steps × HasDue c (due_after c due steps) y.session }
 {}
 
-/// What turns leave. After one that answers `Ended` all octets are out, and both sides have said
-/// Bye. One that went well read at most 65,536 octets, and held frames back only where 131,072
-/// octets or more stood in the buffer before it wrote.
+/// What turns leave. After `Ended` all octets are written, and both ends have sent Bye. A turn that
+/// went well read at most 65,536 octets, and held frames back only if the buffer had 131,072 octets
+/// or more before the write.
 pub fn what_turns_leave<W>()
     ensures ended { (seen : W → WireSeen) (by : ByPass) (old new : LinkValue W)
         → Turns seen by old new Ended → (new.out ≡ []) × (s : SessionValue) × (new.session ≡ Some s)
@@ -58,8 +57,8 @@ pub fn what_turns_leave<W>()
         → OwesNone by.owner by.after new.session }
 {}
 
-/// Each message and each null message that a link's session took was taken in by a book, which is
-/// that of the pass's replica where counts are exact, and had no less than the pass had counted.
+/// A book took in each message and each null message that a link's session took. It had no less
+/// than the pass had counted, and is that of the pass's replica if counts are exact.
 pub fn what_is_taken_is_told()
     ensures message { (o : Owner) (h : Option AcceptorValue) (x y : LinkState)
         (steps : List SessionStep) (d : DataValue) → LinkLives o h x (Took (Data d) ∷ steps) y

@@ -21,8 +21,7 @@ use std::alloc::Global;
 use std::marker::Model;
 use std::sync::Wait;
 
-/// A session over a wire. It has no session before the peer's first frame, where the peer
-/// connected.
+/// A session over a wire. If the peer connected, there is no session before its first frame.
 #[derive(Drop)]
 pub struct Link<W> {
     parts: Parts<W>,
@@ -48,7 +47,7 @@ impl<W> Model for Link<W> {
         × (l.failed ≡ false → l.parts.reader.failed ≡ false) };
 }
 
-/// A link over which nothing has come or gone.
+/// A link on which no octets have moved.
 fn begun<W>(alloc: Global, wire: W, party: Party) -> Link<W>
     ensures { result ≡ record {
       wire = wire;
@@ -71,7 +70,7 @@ fn begun<W>(alloc: Global, wire: W, party: Party) -> Link<W>
 }
 
 impl<W> Link<W> {
-    /// A link over a wire that was connected to a peer, with the session with that peer.
+    /// A link over a wire that was connected to a peer, with its session.
     pub fn connected(alloc: Global, wire: W, session: Session) -> Self
         ensures { result ≡ record {
           wire = wire;
@@ -89,7 +88,7 @@ impl<W> Link<W> {
         begun(alloc, wire, party)
     }
 
-    /// A link over a wire that a peer connected, which says who it is by its first frame.
+    /// A link over a wire that a peer connected; the first frame names that peer.
     pub fn accepted(alloc: Global, wire: W, acceptor: Acceptor) -> Self
         ensures { result ≡ record {
           wire = wire;
@@ -121,13 +120,13 @@ impl<W> Link<W> {
         self.parts.out.count_given(alloc);
     }
 
-    /// What it has given, where that is counted: the frames that its buffer took, though the wire
-    /// may not have taken all.
+    /// What it has given, if that is counted: the frames put into its buffer, of which the wire may
+    /// not have taken all.
     pub fn given(&self) -> Option<&Given> {
         self.parts.out.given()
     }
 
-    /// The same. Nothing is counted any more.
+    /// The same, and ends the count.
     pub fn take_given(&mut self) -> Option<Given>
         ensures { self.new ≡ self.old }
     {
@@ -154,8 +153,8 @@ impl<W> Link<W> {
         }
     }
 
-    /// The wire and the session, if there is one. What waited in the buffer is let go. It takes no
-    /// memory.
+    /// The wire, and the session if there is one. Octets that wait in the buffer are lost. It takes
+    /// no memory.
     pub fn back(self) -> (W, Option<Session>)
         ensures { (result.0 ≡ self.wire) × (result.1 ≡ self.session) }
     {
@@ -171,7 +170,7 @@ impl<W> Link<W> {
 }
 
 impl<W> Link<CountingWire<W>> {
-    /// Something may have come on its wire.
+    /// There may be something to read on its wire.
     pub fn report(&mut self)
         ensures { self.new ≡ record self.old { wire = reported self.old.wire } }
     {
@@ -180,9 +179,9 @@ impl<W> Link<CountingWire<W>> {
 }
 
 impl<W: Wire> Link<W> {
-    /// The first half of a turn: reads at most 65,536 octets once and takes the frames that came
-    /// whole. Nothing is given or written, so that what is owed may first grow by what the book
-    /// does with them.
+    /// The first half of a turn: reads at most 65,536 octets once and takes the frames that are
+    /// whole. Nothing is given or written, so that the book may first run with them, and more be
+    /// owed.
     pub fn hear<C: Counts, R: Wait>(
         &mut self,
         rt: &R,
@@ -207,10 +206,10 @@ impl<W: Wire> Link<W> {
         }
     }
 
-    /// Reads at most 65,536 octets once and takes the frames that came whole; then puts the frames
+    /// Reads at most 65,536 octets once and takes the frames that are whole; then puts the frames
     /// that the session owes into the buffer, until it has 131,072 octets or more; then writes
-    /// once. What the frames were for is told the book, which has no less than the pass has
-    /// counted, and a message that is new to it is counted by the pass.
+    /// once. The book takes in the messages and null messages, and has no less than the pass has
+    /// counted; the pass counts each message that is new to the book.
     pub fn turn<C: Counts, R: Wait>(
         &mut self,
         rt: &R,

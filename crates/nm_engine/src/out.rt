@@ -1,4 +1,4 @@
-//! What a link has for its wire.
+//! The octets that a link has for its wire.
 
 ghost use Rattle.std.specs.Prelude.{◌≡◌, ◌≤◌, ◌==◌, ◌++◌, [], None, OnErr, OnOk, Some, drop, length};
 ghost use Rattle.std.specs.Option.{option_map};
@@ -10,14 +10,14 @@ use nm_frames::{Frame, write_frame};
 use std::alloc::{AllocError, Global};
 use std::marker::Model;
 
-/// The octets that a wire has not taken. Those that went are passed over, and are moved out once
-/// they are as many as those that wait, so that no octet is moved for each write.
+/// The octets that a wire has not taken. Written octets are skipped, and removed once they are as
+/// many as those that wait, so that not every write moves octets.
 #[derive(Drop)]
 pub(crate) struct OutBuffer {
     octets: Vec<u8>,
-    /// How many octets at the front went.
+    /// How many octets at the front are written.
     gone: usize,
-    /// The frames that were put here, where they are counted.
+    /// The frames that were put here, if they are counted.
     given: Option<Given>,
 }
 
@@ -57,14 +57,14 @@ impl OutBuffer {
         self.given = Some(Given::new(alloc));
     }
 
-    /// The frames that were put here, where they are counted.
+    /// The frames that were put here, if they are counted.
     pub(crate) fn given(&self) -> Option<&Given>
         ensures { option_map (λ g. g.now.counts) result ≡ self.now.given }
     {
         self.given.as_ref()
     }
 
-    /// The same. None are counted any more.
+    /// The same, and ends the count.
     pub(crate) fn take_given(&mut self) -> Option<Given>
         ensures given { option_map (λ g. g.counts) result ≡ self.old.given }
         ensures left { self.new ≡ record self.old { given = None } }
@@ -79,7 +79,7 @@ impl OutBuffer {
         self.octets.len() - self.gone
     }
 
-    /// Whether none waits.
+    /// Whether no octet waits.
     pub(crate) fn is_empty(&self) -> bool
         ensures { result ≡ (length self.now.items == 0) }
     {
@@ -97,7 +97,7 @@ impl OutBuffer {
     ///
     /// # Errors
     ///
-    /// `AllocError` where memory was refused. The same octets wait then.
+    /// `AllocError` if memory was refused. The same octets wait then.
     pub(crate) fn put(&mut self, frame: &Frame) -> Result<(), AllocError>
         ensures ok { OnOk result (self.new.items ≡ self.old.items ++ frame_octets frame.now) }
         ensures fits { IsFrame frame.now }
@@ -112,7 +112,7 @@ impl OutBuffer {
         Ok(())
     }
 
-    /// So many octets at the front went.
+    /// So many octets at the front were written.
     pub(crate) fn advance(&mut self, count: usize)
         requires { count ≤ length self.old.items }
         ensures { self.new ≡ record self.old { items = drop count self.old.items } }

@@ -4,7 +4,8 @@ use crate::acceptor::Acceptor;
 use crate::out::OutBuffer;
 use nm_frames::{Reader, Session};
 
-/// Who speaks at this side: a session; before it, where the peer connected, who awaits one.
+/// This end of a link: a session, or before it, if the peer connected, the acceptor that awaits
+/// one.
 #[derive(Drop)]
 pub(crate) struct Party {
     pub(crate) acceptor: Option<Acceptor>,

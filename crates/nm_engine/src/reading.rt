@@ -12,7 +12,7 @@ use nm_base::wire::Read;
 use nm_frames::{Frame, FrameFault, Reader};
 use std::alloc::{AllocError, Global};
 
-/// Where octets stand between a wire and a reader. One serves all links of a thread.
+/// The octets between a wire and a reader. One buffer serves all links of a thread.
 #[derive(Drop)]
 pub struct ReadBuffer {
     pub(crate) octets: Vec<u8>,
@@ -24,7 +24,7 @@ impl ReadBuffer {
     ///
     /// # Errors
     ///
-    /// Where memory was refused.
+    /// If memory was refused.
     pub fn new(alloc: Global) -> Result<Self, AllocError> {
         Ok(ReadBuffer {
             octets: vec![in alloc; 0u8; MAX_READ_OCTETS]?,
@@ -32,7 +32,7 @@ impl ReadBuffer {
     }
 }
 
-/// Hands octets that came to the reader, and puts the frames that are whole now into a list.
+/// Feeds received octets to the reader, and puts the frames that are whole now into a list.
 #[tactic(auto, using(crate::proofs::Readings::short_part))]
 fn feed(
     alloc: Global,
@@ -56,8 +56,8 @@ fn feed(
     }
 }
 
-/// Reads once into the front of a list of octets, and puts the frames that came whole into a list.
-/// How many octets came.
+/// Reads once into the front of a list of octets, and puts the frames that are whole into a list.
+/// Answers how many octets were received.
 pub(crate) fn read_in<W: Wire>(
     alloc: Global,
     wire: &mut W,
@@ -66,13 +66,13 @@ pub(crate) fn read_in<W: Wire>(
     octets: &mut [u8],
     frames: &mut Vec<Frame>,
 ) -> Result<usize, Cause>
-    // The buffer has its size, no fault was read, and frames were taken.
+    // The buffer has its size, no fault was read, and earlier frames were taken.
     requires size { length octets.old ≡ MAX_READ_OCTETS }
     requires sound { reader.old.failed ≡ false }
     requires none { frames.old.items ≡ [] }
     requires part { IsPart reader.old.rest }
 
-    // What the wire gave is frames and the part of one that is kept.
+    // The octets received are those of frames and the part of one that is kept.
     ensures reads { Reads (W.seen wire.old) (W.seen wire.new) may_end reader.old reader.new
         (frames.new.items, result) }
     ensures part { IsPart reader.new.rest }

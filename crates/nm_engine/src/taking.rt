@@ -1,4 +1,4 @@
-//! What a link does with the frames that came.
+//! What a link does with the frames that it received.
 
 ghost use Rattle.std.specs.Prelude.{◌≡◌, Option, Some};
 ghost use Rattle.std.specs.List.{AllByRecursion};
@@ -16,7 +16,7 @@ use nm_shared::{Counts, Pass, SharedBook};
 use std::alloc::Global;
 use std::sync::Wait;
 
-/// Hands a message to the book. The pass counts it where it is new.
+/// The book takes in a message. The pass counts it if it is new.
 fn tell<C: Counts, R: Wait>(
     rt: &R,
     book: &SharedBook<C>,
@@ -34,7 +34,7 @@ fn tell<C: Counts, R: Wait>(
     }
 }
 
-/// Hands a frame to the session, and what it is for to the book.
+/// The session takes a frame, and the book its message or null message.
 fn take_later<C: Counts, R: Wait>(
     rt: &R,
     session: &mut Session,
@@ -54,7 +54,7 @@ fn take_later<C: Counts, R: Wait>(
     }
 }
 
-/// Takes a frame: the first makes the session, where the peer connected.
+/// Takes a frame. The first one makes the session, if the peer connected.
 fn take_one<C: Counts, R: Wait>(
     rt: &R,
     alloc: Global,

@@ -18,7 +18,7 @@ use nm_shared::{Counts, Pass, SharedBook};
 use std::alloc::Global;
 use std::sync::Wait;
 
-/// Whether the peer has said Bye.
+/// Whether the peer has sent Bye.
 fn bye_taken(session: &Option<Session>) -> bool
     ensures { result ≡ bye_taken session.now }
 {
@@ -28,7 +28,7 @@ fn bye_taken(session: &Option<Session>) -> bool
     }
 }
 
-/// Whether both sides have said Bye and nothing waits.
+/// Whether both ends have sent Bye and nothing waits.
 fn has_ended(session: &Option<Session>, out: &OutBuffer) -> bool
     ensures ended { result ≡ true → HasEnded session.now out.now.items }
     ensures only { HasEnded session.now out.now.items → result ≡ true }
@@ -39,7 +39,7 @@ fn has_ended(session: &Option<Session>, out: &OutBuffer) -> bool
     }
 }
 
-/// What a turn answers in which so many octets moved.
+/// The answer of a turn in which so many octets moved.
 fn answer(ended: bool, moved: usize) -> Turn
     ensures { result ≡ answer_of ended moved }
 {
@@ -52,7 +52,8 @@ fn answer(ended: bool, moved: usize) -> Turn
     }
 }
 
-/// Reads once, and takes the frames that came. Nothing is given or written. How many octets came.
+/// Reads once, and takes the frames. Nothing is given or written. Answers how many octets were
+/// received.
 fn take_in<W: Wire, C: Counts, R: Wait>(
     rt: &R,
     alloc: Global,
@@ -82,7 +83,7 @@ fn take_in<W: Wire, C: Counts, R: Wait>(
     read
 }
 
-/// Reads once, and takes the frames that came. Nothing is given or written.
+/// Reads once, and takes the frames. Nothing is given or written.
 pub(crate) fn listen<W: Wire, C: Counts, R: Wait>(
     rt: &R,
     alloc: Global,
@@ -102,8 +103,7 @@ pub(crate) fn listen<W: Wire, C: Counts, R: Wait>(
     Ok(answer(has_ended(&parts.party.session, &parts.out), came))
 }
 
-/// Reads once, takes the frames that came, puts the frames that are owed into the buffer, and
-/// writes once.
+/// Reads once, takes the frames, puts the frames that are owed into the buffer, and writes once.
 pub(crate) fn work<W: Wire, C: Counts, R: Wait>(
     rt: &R,
     alloc: Global,

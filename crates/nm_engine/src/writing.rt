@@ -8,7 +8,7 @@ use crate::out::OutBuffer;
 use nm_base::Wire;
 use nm_base::wire::Written;
 
-/// Writes once from the front of the buffer. How many octets went.
+/// Writes once from the front of the buffer. Answers how many octets the wire took.
 pub(crate) fn write_out<W: Wire>(wire: &mut W, out: &mut OutBuffer) -> Result<usize, Cause>
     ensures writes { Writes (W.seen wire.old) (W.seen wire.new) out.old.items out.new.items result }
     ensures keeps { ((W.seen wire.new).given ≡ (W.seen wire.old).given)

@@ -1,5 +1,5 @@
--- How many packets came to an interface and how many it transmitted, with their octets, and how many
--- were dropped at its queue.
+-- How many packets arrived at an interface and how many it transmitted, with their octets, and how
+-- many were dropped at its queue.
 use Rattle.std.specs.Prelude.{◌≡◌, ℕ, ◌+◌, ◌==◌, ◌&&◌, Bool, true, false, not, if◌then◌else◌, List, length, sum_by, slice_get, Some}
 use Rattle.nm_base.specs.Count.{saturated}
 use Rattle.nm_base.specs.declared.record.Dir.{Dir}

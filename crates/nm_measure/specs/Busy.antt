@@ -16,7 +16,7 @@ last_of x [] = x
 last_of x (y ∷ ys) = last_of y ys
 
 module _ {P N : Type 0} (net : Net P N) (i : ℕ) where
-  -- how much of a transmission of interface i is before a time: when it starts, and of which packet
+  -- how much of a transmission of interface i is before a time; it has a start and a packet
   abbrev pub part_before : ℕ → ℕ × P → ℕ
   part_before time start = min (net.tx i start.1) (time - start.0)
 
@@ -25,7 +25,7 @@ module _ {P N : Type 0} (net : Net P N) (i : ℕ) where
   busy_before time records = sum_by (part_before time) (passed Out i records)
 
   -- the share of the time from the start of the first packet to that of the last in which it
-  -- transmits; there is none where that is no time
+  -- transmits; there is none if no time is between
   abbrev pub share_of : List (ℕ × P) → Option ℕ
   share_of [] = None
   share_of (first ∷ starts) =

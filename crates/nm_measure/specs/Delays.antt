@@ -1,4 +1,4 @@
--- The least of delays as they come, one after another.
+-- The least of delays that are added one after another.
 use Rattle.std.specs.Prelude.{ℕ, suc, zero, min}
 
 -- the least of so many delays, with one delay more

@@ -4,8 +4,7 @@ use Rattle.nm_measure.specs.declared.flow_counts.FlowCounts.{FlowCounts}
 use Rattle.nm_measure.specs.declared.flow_counts.PacketOutcome.{PacketOutcome}
 use Rattle.nm_measure.specs.declared.flow_counts.PacketOutcome.TheVariants.{Delivered, Refused, Dropped, Discarded}
 
--- each packet that a source handed over was delivered, refused, dropped or discarded, or is
--- under way
+-- each packet that a source made was delivered, refused, dropped or discarded, or is under way
 abbrev pub Balances : FlowCounts → Type 0
 Balances f = f.sent ≡ f.delivered + f.refused + f.dropped + f.discarded + f.under_way
 
@@ -13,7 +12,7 @@ Balances f = f.sent ≡ f.delivered + f.refused + f.dropped + f.discarded + f.un
 abbrev pub counts_of : FlowCounts → List ℕ
 counts_of f = f.sent ∷ f.delivered ∷ f.refused ∷ f.dropped ∷ f.discarded ∷ f.under_way ∷ []
 
--- one that was under way ended so, and all others are as they were
+-- a packet that was under way ended so, and nothing else changed
 abbrev pub Ends : PacketOutcome → FlowCounts → FlowCounts → Type 0
 Ends Delivered f g = counts_of g
     ≡ f.sent ∷ (f.delivered + 1) ∷ f.refused ∷ f.dropped ∷ f.discarded ∷ (f.under_way - 1) ∷ []

@@ -22,7 +22,7 @@ use Rattle.nm_measure.specs.Seen.{IsSeen}
 use Rattle.nm_measure.specs.Usage.{span_after}
 use Rattle.nm_measure.specs.Waiting.{queue_later, waits_of}
 
--- of each interface after n events, the most that waited of late being those since `first` of them
+-- of each interface after n events; the most that waited recently count since `first` events
 pub record AreSeen (t : TopologyValue) (first n : ℕ) (all : List Seen) : Type 0 where
   pub since : first ≤ n
   pub count : length all ≡ length t.ifaces
@@ -34,7 +34,7 @@ abbrev pub AreOwn : TopologyValue → List (List ℕ) → Type 0
 AreOwn t own = (i : ℕ) → i < length t.ifaces → (l : List ℕ)
     × (slice_get own ((net_of t).owner i) ≡ Some l) × (k : ℕ) × (slice_get l k ≡ Some i)
 
--- what waits at a port, and was dropped there
+-- what waits at a port, and how many were dropped there
 abbrev pub waits_at : Port (List ℕ) → Waits
 waits_at port = record {
   packets = in_packets (waiting_of port.busy);
@@ -81,7 +81,7 @@ abbrev pub IsTurn : TopologyValue → ℕ → Option ℕ → Type 0
 IsTurn t n turned = (i : ℕ) → i < length t.ifaces → turned ≢ Some i
     → queue_in i (one_list (net_of t) (suc n)) ≡ queue_in i (one_list (net_of t) n)
 
--- one of a list changes so, and the others stay
+-- one element of a list changes so, and the others stay
 pub record OneChanges (k : ℕ) (Changes : Seen → Seen → Type 0) (old new : List Seen)
     : Type 0 where
   pub count : length new ≡ length old
@@ -89,11 +89,11 @@ pub record OneChanges (k : ℕ) (Changes : Seen → Seen → Type 0) (old new : 
       → (y : Seen) × (slice_get new k ≡ Some y) × Changes x y
   pub others : (i : ℕ) → i ≢ k → slice_get new i ≡ slice_get old i
 
--- its queue is this now, and nothing else changed
+-- its queue is this from now on, and nothing else changed
 abbrev pub HasQueue : (now : ℕ) → Waits → Seen → Seen → Type 0
 HasQueue now waits x y = (y.queue ≡ queue_later x.queue waits now) × (y.usage ≡ x.usage)
 
--- a transmission of so many octets started, so long before `stop`, and the queue is this now
+-- a transmission of so many octets started, `left` before `stop`, and the queue is this from now on
 pub record HasStarted (octets now left : ℕ) (waits : Waits) (x y : Seen) : Type 0 where
   pub queue : y.queue ≡ queue_later x.queue waits now
   pub rate : y.usage.rate ≡ x.usage.rate

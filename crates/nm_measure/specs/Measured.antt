@@ -1,4 +1,4 @@
--- A network at a time of its run, and what was measured of it.
+-- A network at a time of its run, with its measurements.
 use Rattle.std.specs.Prelude.{◌≡◌, ◌<◌, ◌≤◌, ℕ, true, List, length, None, take}
 use Rattle.nm_base.specs.declared.limits.TheConstants.{MAX_TIME}
 use Rattle.nm_base.specs.declared.wanted.Wanted.TheVariants.{All}
@@ -32,8 +32,8 @@ pub record IsCounted (t : TopologyValue) (s : State (List ℕ) NodeStateValue) (
   pub counted : AreTraffic t traffic (take p.records.keeping.handed s.records)
   pub wanted : p.records.keeping.wanted ≡ All
 
--- what is seen of the interfaces after the events that were done, the most that waited of late
--- being those since `first` of them
+-- what is seen of the interfaces after the events that were done; the most that waited recently
+-- count since `first` events
 abbrev pub HasRecent : TopologyValue → ℕ → MeasuredValue → Type 0
 HasRecent t first m = AreSeen t first m.part.steps m.seen
 
@@ -63,7 +63,7 @@ pub record IsMeasuredBefore (t : TopologyValue) (until : ℕ) (m : MeasuredValue
   pub seen : AreSeen t first events m.seen
   pub own : AreOwn t m.own
 
--- the same after a step that began at this time: the most that waited of late are those since then
+-- the same after a step that began at this time: the most that waited recently count since then
 pub record IsMeasuredStep (t : TopologyValue) (from until : ℕ) (m : MeasuredValue) : Type 0 where
   pub first : ℕ
   pub begins : IsBefore (net_of t) from first

@@ -20,13 +20,13 @@ abbrev pub in_octets : List (List ℕ) → ℕ
 in_octets waiting = sum_by length waiting
 
 module _ {P N : Type 0} (net : Net P N) where
-  -- when the last of the first n events of the one event list happens; 0 where there is none
+  -- when the last of the first n events of the one event list happens; 0 if there is none
   abbrev pub time_after : ℕ → ℕ
   time_after zero = 0
   time_after (suc n) =
       option_map_or (λ e. e.0.time) (least (one_list net n).pending) (time_after n)
 
-  -- of an interface, where packets that wait amount to so much
+  -- the queue of an interface; `amount` is how much waiting packets count
   module _ (amount : List P → ℕ) (i : ℕ) where
     -- how much waits at interface i after n events, behind the packet that it transmits
     abbrev pub waiting_after : ℕ → ℕ
@@ -36,12 +36,12 @@ module _ {P N : Type 0} (net : Net P N) where
     abbrev pub longest_queue : (first last : ℕ) → ℕ
     longest_queue first last = greatest_of waiting_after first (last - first)
 
-    -- for how many nanoseconds that waited, all together, up to event n: between two events as
-    -- much waits as after the first of them
+    -- for how many nanoseconds they waited, all together, up to event n: between two events as much
+    -- waits as after the first of them
     abbrev pub waited_to : ℕ → ℕ
     waited_to zero = 0
     waited_to (suc n) = waited_to n + waiting_after n * (time_after (suc n) - time_after n)
 
-    -- and up to a time, before which n events are
+    -- the same up to a time with n events before it
     abbrev pub waited_before : (time n : ℕ) → ℕ
     waited_before time n = waited_to n + waiting_after n * (time - time_after n)

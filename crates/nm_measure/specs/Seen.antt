@@ -12,8 +12,8 @@ use Rattle.nm_measure.specs.Queues.{in_octets, in_packets, longest_queue, time_a
 use Rattle.nm_measure.specs.Usage.{IsUsed}
 use Rattle.nm_measure.specs.Waited.{waited_at}
 
--- how much waits there after n events, where packets amount to so much: the most that waited of late
--- are those since `first` of them
+-- how much waits there after n events, by `amount`; the most that waited recently count since
+-- `first` events
 pub record IsLevel {P N : Type 0} (net : Net P N) (amount : List P → ℕ) (i first n : ℕ)
     (l : Level) : Type 0 where
   pub waiting : l.waiting ≡ waiting_after net amount i n

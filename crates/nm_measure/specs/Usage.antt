@@ -1,4 +1,4 @@
--- How an interface transmits, as it is counted start by start.
+-- How an interface transmits, counted start by start.
 use Rattle.std.specs.Prelude.{◌≡◌, ◌⊎◌, ℕ, ◌+◌, ◌-◌, ◌≤◌, ltb, if◌then◌else◌, List, [], ◌∷◌, ◌++◌, sum_by, Option, Some, None}
 use Rattle.nm_base.specs.Count.{saturated}
 use Rattle.nm_model.specs.Network.{Net}
@@ -9,7 +9,7 @@ abbrev pub span_after : Option (ℕ × ℕ) → ℕ → Option (ℕ × ℕ)
 span_after None now = Some (now, now)
 span_after (Some s) now = Some (s.0, now)
 
--- what is after a time of the last transmission, which started then, is left out
+-- the busy time before `time`: without the part of the last transmission that is after it
 abbrev pub part_from : Option (ℕ × ℕ) → (busy last_busy time : ℕ) → ℕ
 part_from None busy last_busy time = busy
 part_from (Some s) busy last_busy time = busy - (saturated (s.1 + last_busy) - time)
@@ -36,9 +36,8 @@ module _ {P N : Type 0} (net : Net P N) (i : ℕ) where
   AreDone time (s ∷ l) = (s.0 + net.tx i s.1 ≤ time) × AreDone time l
 
   module _ (stop now : ℕ) where
-    -- What is counted of these transmissions, of which the last started by now: the time that all
-    -- but the last take, what of the last is before `stop`, and the starts of the first and of
-    -- the last.
+    -- The counts of these transmissions: the time that all but the last take, with that of the last
+    -- before `stop`; the latter alone; and the starts of the first and of the last.
     pub record AreCounted (front : List (ℕ × P)) (last : ℕ × P) (busy last_busy : ℕ)
         (span : Option (ℕ × ℕ)) : Type 0 where
       pub all : busy ≡ all_take front + part_before net i stop last
@@ -48,7 +47,7 @@ module _ {P N : Type 0} (net : Net P N) (i : ℕ) where
       pub done : AreDone last.0 front
       pub past : last.0 ≤ now
 
-    -- of all that started, or that none did
+    -- the counts of all that started, or of none
     abbrev pub IsUsed : List (ℕ × P) → (busy last_busy : ℕ) → Option (ℕ × ℕ) → Type 0
     IsUsed starts busy last_busy span =
         ((starts ≡ []) × (busy ≡ 0) × (span ≡ None))

@@ -1,4 +1,4 @@
--- The queue of an interface, as it is seen event by event.
+-- The queue of an interface, observed event by event.
 use Rattle.std.specs.Prelude.{ℕ, max}
 use Rattle.nm_measure.specs.Waited.{waited_at}
 use Rattle.nm_measure.specs.declared.level.Level.{Level}
@@ -19,7 +19,7 @@ level_later l waiting now = record {
   since = now;
 }
 
--- the most that wait are looked for anew
+-- the count of the most that wait starts again
 abbrev pub level_begun : Level → Level
 level_begun l = record l { recent = l.waiting }
 
@@ -27,7 +27,7 @@ level_begun l = record l { recent = l.waiting }
 abbrev pub queue_empty : Queue
 queue_empty = record { packets = level_empty; octets = level_empty; dropped = 0 }
 
--- from now on this waits, and was dropped
+-- this waits from now on, and so many were dropped
 abbrev pub queue_later : Queue → Waits → (now : ℕ) → Queue
 queue_later q waits now = record {
   packets = level_later q.packets waits.packets now;
@@ -35,11 +35,11 @@ queue_later q waits now = record {
   dropped = waits.dropped;
 }
 
--- the most that wait are looked for anew
+-- the count of the most that wait starts again
 abbrev pub queue_begun : Queue → Queue
 queue_begun q = record q { packets = level_begun q.packets; octets = level_begun q.octets }
 
--- what waits now, and was dropped
+-- what waits now, and how many were dropped
 abbrev pub waits_of : Queue → Waits
 waits_of q = record {
   packets = q.packets.waiting;

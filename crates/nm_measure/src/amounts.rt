@@ -23,7 +23,7 @@ pub struct Amount {
     pub octets: u64,
 }
 
-/// What came to an interface, and what it began to transmit.
+/// The packets that arrived at an interface, and those that it began to transmit.
 #[derive(Clone, Copy, Drop)]
 pub struct IfaceTraffic {
     pub came: Amount,
@@ -47,7 +47,7 @@ fn one_more(amount: Amount, octets: usize) -> Amount
     }
 }
 
-/// The traffic of an interface with one record more that is there.
+/// The traffic of an interface with one record of it more.
 fn with_record(traffic: IfaceTraffic, record: &Record) -> IfaceTraffic
     ensures { result ≡ traffic_after traffic «record».now }
 {
@@ -77,7 +77,7 @@ fn count(all: &mut Vec<IfaceTraffic>, record: &Record)
     }
 }
 
-/// That no interface had any traffic yet, by number.
+/// No traffic so far, for each interface by number.
 pub(crate) fn no_traffic(
     alloc: Global,
     topology: &Topology,
@@ -102,7 +102,7 @@ fn count_each(all: &mut Vec<IfaceTraffic>, records: &[Record])
     }
 }
 
-/// Counts the records of a part of the trace that it still has, and lets them go.
+/// Counts the records that a part keeps, and drops them.
 pub(crate) fn count_all(part: &mut Part<HeapList>, all: &mut Vec<IfaceTraffic>)
     requires { (t : TopologyValue) × (s : State (List ℕ) NodeStateValue)
         × IsCounted t s part.old all.old.items }

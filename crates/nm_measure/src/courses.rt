@@ -1,4 +1,4 @@
-//! The ways of the packets of one source, from their source to their end.
+//! The ways of one source's packets, from the source to their end.
 
 use crate::flow_counts::PacketOutcome;
 use crate::tag::{Role, Tag};
@@ -7,7 +7,7 @@ use nm_forward::Counter;
 use std::alloc::{AllocError, Global};
 use std::collections::VecDeque;
 
-/// That a packet arrived at an interface, or that its transmission started there.
+/// A packet arrived at an interface, or its transmission started there.
 #[derive(Clone, Copy, Drop)]
 pub struct Hop {
     pub iface: IfaceNo,
@@ -20,7 +20,7 @@ pub struct Hop {
 pub struct Course {
     /// Its number among the packets of its source, from 0 on.
     pub number: u64,
-    /// When its source handed it over.
+    /// When its source made it.
     pub sent: Time,
     pub hops: Vec<Hop>,
 }
@@ -36,11 +36,11 @@ pub enum EndPlace {
 /// Why a packet ended.
 #[derive(Clone, Copy, Drop)]
 pub enum Reason {
-    /// As the counter of the node says that rose.
+    /// This counter of the node rose.
     Counted(Counter),
     /// There was no room in the queue.
     NoRoom,
-    /// No counter says it.
+    /// No counter rose.
     Unknown,
 }
 
@@ -60,14 +60,14 @@ pub struct Ended {
     pub end: End,
 }
 
-/// The ways of the packets of one source.
+/// The ways of one source's packets.
 #[derive(Drop)]
 pub(crate) struct Courses {
     alloc: Global,
     source: SourceNo,
-    /// Of packets that are under way, by their numbers.
+    /// Those of packets that are under way, by their numbers.
     open: VecDeque<Course>,
-    /// Of packets that ended, in the order in which they did.
+    /// Those of packets that ended, in the order in which they did.
     ended: VecDeque<Ended>,
 }
 
@@ -82,7 +82,7 @@ impl Courses {
         }
     }
 
-    /// Whether a packet is one that the source handed over.
+    /// Whether the source made this packet.
     fn is_followed(&self, tag: &Tag) -> bool {
         match tag.role {
             Role::Sent => tag.source == self.source,
@@ -106,11 +106,11 @@ impl Courses {
         }
     }
 
-    /// A packet is handed over.
+    /// The source makes a packet.
     ///
     /// # Errors
     ///
-    /// Where memory was refused.
+    /// If memory was refused.
     pub(crate) fn begin(&mut self, tag: &Tag) -> Result<(), AllocError> {
         if !self.is_followed(tag) {
             return Ok(());
@@ -128,7 +128,7 @@ impl Courses {
     ///
     /// # Errors
     ///
-    /// Where memory was refused.
+    /// If memory was refused.
     pub(crate) fn pass(&mut self, tag: &Tag, hop: Hop) -> Result<(), AllocError> {
         let Some(place) = self.place(tag) else {
             return Ok(());
@@ -143,7 +143,7 @@ impl Courses {
     ///
     /// # Errors
     ///
-    /// Where memory was refused.
+    /// If memory was refused.
     pub(crate) fn end(&mut self, tag: &Tag, end: End) -> Result<(), AllocError> {
         let Some(place) = self.place(tag) else {
             return Ok(());
@@ -154,7 +154,7 @@ impl Courses {
         Ok(())
     }
 
-    /// The packet that ended first and was not taken yet.
+    /// The first packet that ended and was not taken yet.
     pub(crate) fn take_ended(&mut self) -> Option<Ended> {
         self.ended.pop_front()
     }

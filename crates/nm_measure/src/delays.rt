@@ -7,7 +7,7 @@ ghost use Rattle.nm_measure.specs.Delays.{least_after};
 use crate::spread::{Bucket, Spread};
 use std::alloc::{AllocError, Global};
 
-/// How long packets took, in nanoseconds, in the order in which they arrived.
+/// How long packets took, in nanoseconds, added in the order in which they arrived.
 #[derive(Drop)]
 pub struct Delays {
     spread: Spread,
@@ -15,15 +15,15 @@ pub struct Delays {
     greatest: u64,
     /// The sum of all.
     total: u128,
-    /// That of the last packet.
+    /// The delay of the last packet.
     last: u64,
-    /// The sum of the differences of successive ones.
+    /// The sum of the differences of successive delays.
     differences: u128,
     /// The greatest since it was taken last.
     recent: u64,
 }
 
-/// The mean of so many, rounded down; 0 where there are none.
+/// The mean of `count` values, rounded down; 0 if there are none.
 fn mean_of(total: u128, count: u64) -> u64 {
     if count == 0 {
         return 0;
@@ -32,7 +32,7 @@ fn mean_of(total: u128, count: u64) -> u64 {
 }
 
 impl Delays {
-    /// Of no packets.
+    /// The delays of no packets.
     pub(crate) fn new(alloc: Global) -> Self
         ensures { result.spread.count ≡ 0 }
     {
@@ -47,21 +47,21 @@ impl Delays {
         }
     }
 
-    /// Of how many packets, up to 2^64 - 1.
+    /// Of how many packets there are delays, up to 2^64 - 1.
     pub fn count(&self) -> u64
         ensures { result ≡ self.now.spread.count }
     {
         self.spread.count()
     }
 
-    /// The least; 0 where there are no packets.
+    /// The least; 0 if there are no packets.
     pub fn least(&self) -> u64
         ensures { result ≡ self.now.least }
     {
         self.least
     }
 
-    /// The greatest; 0 where there are no packets.
+    /// The greatest; 0 if there are no packets.
     pub fn greatest(&self) -> u64
         ensures { result ≡ self.now.greatest }
     {
@@ -75,7 +75,7 @@ impl Delays {
         self.total
     }
 
-    /// The greatest since this was asked last; 0 where none came.
+    /// The greatest since this was called last; 0 if there was none.
     pub(crate) fn take_recent(&mut self) -> u64
         ensures { result ≡ self.old.recent }
     {
@@ -84,32 +84,32 @@ impl Delays {
         recent
     }
 
-    /// How often delays came of the row with this place, and the least and the greatest of which
-    /// that is said, by rising delays: each delay by itself, or where they are rounded all that are
-    /// rounded to one. `None` where there are no more rows.
+    /// The row with this place, by rising delays: the least and the greatest delay of it, and how
+    /// many there were. A row has one delay, or, if they are rounded, all that round to one. `None`
+    /// if there are no more rows.
     pub fn bucket(&self, place: usize) -> Option<Bucket> {
         self.spread.bucket(place)
     }
 
-    /// The mean, rounded down; 0 where there are no packets.
+    /// The mean, rounded down; 0 if there are no packets.
     pub fn mean(&self) -> u64 {
         mean_of(self.total, self.spread.count())
     }
 
-    /// The mean difference of the delays of two successive arrivals, whichever is greater, rounded
-    /// down; 0 where there are fewer than two.
+    /// The mean absolute difference of the delays of two successive arrivals, rounded down; 0 if
+    /// there are fewer than two.
     pub fn jitter(&self) -> u64 {
         mean_of(self.differences, self.spread.count().saturating_sub(1))
     }
 
     /// The least delay such that at least so many thousandths of all are at most it (nearest rank);
-    /// 0 where there are no packets. Where `is_rounded` it may be less than that, by at most 1/128
-    /// of itself.
+    /// 0 if there are no packets. If `is_rounded`, it may be less than that, by at most 1/128 of
+    /// itself.
     pub fn percentile(&self, thousandths: u64) -> u64 {
         self.spread.percentile(thousandths).max(self.least)
     }
 
-    /// Whether percentiles are rounded down, since more than 1,024 different delays came.
+    /// Whether percentiles are rounded down, since there were more than 1,024 different delays.
     pub fn is_rounded(&self) -> bool {
         self.spread.is_rounded()
     }
@@ -118,7 +118,7 @@ impl Delays {
     ///
     /// # Errors
     ///
-    /// Where memory was refused. The delay may have been noted in part.
+    /// If memory was refused. The delay may have been noted in part.
     pub(crate) fn add(&mut self, delay: u64) -> Result<(), AllocError>
         ensures count { OnOk result (self.new.spread.count
             ≡ saturated (self.old.spread.count + 1)) }

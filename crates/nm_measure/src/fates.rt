@@ -10,7 +10,7 @@ use std::alloc::{AllocError, Global};
 /// What a node did with a packet that arrived.
 #[derive(Clone, Copy, Drop)]
 pub(crate) enum Fate {
-    /// It is sent on.
+    /// It is forwarded.
     SentOn,
     /// A datagram to an open port.
     Delivered,
@@ -18,13 +18,13 @@ pub(crate) enum Fate {
     Requested,
     /// Another ICMP message to this node.
     Told,
-    /// To this node, where nothing takes it: a closed port, or an unknown protocol.
+    /// To this node, and nothing takes it: a closed port, or an unknown protocol.
     Refused,
-    /// Against a rule, on the way or at its end.
+    /// It breaks a rule, on the way or at its end.
     Discarded,
 }
 
-/// What a node did with a packet, and the counter that says so.
+/// What a node did with a packet, and the counter that rose.
 #[derive(Clone, Copy, Drop)]
 pub(crate) struct Told {
     pub fate: Fate,
@@ -34,7 +34,7 @@ pub(crate) struct Told {
 /// How many counters of a node an arrival may raise.
 const ROWS: usize = 14;
 
-/// The counters of which each arrival raises one, those first that rise most often.
+/// The counters of which each arrival raises one; those that rise most often come first.
 const FATES: [(Counter, Fate); ROWS] = [
     (Counter::Forwarded, Fate::SentOn),
     (Counter::Udp, Fate::Delivered),
@@ -52,13 +52,13 @@ const FATES: [(Counter, Fate); ROWS] = [
     (Counter::UdpBad, Fate::Discarded),
 ];
 
-/// No counter says what the node did.
+/// No counter rose.
 const UNTOLD: Told = Told {
     fate: Fate::Discarded,
     reason: Reason::Unknown,
 };
 
-/// What the counters of a node said after its last event.
+/// The counters of a node after its last event.
 #[derive(Clone, Copy, Drop)]
 struct Counts {
     /// In the order of `FATES`.
@@ -67,13 +67,13 @@ struct Counts {
     to_self: u64,
 }
 
-/// What the counters of all nodes said after the last event.
+/// The counters of all nodes after the last event.
 #[derive(Drop)]
 pub(crate) struct Tallies {
     nodes: Vec<Counts>,
 }
 
-/// Whether a counter says another number than before, which is noted.
+/// Whether a counter has changed. Its number is noted.
 fn has_risen(before: &mut u64, now: u64) -> bool {
     let is_same = *before == now;
     *before = now;
@@ -81,7 +81,7 @@ fn has_risen(before: &mut u64, now: u64) -> bool {
 }
 
 impl Tallies {
-    /// All counters of so many nodes say 0.
+    /// All counters of so many nodes are 0.
     pub(crate) fn new(alloc: Global, nodes: usize) -> Result<Self, AllocError> {
         let none = Counts {
             rows: [0; ROWS],
@@ -111,7 +111,7 @@ impl Tallies {
         UNTOLD
     }
 
-    /// Why a node did not originate the packet that a source just handed over.
+    /// Why a node did not originate the packet that a source just made.
     pub(crate) fn refusal(&mut self, part: &Part<HeapList>, node: NodeNo) -> Counter {
         let now = part.counter(node, Counter::ToSelf).unwrap_or(0);
         let is_to_self = match self.nodes.get_mut(node.index()) {

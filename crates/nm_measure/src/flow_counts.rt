@@ -3,24 +3,24 @@
 ghost use Rattle.std.specs.Prelude.{◌≡◌, ◌+◌, ◌<◌, ◌^◌, ltb};
 ghost use Rattle.nm_base.specs.Count.{saturated};
 
-/// What became of the packets of a source. Each that it handed over was delivered, refused, dropped
+/// What became of the packets of a source. Each packet that it made was delivered, refused, dropped
 /// or discarded, or is under way.
 #[derive(Clone, Copy, Drop)]
 pub struct FlowCounts {
-    /// How many packets it handed over, up to 2^64 - 1.
+    /// How many packets it made, up to 2^64 - 1.
     pub sent: u64,
-    /// How many came to where they were to go, and were taken there.
+    /// How many arrived at their destination and were taken there.
     pub delivered: u64,
-    /// How many came to where they were to go, and nothing takes them there: to a closed port, or
-    /// of an unknown protocol.
+    /// How many arrived at their destination and nothing takes them there: to a closed port, or of
+    /// an unknown protocol.
     pub refused: u64,
-    /// How many came to a queue without room.
+    /// How many were offered to a queue without room.
     pub dropped: u64,
-    /// How many a rule of a node ended: at the source, on the way or where they were to go.
+    /// How many a rule of a node ended: at the source, on the way or at their destination.
     pub discarded: u64,
     /// How many wait at an interface or are on a link.
     pub under_way: u64,
-    /// How many echo replies came to another node than the source's, up to 2^64 - 1.
+    /// How many echo replies arrived at another node than the source's, up to 2^64 - 1.
     pub astray: u64,
     pub ghost balances: { sent ≡ delivered + refused + dropped + discarded + under_way },
 }
@@ -48,7 +48,7 @@ impl FlowCounts {
         astray: 0,
     };
 
-    /// One more is handed over, and is under way. From 2^64 - 1 on no more are counted.
+    /// The source makes one more packet, which is under way. From 2^64 - 1 on no more are counted.
     pub(crate) fn send(&mut self)
         ensures sent { self.old.sent + 1 < 2 ^ 64 → self.new.sent ≡ self.old.sent + 1 }
         ensures way { self.old.sent + 1 < 2 ^ 64 → self.new.under_way ≡ self.old.under_way + 1 }
@@ -59,7 +59,7 @@ impl FlowCounts {
         }
     }
 
-    /// One that was under way ends so: whether there was one.
+    /// A packet that was under way ends so. Answers whether there was one.
     pub(crate) fn end(&mut self, outcome: PacketOutcome) -> bool
         ensures ends { 0 < self.old.under_way → Ends outcome self.old self.new }
         ensures none { self.old.under_way ≡ 0 → counts_of self.new ≡ counts_of self.old }
@@ -79,7 +79,7 @@ impl FlowCounts {
         true
     }
 
-    /// An echo reply came to another node than the source's.
+    /// An echo reply arrived at another node than the source's.
     pub(crate) fn go_astray(&mut self)
         ensures same { counts_of self.new ≡ counts_of self.old }
         ensures astray { self.new.astray ≡ saturated (self.old.astray + 1) }

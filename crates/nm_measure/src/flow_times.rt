@@ -16,7 +16,7 @@ pub struct FlowTimes {
     begun: Option<Time>,
     /// When a packet was delivered last.
     ended: Time,
-    /// From the source's event to the arrival, of what was delivered.
+    /// From the source's event to the arrival, of the packets that were delivered.
     pub delays: Delays,
     /// From the source's event to the arrival of an echo reply at the source's node.
     pub round_trips: Delays,
@@ -74,8 +74,8 @@ impl FlowTimes {
         self.ended
     }
 
-    /// The rate of what was delivered, in bits per second, from the source's first event to the
-    /// last arrival, rounded down; 0 where that is no time.
+    /// The rate of delivery, in bits per second, from the source's first event to the last arrival,
+    /// rounded down; 0 if no time is between.
     pub fn rate(&self) -> u64 {
         rate_of(self.octets, self.begun, self.ended)
     }
@@ -89,11 +89,11 @@ impl FlowTimes {
         }
     }
 
-    /// A packet of so many octets that was sent then is delivered.
+    /// A packet of so many octets, made by its source at `sent`, is delivered.
     ///
     /// # Errors
     ///
-    /// Where memory was refused.
+    /// If memory was refused.
     pub(crate) fn deliver(&mut self, octets: u64, sent: Time, now: Time) -> Result<(), AllocError>
         ensures octets { self.new.octets ≡ saturated (self.old.octets + octets) }
         ensures count { OnOk result (self.new.delays.spread.count
@@ -104,11 +104,11 @@ impl FlowTimes {
         self.delays.add(nanoseconds_between(sent, now))
     }
 
-    /// The reply to what was sent then came to the source's node.
+    /// The reply to a packet that was made at `sent` arrived at the source's node.
     ///
     /// # Errors
     ///
-    /// Where memory was refused.
+    /// If memory was refused.
     pub(crate) fn answer(&mut self, sent: Time, now: Time) -> Result<(), AllocError>
         ensures octets { self.new.octets ≡ self.old.octets }
         ensures count { OnOk result (self.new.round_trips.spread.count

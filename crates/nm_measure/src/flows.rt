@@ -16,7 +16,7 @@ pub(crate) struct Flows {
     times: Vec<FlowTimes>,
 }
 
-/// A packet that came to its end.
+/// The arrival of a packet at its end.
 #[derive(Clone, Copy, Drop)]
 pub(crate) struct Arrival {
     pub node: NodeNo,
@@ -33,7 +33,7 @@ fn homes_of(alloc: Global, topology: &Topology) -> Result<Vec<NodeNo>, AllocErro
     Ok(homes)
 }
 
-/// Nothing of so many sources arrived yet.
+/// Nothing has arrived of so many sources.
 fn no_times(alloc: Global, sources: usize) -> Result<Vec<FlowTimes>, AllocError> {
     let mut times = Vec::new(alloc);
     for _ in 0..sources {
@@ -63,7 +63,7 @@ impl Flows {
         self.times.get(source.index())
     }
 
-    /// A source hands a packet over: its tag.
+    /// A source makes a packet. Answers its tag.
     pub(crate) fn send(&mut self, source: SourceNo, now: Time) -> Tag {
         let mut number = 0;
         if let Some(counts) = self.counts.get_mut(source.index()) {
@@ -76,7 +76,7 @@ impl Flows {
         Tag::of_source(source, number, now)
     }
 
-    /// The greatest delay of what arrived of a source since this was asked last; 0 where nothing
+    /// The greatest delay of a source's packets that arrived since this was called last; 0 if none
     /// did.
     pub(crate) fn take_greatest(&mut self, source: SourceNo) -> u64 {
         match self.times.get_mut(source.index()) {
@@ -85,8 +85,8 @@ impl Flows {
         }
     }
 
-    /// The packet of a tag ends so, if it is a source's: the source and the time of its event, if
-    /// the packet was under way.
+    /// The packet of a tag ends so, if it is a source's. Answers the source and the time of its
+    /// event, if the packet was under way.
     pub(crate) fn end(&mut self, tag: &Tag, outcome: PacketOutcome) -> Option<(SourceNo, Time)> {
         let Role::Sent = tag.role else {
             return None;
@@ -109,8 +109,8 @@ impl Flows {
         }
     }
 
-    /// An ICMP message comes to a node that it is addressed to. The packet that a source handed
-    /// over is delivered, and the reply to one has come to the source's node or went astray.
+    /// An ICMP message arrives at the node to which it is addressed: a source's packet is
+    /// delivered; the reply to one has reached the source's node or went astray.
     pub(crate) fn tell(&mut self, tag: &Tag, arrival: Arrival) -> Result<(), AllocError> {
         match tag.role {
             Role::Reply => self.answer(tag.source, tag.at, arrival),
@@ -118,7 +118,7 @@ impl Flows {
         }
     }
 
-    /// The reply to what a source handed over then comes to a node.
+    /// The reply to a packet that a source made at `at` arrives at a node.
     fn answer(&mut self, source: SourceNo, at: Time, arrival: Arrival) -> Result<(), AllocError> {
         if self.homes.get(source.index()).copied() == Some(arrival.node) {
             return match self.times.get_mut(source.index()) {

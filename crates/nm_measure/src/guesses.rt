@@ -1,15 +1,15 @@
-//! Where packets that a node did not transmit at once went before.
+//! The interfaces to which packets went that a node did not transmit at once.
 
 use crate::tag::{Role, Tag};
 use nm_base::{IfaceNo, NodeNo};
 use std::alloc::{AllocError, Global};
 
-/// How many guesses there are at most: a power of two, so that a remainder is no division.
+/// How many guesses there are at most: a power of two, so that a remainder needs no division.
 const PLACES: usize = 65_536;
 
-/// For a node and a source the interface that the last packet was offered to that waited or was
-/// dropped there. It is a guess where the next such packet goes, since routes are static; who asks
-/// has to see that it is right. Pairs that share a place share a guess.
+/// For each node and source, the interface at which its last packet waited or was dropped. It is a
+/// guess of the next one's, since routes are static; the caller must check it. Pairs that share a
+/// place share a guess.
 #[derive(Drop)]
 pub(crate) struct Guesses {
     /// How many sources there are.

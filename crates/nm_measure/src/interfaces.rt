@@ -111,7 +111,7 @@ pub(crate) fn start_in(part: &Part<HeapList>) -> Option<&Record>
     }
 }
 
-/// What waits at an interface, and was dropped there.
+/// What waits at an interface, and how many were dropped there.
 fn queue_of(part: &Part<HeapList>, iface: IfaceNo) -> Waits
     ensures { (t : TopologyValue) (s : State (List ℕ) NodeStateValue)
         → Represents pending_of t None part.now s → iface < length t.ifaces
@@ -132,7 +132,7 @@ fn node_of(topology: &Topology, source: SourceNo) -> NodeNo
     topology.sources()[source.index()].node
 }
 
-/// What happened with a packet that did not start.
+/// What happened to a packet that did not start.
 fn unstarted(iface: IfaceNo, waits: bool) -> Happened {
     if waits {
         Happened::Waits(iface)
@@ -153,14 +153,14 @@ impl Interfaces {
         })
     }
 
-    /// What is seen of an interface. `None` where there is no such interface.
+    /// What is seen of an interface. `None` if there is no such interface.
     pub(crate) fn get(&self, iface: IfaceNo) -> Option<&Seen>
         ensures { option_map (λ x. x.now) result ≡ slice_get self.now.all.items iface }
     {
         self.all.get(iface.index())
     }
 
-    /// From now on the most that wait at one time are looked for anew.
+    /// Starts the count of the most that wait at one time again.
     pub(crate) fn begin_recent(&mut self)
         ensures own { self.new.own ≡ self.old.own }
         ensures seen { (t : TopologyValue) (first n : ℕ) → AreSeen t first n self.old.all.items
@@ -192,8 +192,8 @@ impl Interfaces {
         self.all[place].queue.is_as(waits)
     }
 
-    /// The interface of a node whose queue is not as it was seen last, if there is one. The guess
-    /// is looked at first.
+    /// The interface of a node with another queue than was seen last, if there is one. The guess is
+    /// tried first.
     fn changed_of(&self, part: &Part<HeapList>, node: NodeNo, guess: IfaceNo) -> Option<IfaceNo>
         ensures changed { IfSome result (λ g. (x : SeenValue)
             × (slice_get self.now.all.items g ≡ Some x)
@@ -216,7 +216,7 @@ impl Interfaces {
         self.changed_among(part, self.own[place].as_slice())
     }
 
-    /// The first of these interfaces whose queue is not as it was seen last, if there is one.
+    /// The first of these interfaces with another queue than was seen last, if there is one.
     fn changed_among(&self, part: &Part<HeapList>, own: &[IfaceNo]) -> Option<IfaceNo>
         ensures changed { IfSome result (λ g. (x : SeenValue)
             × (slice_get self.now.all.items g ≡ Some x)
@@ -238,7 +238,8 @@ impl Interfaces {
         None
     }
 
-    /// The interface whose queue the last event may have changed, which started no transmission.
+    /// The interface at which the last event, which started no transmission, may have changed the
+    /// queue.
     fn turned(
         &self,
         topology: &Topology,
@@ -259,7 +260,8 @@ impl Interfaces {
         }
     }
 
-    /// The queue of an interface is as the part says now: whether more packets wait there.
+    /// Notes the queue of an interface, as the part now has it. Answers whether more packets wait
+    /// there.
     fn change(&mut self, part: &Part<HeapList>, iface: IfaceNo, now: Time) -> bool
         ensures own { self.new.own ≡ self.old.own }
         ensures one { (t : TopologyValue) (s : State (List ℕ) NodeStateValue)
@@ -277,8 +279,8 @@ impl Interfaces {
         grows
     }
 
-    /// A transmission started, so many nanoseconds before `stop`, and the queue is as the part
-    /// says.
+    /// A transmission started `left` nanoseconds before `stop`. Notes the queue, as the part now
+    /// has it.
     fn start(&mut self, part: &Part<HeapList>, record: &Record, left: u64)
         ensures own { self.new.own ≡ self.old.own }
         ensures octets { 1 ≤ length record.now.packet }
@@ -296,8 +298,8 @@ impl Interfaces {
         }
     }
 
-    /// Sees the event of this time and place, which was just done and started no transmission: what
-    /// happened at an interface of its node.
+    /// Sees the event of this time and place, which was just done and started no transmission.
+    /// Answers what happened at an interface of its node.
     fn see_no_start(
         &mut self,
         topology: &Topology,
@@ -321,8 +323,8 @@ impl Interfaces {
         }
     }
 
-    /// Sees the event of this time and place, which was just done: what happened at an interface.
-    /// Of records the part has only the event's.
+    /// Sees the event of this time and place, which was just done. Answers what happened at an
+    /// interface. The part keeps only this event's records.
     pub(crate) fn see(
         &mut self,
         topology: &Topology,

@@ -7,13 +7,13 @@ use crate::tag::Tag;
 use std::alloc::{AllocError, Global};
 use std::collections::VecDeque;
 
-/// One direction of a link, from the interface that sends: its packets, each known by its tag.
-/// Packets leave a queue in the order in which they came, and links keep the order too: the
-/// transmissions of an interface do not overlap, and all of its packets take the same delay. So all
-/// are in one line.
+/// One direction of a link, from the interface that sends: the tags of its packets, in one queue.
+/// Packets leave a port's queue in their order, and links keep it too: the transmissions of an
+/// interface do not overlap, and all of its packets take the same delay.
 #[derive(Drop)]
 pub(crate) struct Lane {
-    /// What is on the link, from the start of its transmission on, and behind it what waits.
+    /// The packets on the link, from the start of their transmission on, and behind them those that
+    /// wait.
     line: VecDeque<Tag>,
     /// How many packets wait at the interface.
     waiting: usize,
@@ -31,12 +31,12 @@ impl Lane {
         }
     }
 
-    /// The packet that waits longest, if one does.
+    /// The packet that has waited longest, if one waits.
     pub(crate) fn first_waiting(&self) -> Option<&Tag> {
         self.line.get(self.line.len() - self.waiting)
     }
 
-    /// The packet that left last, of those that are on the link, if one is.
+    /// The packet that has been on the link longest, if there is one.
     pub(crate) fn front(&self) -> Option<&Tag> {
         if self.line.len() <= self.waiting {
             return None;
@@ -44,7 +44,7 @@ impl Lane {
         self.line.front()
     }
 
-    /// A packet comes to the link, and its transmission starts. No packet waits.
+    /// A packet's transmission starts at once. No packet waits.
     pub(crate) fn send(&mut self, tag: Tag) -> Result<(), AllocError>
         ensures line { OnOk result (self.new.line.items ≡ self.old.line.items ++ tag ∷ []) }
     {
@@ -52,7 +52,7 @@ impl Lane {
         Ok(())
     }
 
-    /// The packet that waits longest waits no more: its transmission starts.
+    /// The transmission of the packet that has waited longest starts.
     pub(crate) fn send_next(&mut self)
         ensures line { self.new.line.items ≡ self.old.line.items }
         ensures waiting { self.new.waiting ≡ self.old.waiting - 1 }
@@ -70,7 +70,7 @@ impl Lane {
         Ok(())
     }
 
-    /// The packet that is on the link longest arrives, if there is one.
+    /// The packet that has been on the link longest arrives, if there is one.
     pub(crate) fn arrive(&mut self) -> Tag
         ensures waiting { self.new.waiting ≡ self.old.waiting }
         ensures line { self.old.waiting < deque_len self.old.line

@@ -6,23 +6,23 @@ ghost use Rattle.nm_measure.specs.Waiting.{level_begun, level_empty, level_later
 
 use nm_base::Time;
 
-/// How much waits at an interface, over time: so many packets, or so many octets.
+/// How much waits at an interface, over time, in packets or in octets.
 #[derive(Drop)]
 pub struct Level {
-    /// So many wait, behind the packet that is transmitted.
+    /// How many wait, behind the packet that is transmitted.
     waiting: u64,
     /// The most that waited at one time.
     longest: u64,
-    /// The most that waited at one time since that was begun.
+    /// The most that waited at one time since `begin_recent`.
     recent: u64,
-    /// For how many nanoseconds they waited, all together, up to the time from which on so many
+    /// For how many nanoseconds they waited, all together, up to `since`. From then on `waiting`
     /// wait.
     waited: u128,
     since: Time,
 }
 
-/// For how many nanoseconds packets, or octets, waited up to a time, all together: so many up to an
-/// earlier time, from which on this many wait.
+/// For how many nanoseconds packets, or octets, waited up to `now`, all together: `waited` up to
+/// `since`, from which on `waiting` wait.
 fn waited_at(waited: u128, waiting: u64, since: Time, now: Time) -> u128
     ensures { result ≡ waited_until waited waiting since now }
 {
@@ -58,7 +58,7 @@ impl Level {
         self.longest
     }
 
-    /// The most that waited at one time since that was begun.
+    /// The most that waited at one time since `begin_recent`.
     pub(crate) fn recent(&self) -> u64
         ensures { result ≡ self.now.recent }
     {
@@ -72,7 +72,7 @@ impl Level {
         waited_at(self.waited, self.waiting, self.since, now)
     }
 
-    /// From now on the most that wait at one time are looked for anew.
+    /// Starts the count of the most that wait at one time again.
     pub(crate) fn begin_recent(&mut self)
         ensures { self.new ≡ level_begun self.old }
     {

@@ -1,5 +1,5 @@
-//! What a run of a whole network comes to, event by event: traffic, drops, queues, busy times, and
-//! what becomes of the packets of sources.
+//! Measurements of a run of a whole network, event by event: traffic, drops, queues, busy times,
+//! and what becomes of the packets of sources.
 #![tactic(auto)]
 
 pub mod amounts;

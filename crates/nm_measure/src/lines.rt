@@ -6,7 +6,7 @@ ghost use Rattle.nm_measure.specs.Lines.{EndsLine};
 use nm_base::push_text;
 use std::alloc::AllocError;
 
-/// A text that was made, or that memory was refused for it.
+/// A text, or a refusal of memory for it.
 pub type MadeText = Result<Vec<u8>, AllocError>;
 
 /// Something was appended, or memory was refused for it.
@@ -16,7 +16,7 @@ pub type Appended = Result<(), AllocError>;
 ///
 /// # Errors
 ///
-/// Where memory was refused.
+/// If memory was refused.
 pub fn end_line(text: &mut Vec<u8>) -> Result<(), AllocError>
     ensures { OnOk result (EndsLine text.new.items) }
 {

@@ -1,4 +1,4 @@
-//! A network at a time of its run, and what was measured of it.
+//! A network at a time of its run, with its measurements.
 
 ghost use Rattle.std.specs.Prelude.{◌≡◌, ℕ, ◌-◌, ◌<◌, ◌≤◌, ◌^◌, min, None, Some};
 ghost use Rattle.std.specs.Prelude.{IfOk, IfSome, OnOk, length};
@@ -30,8 +30,8 @@ use nm_topology::topology::accepted_topologies_are_in_order;
 use std::alloc::{AllocError, Global};
 use std::marker::Model;
 
-/// A whole network at a time of its run, and what was measured of it: counters, drops, traffic,
-/// queues and busy times are those of the one event list; flows are what was seen event by event.
+/// A whole network at a time of its run, with its measurements. Counters, drops, traffic, queues
+/// and busy times are those of the one event list; flows are observed event by event.
 #[derive(Drop)]
 pub struct Measured {
     part: Part<HeapList>,
@@ -40,7 +40,7 @@ pub struct Measured {
     watched: Watched,
 }
 
-/// For how many nanoseconds packets, and octets, waited at an interface up to a time, all together,
+/// For how many nanoseconds packets and octets waited at an interface up to a time, all together,
 /// and for how many it transmitted.
 #[derive(Clone, Copy)]
 struct OverTime {
@@ -64,12 +64,12 @@ impl Model for Measured {
 }
 
 impl Measured {
-    /// A network at the begin of its run. The ways of the packets of a source are followed, if one
-    /// is named.
+    /// A network at the begin of its run. If a source is given, the ways of its packets are
+    /// followed.
     ///
     /// # Errors
     ///
-    /// Where memory was refused.
+    /// If memory was refused.
     pub fn begin(
         alloc: Global,
         topology: &Topology,
@@ -90,12 +90,12 @@ impl Measured {
         })
     }
 
-    /// Runs the network on to a time that is not before the one where it is and not after `stop`.
-    /// Now and then it is noted how far the run is.
+    /// Runs the network up to a time, which is neither before its present one nor after `stop`.
+    /// Progress is noted now and then.
     ///
     /// # Errors
     ///
-    /// Where memory was refused: nothing is said of what was measured then.
+    /// If memory was refused: the measurements then mean nothing.
     pub fn advance(
         &mut self,
         alloc: Global,
@@ -126,7 +126,7 @@ impl Measured {
         Err(AllocError)
     }
 
-    /// What a node counted. `None` where there is no such node.
+    /// The value of a node's counter. `None` if there is no such node.
     pub fn counter(&self, node: NodeNo, counter: Counter) -> Option<u64>
         ensures { (t : TopologyValue) (until : ℕ) (m : IsMeasuredBefore t until self.now)
             → result ≡ count_at t None (one_list (net_of t) m.events) node counter }
@@ -134,7 +134,7 @@ impl Measured {
         self.part.counter(node, counter)
     }
 
-    /// How many packets were dropped at an interface. `None` where there is no such interface.
+    /// How many packets were dropped at an interface. `None` if there is no such interface.
     pub fn dropped(&self, iface: IfaceNo) -> Option<u64>
         ensures { (t : TopologyValue) (until : ℕ) (m : IsMeasuredBefore t until self.now)
             → result ≡ drops_at t None (one_list (net_of t) m.events) iface }
@@ -142,7 +142,7 @@ impl Measured {
         self.part.dropped(iface)
     }
 
-    /// What came to an interface and what it transmitted. `None` where there is no such interface.
+    /// What arrived at an interface and what it transmitted. `None` if there is no such interface.
     pub fn traffic(&self, iface: IfaceNo) -> Option<IfaceTraffic>
         ensures { (t : TopologyValue) (until : ℕ) (m : IsMeasuredBefore t until self.now)
             → iface < length t.ifaces
@@ -151,7 +151,7 @@ impl Measured {
         self.traffic.get(iface.index()).copied()
     }
 
-    /// What an interface had up to this time, before which all events were done.
+    /// The totals of an interface up to this time. All events before it were done.
     pub fn totals(&self, iface: IfaceNo, time: Time) -> IfaceTotals
         requires there { iface < length self.now.traffic }
         ensures traffic { (t : TopologyValue) (until : ℕ) (m : IsMeasuredBefore t until self.now)
@@ -248,15 +248,15 @@ impl Measured {
         }
     }
 
-    /// The greatest delay of what arrived of a source since this was asked last, in nanoseconds; 0
-    /// where nothing did.
+    /// The greatest delay, in nanoseconds, of a source's packets that arrived since this was called
+    /// last; 0 if none did.
     pub fn take_greatest(&mut self, source: SourceNo) -> u64
         ensures { self.new ≡ self.old }
     {
         self.watched.take_greatest(source)
     }
 
-    /// The packet of the followed source that ended first and was not taken yet.
+    /// The first packet of the followed source that ended and was not taken yet.
     pub fn take_ended(&mut self) -> Option<Ended>
         ensures { self.new ≡ self.old }
     {
@@ -294,8 +294,8 @@ impl Measured {
         }
     }
 
-    /// The share of the time from the start of its first packet to that of its last in which an
-    /// interface transmitted, in thousandths. `None` where there are fewer than two packets.
+    /// The share of the time from the start of an interface's first packet to that of its last in
+    /// which it transmitted, in thousandths. `None` if there are fewer than two packets.
     pub fn busy_share(&self, iface: IfaceNo) -> Option<u64>
         ensures share { (t : TopologyValue) (until : ℕ) (m : IsMeasuredBefore t until self.now)
             → iface < length t.ifaces → result ≡ busy_share (net_of t) iface
@@ -308,14 +308,14 @@ impl Measured {
         }
     }
 
-    /// What became of the packets of a source. `None` where there is no such source.
+    /// What became of the packets of a source. `None` if there is no such source.
     pub fn flow(&self, source: SourceNo) -> Option<FlowCounts>
         ensures { IfSome result Balances }
     {
         self.watched.flow(source)
     }
 
-    /// How much of what a source sent arrived, and how late. `None` where there is no such source.
+    /// How much of what a source sent arrived, and how late. `None` if there is no such source.
     pub fn times(&self, source: SourceNo) -> Option<&FlowTimes> {
         self.watched.times(source)
     }

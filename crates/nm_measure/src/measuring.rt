@@ -1,4 +1,4 @@
-//! A run of a whole network that is measured.
+//! A measured run of a whole network.
 
 ghost use Rattle.std.specs.Prelude.{IfOk};
 ghost use Rattle.nm_measure.specs.Measured.{IsMeasured};
@@ -8,12 +8,12 @@ use nm_progress::Progress;
 use nm_topology::Topology;
 use std::alloc::{AllocError, Global};
 
-/// Runs a whole network by one event list to its `stop`, and measures it. Now and then it is noted
-/// how far the run is.
+/// Runs a whole network by one event list to its `stop`, and measures it. Progress is noted now and
+/// then.
 ///
 /// # Errors
 ///
-/// Where memory was refused.
+/// If memory was refused.
 pub fn measure(
     alloc: Global,
     topology: &Topology,

@@ -6,11 +6,12 @@ ghost use Rattle.nm_measure.specs.Waiting.{queue_begun, queue_empty, queue_later
 use crate::level::Level;
 use nm_base::Time;
 
-/// What waits at an interface, behind the packet that it transmits, and what was dropped there.
+/// What waits at an interface, behind the packet that it transmits, and how many were dropped
+/// there.
 #[derive(Clone, Copy, Drop)]
 pub struct Waits {
     pub packets: u64,
-    /// How many octets these packets have.
+    /// How many octets the packets that wait have.
     pub octets: u64,
     /// How many packets were dropped, up to 2^64 - 1.
     pub dropped: u64,
@@ -37,7 +38,7 @@ impl Queue {
         }
     }
 
-    /// Whether this waits now, and was dropped.
+    /// Whether the queue was last seen like this.
     pub(crate) fn is_as(&self, waits: Waits) -> bool
         ensures yes { result ≡ true → waits ≡ waits_of self.now }
         ensures no { result ≡ false → waits ≢ waits_of self.now }
@@ -47,7 +48,7 @@ impl Queue {
             && waits.dropped == self.dropped
     }
 
-    /// From now on the most that wait at one time are looked for anew.
+    /// Starts the count of the most that wait at one time again.
     pub(crate) fn begin_recent(&mut self)
         ensures { self.new ≡ queue_begun self.old }
     {
@@ -55,7 +56,7 @@ impl Queue {
         self.octets.begin_recent();
     }
 
-    /// From now on this waits, and was dropped.
+    /// Notes what waits from now on, and how many were dropped.
     pub(crate) fn change(&mut self, waits: Waits, now: Time)
         ensures { self.new ≡ queue_later self.old waits now }
     {

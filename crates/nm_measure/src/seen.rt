@@ -16,15 +16,15 @@ pub struct Seen {
 }
 
 impl Seen {
-    /// From now on this waits, and was dropped.
+    /// Notes what waits from now on, and how many were dropped.
     pub(crate) fn change(&mut self, waits: Waits, now: Time)
         ensures { HasQueue now waits self.old self.new }
     {
         self.queue.change(waits, now);
     }
 
-    /// The transmission of a packet of so many octets starts now, so many nanoseconds before
-    /// `stop`. From now on this waits, and was dropped.
+    /// The transmission of a packet of so many octets starts now, `left` nanoseconds before `stop`.
+    /// Notes what waits from now on, and how many were dropped.
     pub(crate) fn start(&mut self, octets: usize, now: Time, left: u64, waits: Waits)
         requires { octets ≤ MAX_PACKET_OCTETS }
         ensures { HasStarted octets now left waits self.old self.new }

@@ -3,7 +3,7 @@
 ghost use Rattle.std.specs.Prelude.{◌≡◌, ◌≤◌};
 ghost use Rattle.nm_measure.specs.Busy.{thousandths_of};
 
-/// A part of a whole in thousandths, rounded down: 0 where there is no whole, 1,000 at most.
+/// A part of a whole in thousandths, rounded down: 0 if there is no whole, 1,000 at most.
 pub fn thousandths(part: u64, whole: u64) -> u64
     ensures value { result ≡ thousandths_of part whole }
     ensures most { result ≤ 1000 }

@@ -1,17 +1,17 @@
-//! How often delays came.
+//! How often each delay occurred.
 
 ghost use Rattle.std.specs.Prelude.{◌≡◌, ◌≤◌, ◌<◌, ◌+◌, ◌-◌, ◌*◌, ◌^◌, OnOk, OnErr, IfOk, sum_by};
 ghost use Rattle.nm_base.specs.Count.{saturated};
 
 use std::alloc::{AllocError, Global};
 
-/// So many different delays are kept as they are.
+/// How many different delays are kept unrounded.
 const EXACT_ROWS: usize = 1_024;
 
-/// So many of the highest bits of a delay are kept where more different ones come.
+/// How many of the highest bits of a delay are kept once there are more.
 const KEPT_BITS: u32 = 8;
 
-/// How often a delay came.
+/// How often a delay occurred.
 #[derive(Clone, Copy, Drop)]
 struct Row {
     /// In nanoseconds.
@@ -20,7 +20,7 @@ struct Row {
     times: u64,
 }
 
-/// How often a delay from the least to the greatest of these came.
+/// How often a delay in this range occurred.
 #[derive(Clone, Copy, Drop)]
 pub struct Bucket {
     /// In nanoseconds.
@@ -30,21 +30,21 @@ pub struct Bucket {
     pub times: u64,
 }
 
-/// How often each delay came. Up to 1,024 different ones are kept as they are. Once there are more,
-/// each is rounded down by less than 1/128 of what is left of it, so that there are never more than
+/// How often each delay occurred. Up to 1,024 different delays are kept unrounded. Once there are
+/// more, each is rounded down, by less than 1/128 of the result, so that there are never more than
 /// 7,424 rows: 256 of delays below 256 ns, and 128 for each power of two from there.
 #[derive(Drop)]
 pub(crate) struct Spread {
     alloc: Global,
     /// By delay, in rising order.
     rows: Vec<Row>,
-    /// How many delays came, up to 2^64 - 1.
+    /// How many delays were added, up to 2^64 - 1.
     count: u64,
     is_rounded: bool,
     ghost all: { sum_by (λ r. r.times) rows.items ≡ count },
 }
 
-/// A delay, rounded down to its eight highest bits: by at most 1/128 of what is left.
+/// A delay, rounded down to its eight highest bits: by at most 1/128 of the result.
 fn rounded(delay: u64) -> u64
     ensures most { result ≤ delay }
     ensures near { 128 * (delay - result) ≤ result }
@@ -69,7 +69,7 @@ fn greatest_of(rounded: u64) -> u64
     rounded.saturating_add(step - 1)
 }
 
-/// Notes that a delay came so many times more.
+/// Notes that a delay occurred so many times more.
 fn note(rows: &mut Vec<Row>, delay: u64, times: u64) -> Result<(), AllocError>
     requires { sum_by (λ r. r.times) rows.old.items + times < 2 ^ 64 }
     ensures more { OnOk result (sum_by (λ r. r.times) rows.new.items
@@ -98,8 +98,8 @@ fn rounded_rows(alloc: Global, rows: &[Row]) -> Result<Vec<Row>, AllocError>
     Ok(all)
 }
 
-/// How many of so many delays have to be at most a percentile of so many thousandths: all that are
-/// asked for, rounded up, and one at least (nearest rank).
+/// How many of `count` delays must be at most the percentile of so many thousandths: that share,
+/// rounded up, and one at least (nearest rank).
 fn rank_of(count: u64, thousandths: u64) -> u64 {
     let asked = (u128::from(count) * u128::from(thousandths)).div_ceil(1_000);
     u64::try_from(asked).unwrap_or(u64::MAX).max(1)
@@ -118,7 +118,7 @@ impl Spread {
         }
     }
 
-    /// How many delays came, up to 2^64 - 1.
+    /// How many delays were added, up to 2^64 - 1.
     pub(crate) fn count(&self) -> u64
         ensures { result ≡ self.now.count }
     {
@@ -145,11 +145,11 @@ impl Spread {
         })
     }
 
-    /// One more delay came. From 2^64 - 1 on no more are noted.
+    /// Adds one delay. From 2^64 - 1 on no more are noted.
     ///
     /// # Errors
     ///
-    /// Where memory was refused. The delay may have been noted.
+    /// If memory was refused. The delay may have been noted.
     pub(crate) fn add(&mut self, delay: u64) -> Result<(), AllocError>
         ensures { OnOk result (self.new.count ≡ saturated (self.old.count + 1)) }
     {
@@ -170,8 +170,8 @@ impl Spread {
         Ok(())
     }
 
-    /// The least delay that is kept such that at least so many thousandths of all are at most it
-    /// (nearest rank); 0 where there are none.
+    /// The least kept delay such that at least so many thousandths of all are at most it (nearest
+    /// rank); 0 if there are none.
     pub(crate) fn percentile(&self, thousandths: u64) -> u64 {
         let rank = rank_of(self.count, thousandths);
         let mut passed = 0u64;

@@ -1,33 +1,34 @@
-//! Whose a packet is.
+//! The source of a packet.
 
 use nm_base::{SourceNo, Time};
 
 /// How a packet counts for a source.
 #[derive(Clone, Copy, Drop)]
 pub(crate) enum Role {
-    /// The source handed it over.
+    /// The source made it.
     Sent,
-    /// It is the echo reply to one that the source handed over.
+    /// It is the echo reply to a packet that the source made.
     Reply,
     /// Not at all: it is an ICMP error.
     Nothing,
 }
 
-/// Whose a packet is. A tag goes beside its packet and is no part of it, so that nothing which the
-/// packet says of itself can be taken for another's.
+/// The source of a packet. A tag is kept beside its packet and is no part of it, so that no field
+/// of the packet can assign it to another source.
 #[derive(Drop)]
 pub(crate) struct Tag {
     pub role: Role,
-    /// Source 0 where it counts for none.
+    /// Source 0 if it counts for none.
     pub source: SourceNo,
-    /// The number of what it or its reply is among the packets of the source, from 0 on.
+    /// The number of the packet, or of the one that it replies to, among those of the source, from
+    /// 0 on.
     pub number: u64,
-    /// When the source handed over what it or its reply is.
+    /// When the source made the packet, or the one that it replies to.
     pub at: Time,
 }
 
 impl Tag {
-    /// Of the packet with this number that a source hands over at this time.
+    /// The tag of the packet with this number, which a source makes at this time.
     pub(crate) fn of_source(source: SourceNo, number: u64, at: Time) -> Tag {
         Tag {
             role: Role::Sent,
@@ -37,7 +38,7 @@ impl Tag {
         }
     }
 
-    /// Of a packet that counts for no source.
+    /// The tag of a packet that counts for no source.
     pub(crate) fn of_nobody() -> Tag {
         Tag {
             role: Role::Nothing,
@@ -47,7 +48,7 @@ impl Tag {
         }
     }
 
-    /// Of the echo reply to this packet.
+    /// The tag of the echo reply to this packet.
     pub(crate) fn of_reply(&self) -> Tag {
         match self.role {
             Role::Sent => Tag {

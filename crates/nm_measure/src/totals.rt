@@ -1,8 +1,8 @@
-//! What interfaces and sources had in all, up to a time.
+//! The totals of interfaces and sources up to a time.
 
 use crate::amounts::IfaceTraffic;
 
-/// What an interface had up to a time. The difference of two is what it had between.
+/// The totals of an interface up to a time. The difference of two is that of the time between.
 #[derive(Clone, Copy, Drop)]
 pub struct IfaceTotals {
     pub traffic: IfaceTraffic,
@@ -24,6 +24,6 @@ pub struct FlowTotals {
     pub lost: u64,
     /// The octets of the IPv4 packets that were delivered, up to 2^64 - 1.
     pub octets: u64,
-    /// How long those that were delivered took, all together, in nanoseconds.
+    /// The sum of the delays of those that were delivered, in nanoseconds.
     pub delayed: u128,
 }

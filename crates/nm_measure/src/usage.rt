@@ -17,12 +17,12 @@ pub struct Usage {
     rate: u64,
     /// The octets of the last packet.
     octets: usize,
-    /// How long a packet of so many takes, in nanoseconds. Packets mostly have as many octets as
-    /// the one before, so that nothing is to be divided.
+    /// How long a packet of so many takes, in nanoseconds. Most packets have as many octets as the
+    /// one before, which saves a division.
     time: u64,
-    /// For how many nanoseconds before `stop`.
+    /// For how many nanoseconds before `stop` it transmitted.
     busy: u64,
-    /// For how many of these the last packet.
+    /// For how many of these it transmitted the last packet.
     last_busy: u64,
     /// When the first packet started and when the last.
     starts: Option<(Time, Time)>,
@@ -70,7 +70,7 @@ impl Usage {
     }
 
     /// The share of the time from the start of its first packet to that of its last in which it
-    /// transmitted, in thousandths, rounded down. `None` where there are fewer than two.
+    /// transmitted, in thousandths, rounded down. `None` if there are fewer than two packets.
     pub(crate) fn share(&self) -> Option<u64>
         ensures value { result ≡ share_at self.now.starts self.now.busy self.now.last_busy }
         ensures most { IfSome result (λ share. share ≤ 1000) }
@@ -98,7 +98,7 @@ impl Usage {
         self.time
     }
 
-    /// The transmission of a packet of so many octets starts, so many nanoseconds before `stop`.
+    /// The transmission of a packet of so many octets starts, `left` nanoseconds before `stop`.
     pub(crate) fn start(&mut self, octets: usize, now: Time, left: u64)
         requires { octets ≤ MAX_PACKET_OCTETS }
         ensures rate { self.new.rate ≡ self.old.rate }

@@ -1,4 +1,4 @@
-//! What becomes of the packets of sources, as it is seen event by event.
+//! What becomes of the packets of sources, observed event by event.
 
 use crate::courses::{Course, Courses, End, EndPlace, Ended, Hop, Reason};
 use crate::fates::{Fate, Tallies, Told};
@@ -21,10 +21,10 @@ use std::alloc::{AllocError, Global};
 pub(crate) struct Watched {
     tallies: Tallies,
     flows: Flows,
-    /// The direction of each interface that sends.
+    /// The direction of each interface's link that it sends on.
     lanes: Vec<Lane>,
     guesses: Guesses,
-    /// The ways of the packets of one source, if they are asked for.
+    /// The ways of one source's packets, if they are asked for.
     courses: Option<Courses>,
 }
 
@@ -53,7 +53,7 @@ fn octets_of_arrival(part: &Part<HeapList>) -> u64 {
     }
 }
 
-/// That the packet of a record passed its interface.
+/// The hop of a record: its packet passed its interface.
 fn hop_of(record: &Record) -> Hop {
     Hop {
         iface: record.iface,
@@ -62,7 +62,7 @@ fn hop_of(record: &Record) -> Hop {
     }
 }
 
-/// The outcome that a fate is, if it is the end of a way.
+/// The outcome of a fate, if that ends a packet's way.
 fn outcome_of(fate: Fate) -> Option<PacketOutcome> {
     match fate {
         Fate::SentOn => None,
@@ -73,7 +73,7 @@ fn outcome_of(fate: Fate) -> Option<PacketOutcome> {
 }
 
 impl Watched {
-    /// Nothing was seen yet. The ways of the packets of a source are kept, if there is one.
+    /// Nothing was seen yet. If a source is given, the ways of its packets are kept.
     pub(crate) fn new(
         alloc: Global,
         topology: &Topology,
@@ -92,12 +92,12 @@ impl Watched {
         })
     }
 
-    /// The greatest delay of what arrived of a source since this was asked last.
+    /// The greatest delay of a source's packets that arrived since this was called last.
     pub(crate) fn take_greatest(&mut self, source: SourceNo) -> u64 {
         self.flows.take_greatest(source)
     }
 
-    /// The followed packet that ended first and was not taken yet.
+    /// The first followed packet that ended and was not taken yet.
     pub(crate) fn take_ended(&mut self) -> Option<Ended> {
         match &mut self.courses {
             Some(courses) => courses.take_ended(),
@@ -139,8 +139,8 @@ impl Watched {
         self.flows.times(source)
     }
 
-    /// Where the packet of the event that is next goes, if its node offers it to an interface where
-    /// it does not start: a guess.
+    /// A guess of the interface to which the next event's packet is offered, if it does not start
+    /// there.
     pub(crate) fn guess(&self, topology: &Topology, place: &Place) -> IfaceNo {
         match place {
             Place::Complete(iface) => *iface,
@@ -155,7 +155,7 @@ impl Watched {
         }
     }
 
-    /// The same of a packet that arrives at this interface.
+    /// The same for a packet that arrives at this interface.
     fn guess_at(&self, topology: &Topology, number: IfaceNo) -> IfaceNo {
         let Some(iface) = topology.ifaces().get(number.index()) else {
             return number;
@@ -169,12 +169,12 @@ impl Watched {
         }
     }
 
-    /// Sees the event of this time and place, which was just done, and what happened with it at an
-    /// interface. Of records the part has only the event's.
+    /// Sees the event of this time and place, which was just done, and what happened at an
+    /// interface. The part keeps only this event's records.
     ///
     /// # Errors
     ///
-    /// Where memory was refused.
+    /// If memory was refused.
     pub(crate) fn see(
         &mut self,
         topology: &Topology,
@@ -277,7 +277,7 @@ impl Watched {
         }
     }
 
-    /// Sees what a node answers to a packet that came to its end there, if it does.
+    /// Sees the answer of a node to a packet that ended there, if there is one.
     fn see_answer(
         &mut self,
         part: &Part<HeapList>,
@@ -291,8 +291,8 @@ impl Watched {
         }
     }
 
-    /// Sees a source hand a packet over. Raw ones are always offered to an interface, others where
-    /// a route leads to another node.
+    /// Sees a source make a packet. Raw ones are always offered to an interface, others if a route
+    /// leads to another node.
     fn see_source(
         &mut self,
         topology: &Topology,
@@ -353,7 +353,7 @@ impl Watched {
         }
     }
 
-    /// Sees a packet start that was offered to this interface.
+    /// Sees the transmission of a packet start that was offered to this interface.
     fn see_start(
         &mut self,
         part: &Part<HeapList>,

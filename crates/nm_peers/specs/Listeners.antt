@@ -19,8 +19,7 @@ listener_words a =
 abbrev pub listener_line : Listener → List ℕ
 listener_line a = listener_words a ++ codes "\n"
 
--- The numbers of a listener are such as there may be. Four octets are below 256, and a port is
--- below 2 ^ 16.
+-- The numbers of a listener are in range. Four octets are below 256, and a port is below 2 ^ 16.
 pub record Fits (partitions : ℕ) (a : Listener) : Type 0 where
   pub partition : a.partition < partitions
   pub replica : a.replica ≤ 1
@@ -34,8 +33,8 @@ is_listener_of partition replica a = (a.partition == partition) && (a.replica ==
 abbrev pub is_same : Listener → Listener → Bool
 is_same a b = is_listener_of b.partition b.replica a
 
--- The text is the lines of these listeners, no two are of one replica, and this replica of this
--- partition has one.
+-- The text consists of the lines of these listeners, no two are of one replica, and this replica of
+-- this partition has one.
 pub record AreListeners (text : List ℕ) (partitions partition replica : ℕ)
     (listeners : List Listener) : Type 0 where
   pub whole : text ≡ flat_map listener_line listeners
@@ -43,7 +42,7 @@ pub record AreListeners (text : List ℕ) (partitions partition replica : ℕ)
   pub apart : IsDistinct is_same listeners
   pub own : list_any (is_listener_of partition replica) listeners ≡ true
 
--- the listeners that the text says; or it says none; or memory was refused
+-- the listeners of the text; or it is no list of them; or memory was refused
 abbrev pub ReadsListeners : List ℕ → ℕ → ℕ → ℕ
     → Result (Vec Listener Global) (Fault NoListeners) → Type 0
 ReadsListeners text partitions partition replica (Ok listeners) =

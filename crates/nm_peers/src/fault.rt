@@ -3,10 +3,10 @@
 use nm_base::Fault;
 use thiserror::Error;
 
-/// The text is not that of listeners.
+/// The text is no list of listeners.
 #[derive(Clone, Copy, Debug, PartialEq, Eq, Error)]
 #[error("no listeners")]
 pub struct NoListeners;
 
-/// Why listeners are not read: the text says none, or memory was refused.
+/// Why listeners are not read: the text is no list of them, or memory was refused.
 pub type ListenersFault = Fault<NoListeners>;

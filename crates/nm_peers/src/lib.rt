@@ -1,4 +1,4 @@
-//! Where the replicas of a network listen, as a text, and which of them speak with each other.
+//! Where the replicas of a network listen, as a text, and which of them are peers.
 #![tactic(auto)]
 
 pub mod fault;

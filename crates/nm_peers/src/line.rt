@@ -12,7 +12,7 @@ use nm_base::limits::MAX_REPLICA;
 use nm_base::{PartNo, number_of, split_once};
 use std::net::{Ipv4Addr, SocketAddrV4};
 
-/// What a word `A.B.C.D:PORT` says, in decimal without leading zeros.
+/// The address of a word `A.B.C.D:PORT`, in decimal without leading zeros.
 fn address_of(word: &[u8]) -> Option<SocketAddrV4>
     ensures found { IfSome result
         (λ s. (word.now ≡ socket_v4_text s) × IsSocketAddrV4 s) }
@@ -30,7 +30,7 @@ fn address_of(word: &[u8]) -> Option<SocketAddrV4>
     Some(SocketAddrV4::new(ip, port as u16))
 }
 
-/// The listener that a line says, which stands here without its line feed.
+/// The listener of a line, without its line feed.
 pub(crate) fn listener_of(line: &[u8], partitions: u32) -> Option<Listener>
     ensures found { IfSome result (λ a. (line.now ≡ listener_words a) × Fits partitions a) }
     ensures only { (a : ListenerValue) → Fits partitions a → line.now ≡ listener_words a

@@ -11,14 +11,13 @@ use nm_topology::Topology;
 use std::alloc::{AllocError, Global};
 use std::net::SocketAddr;
 
-/// The replicas with which a replica speaks: those of the partitions with which its own shares a
-/// channel.
+/// The peers of a replica: the replicas of the partitions with which its own shares a channel.
 #[derive(Drop)]
 pub struct Peers {
-    /// The partition of each replica that it calls, and where that listens.
+    /// The partition of each peer that it calls, and the address at which that listens.
     pub partitions: Vec<PartNo>,
     pub addresses: Vec<SocketAddr>,
-    /// The replicas that call it.
+    /// The peers that call it.
     pub callers: Vec<ReplicaName>,
 }
 
@@ -30,12 +29,12 @@ fn is_near(alloc: Global, topology: &Topology, from: PartNo, to: PartNo) -> Resu
     Ok(!channels.is_empty())
 }
 
-/// The peers among these listeners. Of two partitions that share a channel the replicas of the one
-/// with the lesser number call those of the other.
+/// The peers among these listeners. If two partitions share a channel, the replicas of the one with
+/// the lesser number call those of the other.
 ///
 /// # Errors
 ///
-/// Where memory was refused.
+/// If memory was refused.
 pub fn peers_of(
     alloc: Global,
     topology: &Topology,
@@ -69,7 +68,7 @@ pub fn peers_of(
     })
 }
 
-/// Where a replica itself listens, if it is one of these.
+/// The address at which a replica itself listens, if it is one of these.
 pub fn own_address(listeners: &[Listener], partition: PartNo, replica: u8) -> Option<SocketAddr>
     ensures { result ≡ own_address listeners.now partition replica }
 {

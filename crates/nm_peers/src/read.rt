@@ -26,7 +26,7 @@ fn has(listeners: &[Listener], partition: PartNo, replica: u8) -> bool
 ///
 /// # Errors
 ///
-/// `Refused` where the text is no such text. `Memory` where memory was refused.
+/// `Refused` if the text has another form. `Memory` if memory was refused.
 pub fn read_listeners(
     alloc: Global,
     text: &[u8],

@@ -1,4 +1,4 @@
--- With whom a replica speaks: what it knows of them, and what it makes of all that comes.
+-- The contacts of a replica, and how events change them.
 use Rattle.std.specs.Prelude.{ℕ, ◌+◌, ◌*◌, Bool, false, not, ◌&&◌, nat_lt, List, length, map, slice_index_or, slice_set, Option, Some, None, is_some, option_map, if◌then◌else◌}
 use Rattle.nm_base.specs.Count.{saturated}
 use Rattle.nm_frames.specs.declared.replica_name.ReplicaName.{ReplicaName}
@@ -12,17 +12,17 @@ use Rattle.nm_policy.specs.declared.contact_event.ContactEvent.TheVariants.{Poll
 use Rattle.nm_policy.specs.declared.limits.TheConstants.{MAX_STRANGERS}
 use Rattle.nm_policy.specs.declared.peer.Peer.{Peer}
 
--- The peers that the replica calls, by number; the replicas that call it; the connections that
--- there are, by key; and how many it accepted.
+-- The peers that the replica calls, by number; the replicas that call it; the open connections, by
+-- key; and how many it accepted.
 pub record ContactsValue : Type 0 where
   pub peers : List Peer
   pub callers : List Caller
   pub connections : List (Option Contact)
   pub accepted : ℕ
 
--- For so many connections there is room, where so many peers are called and so many replicas call:
--- one for each peer, and twice as many as there may be strangers, since those that greeted stay
--- until they are let go. It stops at the greatest `usize`.
+-- How many connections there is room for, by the numbers of peers and of callers: one for each
+-- peer, and twice as many as there may be strangers, since connections with a Hello stay until they
+-- are closed. It stops at the greatest `usize`.
 abbrev pub room_for : (peers callers : ℕ) → ℕ
 room_for peers callers = saturated (peers + 2 * (MAX_STRANGERS + callers))
 
@@ -35,12 +35,12 @@ abbrev pub is_free_at : List (Option Contact) → ℕ → Bool
 is_free_at connections key =
     nat_lt key (length connections) && not (is_some (contact_at connections key))
 
--- to which peer a connection was begun, if there is one and it was
+-- the peer to which the replica began a connection, if it did
 abbrev pub peer_of : Option Contact → Option ℕ
 peer_of None = None
 peer_of (Some c) = c.peer
 
--- the connections with this one at a key that they have room for
+-- the connections with this one at a key, if there is room for it
 abbrev pub with_contact : ℕ → Contact → List (Option Contact) → List (Option Contact)
 with_contact key c connections = slice_set connections key (Some c)
 
@@ -48,7 +48,7 @@ with_contact key c connections = slice_set connections key (Some c)
 abbrev pub without_contact : ℕ → ContactsValue → ContactsValue
 without_contact key s = record s { connections = slice_set s.connections key None }
 
--- the peers, of which one is changed, if there is one with this number
+-- the peers after a change of the one with this number, if there is one
 abbrev pub with_peer : ℕ → (Peer → Peer) → List Peer → List Peer
 with_peer peer change peers =
     if nat_lt peer (length peers) then
@@ -64,8 +64,8 @@ abbrev pub is_slot : (Contact → Bool) → Option Contact → Bool
 is_slot kind None = false
 is_slot kind (Some c) = kind c
 
--- Who said its first Hello is known. Where the peer began the connection, it has let go of those
--- that it began before.
+-- The connection's first Hello names its sender. If the sender began the connection, it has
+-- replaced those that it began before.
 abbrev pub greets : ℕ → ReplicaName → Contact → ContactsValue → ContactsValue
 greets key name c s =
     if is_some c.name then s
@@ -76,13 +76,13 @@ greets key name c s =
           with_contact key (met name c) (map (option_map (replaced_by name)) s.connections);
     }
 
--- whose link has ended: the peer's to which the connection was begun, or the caller's who greeted
+-- after the end of a link: that of the peer to which the connection was begun, or of its caller
 abbrev pub ends_of : Option ℕ → Option ReplicaName → ContactsValue → ContactsValue
 ends_of (Some peer) name s = record s { peers = with_peer peer link_ended s.peers }
 ends_of None (Some name) s = record s { callers = map (ended_by name) s.callers }
 ends_of None None s = s
 
--- whose connection broke: the peer's to which it was begun
+-- after the break of a connection: that of the peer to which it was begun
 abbrev pub breaks_of : (change : Peer → Peer) → Option ℕ → ContactsValue → ContactsValue
 breaks_of change (Some peer) s = record s { peers = with_peer peer change s.peers }
 breaks_of change None s = s

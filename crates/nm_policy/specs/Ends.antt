@@ -29,20 +29,20 @@ is_sure Open = false
 is_sure Once = false
 is_sure Sure = true
 
--- For how many periods a peer is not called again: at once where its connection had settled, and
--- seldom once the link has ended for sure, for one that was lost and begun anew.
+-- For how many periods a peer is not called again: none if its connection had settled, and many
+-- once the link's end is sure, for a peer that was restarted.
 abbrev pub rest_of : Ends → (had_settled : Bool) → ℕ
 rest_of Open had_settled = if had_settled then 0 else REST_PERIODS
 rest_of Once had_settled = if had_settled then 0 else REST_PERIODS
 rest_of Sure had_settled = RECALL_PERIODS
 
--- for how many periods it is not called, after one more poll, at which a period was over or not
+-- for how many periods it is not called, after one more poll; `ran_out`: a period was over
 abbrev pub rest_after : (before : ℕ) → (ran_out : Bool) → ℕ
 rest_after before ran_out = if ran_out then before - 1 else before
 
--- How often a link has ended after a connection of it broke, whose peer said Hello or did not, and
--- at whose other side somebody was or nobody: a connection that took octets, or was ended from
--- there, may have been cut before the peer's Hello came.
+-- How often a link has ended after one of its connections broke. `has_greeted`: the peer sent
+-- Hello. `was_there`: somebody was at the other end; the connection took octets or was ended from
+-- there, and may have been cut before the peer's Hello came.
 abbrev pub after_break : Ends → (has_greeted was_there : Bool) → Ends
 after_break ends has_greeted was_there =
     if has_greeted || was_there then ends else after_nobody ends

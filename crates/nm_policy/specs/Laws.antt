@@ -1,4 +1,4 @@
--- What may come to a replica, and what holds whatever comes.
+-- Which events may come, and what holds after any of them.
 use Rattle.std.specs.Prelude.{◌≡◌, ℕ, suc, zero, true, List, [], ◌∷◌, length, map, replicate, Some, None}
 use Rattle.nm_frames.specs.declared.replica_name.ReplicaName.{ReplicaName}
 use Rattle.nm_policy.specs.Contact.{polled}
@@ -10,7 +10,7 @@ use Rattle.nm_policy.specs.declared.contact.Contact.{Contact}
 use Rattle.nm_policy.specs.declared.contact_event.ContactEvent.{ContactEvent}
 use Rattle.nm_policy.specs.declared.contact_event.ContactEvent.TheVariants.{Polled, Called, NotCalled, Accepted, Heard, Greeted, Ended, Broke}
 
--- nobody is connected: so many peers, which are to be called, and these replicas, which call
+-- nobody is connected: so many peers are to be called, and these replicas call
 abbrev pub at_first : ℕ → List ReplicaName → ContactsValue
 at_first peers callers = record {
   peers = replicate peers new_peer;
@@ -19,8 +19,8 @@ at_first peers callers = record {
   accepted = 0;
 }
 
--- An event may come where a key for which there is room is given to one connection at a time, and
--- where who is called is to be called.
+-- An event may come if each key has room and belongs to one connection at a time, and if only peers
+-- that are to be called are called.
 abbrev pub MayCome : ContactsValue → ContactEvent → Type 0
 MayCome s (Polled ran_out) = Unit {0}
 MayCome s (Called key peer) =

@@ -10,7 +10,7 @@ abbrev pub have_ended : List Caller → List Peer → Bool
 have_ended callers peers =
     list_all (λ c. has_ended c.ends) callers && list_all (λ p. has_ended p.ends) peers
 
--- and nobody is to call again
+-- the ends of all are sure, so that nobody is to call again
 abbrev pub are_sure : List Caller → List Peer → Bool
 are_sure callers peers =
     list_all (λ c. is_sure c.ends) callers && list_all (λ p. is_sure p.ends) peers

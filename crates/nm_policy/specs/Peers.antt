@@ -1,4 +1,4 @@
--- The peers to which a replica connects.
+-- The peers that a replica calls.
 use Rattle.std.specs.Prelude.{Bool, true, false, not, ◌==◌, ◌&&◌}
 use Rattle.nm_policy.specs.Ends.{after_break, has_ended, once_more, rest_after, rest_of}
 use Rattle.nm_policy.specs.declared.ends.Ends.TheVariants.{Open}
@@ -16,15 +16,15 @@ is_due p = not p.is_called && (p.rest == 0)
 abbrev pub is_missing : Peer → Bool
 is_missing p = not p.is_called && not (has_ended p.ends)
 
--- a connection to it was begun
+-- after a connection to it was begun
 abbrev pub called : Peer → Peer
 called p = record p { is_called = true }
 
--- it could not be called
+-- after it could not be called
 abbrev pub not_called : Peer → Peer
 not_called p = record p { rest = rest_of p.ends false }
 
--- its link has ended: it may be called again at once, for a Bye that was lost
+-- after its link has ended: it may be called again at once, for a Bye that was lost
 abbrev pub link_ended : Peer → Peer
 link_ended p = record {
   is_called = false;
@@ -32,8 +32,8 @@ link_ended p = record {
   ends = once_more p.ends;
 }
 
--- its connection broke, on which it had said Hello or had not, which had settled or had not, and at
--- whose other side somebody was or nobody
+-- after its connection broke: it had sent Hello or not, a period was over since then or not, and
+-- somebody was at its other end or nobody
 abbrev pub link_broke : (has_greeted had_settled was_there : Bool) → Peer → Peer
 link_broke has_greeted had_settled was_there p = record {
   is_called = false;
@@ -41,6 +41,6 @@ link_broke has_greeted had_settled was_there p = record {
   ends = after_break p.ends has_greeted was_there;
 }
 
--- a poll was made, and ran out or not
+-- after a poll, at which a period was over or not
 abbrev pub rested : (ran_out : Bool) → Peer → Peer
 rested ran_out p = record p { rest = rest_after p.rest ran_out }

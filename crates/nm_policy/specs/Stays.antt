@@ -1,4 +1,4 @@
--- How long a replica stays whose links have ended.
+-- How long a replica stays after its links have ended.
 use Rattle.std.specs.Prelude.{ℕ, ◌+◌, Bool, true, false, not, ◌&&◌, ◌||◌, nat_le, if◌then◌else◌}
 use Rattle.nm_base.specs.Count.{saturated}
 use Rattle.nm_policy.specs.Contacts.{ContactsValue}
@@ -8,13 +8,12 @@ use Rattle.nm_policy.specs.Links.{are_sure, have_ended}
 use Rattle.nm_policy.specs.declared.limits.TheConstants.{LINGER_PERIODS, QUIET_POLLS}
 use Rattle.nm_policy.specs.declared.staying.Stay.{Stay}
 
--- how many polls in a row ran out since the ends of the links are sure, after one more that was
--- such a one or was not
+-- how many polls in a row ran out since the ends of the links are sure, after one more
 abbrev pub quiet_after : (before : ℕ) → (is_quiet : Bool) → ℕ
 quiet_after before true = saturated (before + 1)
 quiet_after before false = 0
 
--- how long it has stayed after one more poll: it does, once its links have ended
+-- how long it has stayed after one more poll, once its links have ended
 abbrev pub stayed : (ran_out : Bool) → ContactsValue → Stay → Stay
 stayed ran_out s stay =
     if have_ended s.callers s.peers then record {
@@ -23,15 +22,14 @@ stayed ran_out s stay =
     }
     else stay
 
--- Whether a replica may leave that has stayed for so long since its links ended, and for so many
--- polls in a row that ran out since their ends are sure: nobody has called for a while; or it has
--- stayed long enough.
+-- Whether a replica may leave: the ends of its links are sure, and enough polls in a row ran out
+-- since; or it has stayed long enough since its links ended.
 abbrev pub may_leave : (are_sure : Bool) → (stayed quiet : ℕ) → Bool
 may_leave are_sure stayed quiet =
     (are_sure && nat_le QUIET_POLLS quiet) || has_lasted LINGER_PERIODS stayed
 
--- It leaves: not before its links have ended, nor while a peer that said Hello is connected, nor
--- before it has stayed for as long as it has to.
+-- It leaves: its links have ended, no peer that sent Hello is connected, and it has stayed as long
+-- as it must.
 abbrev pub leaves : ContactsValue → Stay → Bool
 leaves s stay =
     have_ended s.callers s.peers && not (are_serving s)

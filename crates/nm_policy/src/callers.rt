@@ -17,7 +17,7 @@ pub struct Caller {
     pub ends: Ends,
 }
 
-/// The replicas that are to call: each is known by its name, whatever connection it comes by.
+/// The replicas that are to call, each known by its name, whichever connection it uses.
 #[derive(Drop)]
 pub struct Callers {
     pub all: Vec<Caller>,
@@ -82,7 +82,7 @@ impl Callers {
     ///
     /// # Errors
     ///
-    /// Where memory was refused.
+    /// If memory was refused.
     pub fn new(alloc: Global, names: &[ReplicaName]) -> Result<Self, AllocError>
         ensures { IfOk result (λ c. c.all.items ≡ map new_caller names.now) }
     {
@@ -93,8 +93,8 @@ impl Callers {
         Ok(Callers { all })
     }
 
-    /// The link of the replica with this name has ended. Where no such one is to call nothing is
-    /// noted.
+    /// The link of the replica with this name has ended. If no such replica is to call, nothing
+    /// changes.
     pub fn end(&mut self, name: &ReplicaName)
         ensures { self.new.all.items ≡ map (ended_by name.now) self.old.all.items }
     {

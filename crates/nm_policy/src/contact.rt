@@ -1,4 +1,4 @@
-//! A connection, as far as it matters to whom it leads.
+//! A connection, and the peer to which it leads.
 
 ghost use Rattle.std.specs.Prelude.{◌≡◌, Some};
 ghost use Rattle.nm_policy.specs.Contact.{accepted_contact, called_contact, does_count};
@@ -11,22 +11,23 @@ use crate::limits::{GREETING_PERIODS, HELLO_PERIODS, SILENCE_PERIODS};
 use crate::names::{are_same, copy_of};
 use nm_frames::ReplicaName;
 
-/// A connection: who began it, who is at its other side, and how long that has not been known.
+/// A connection: who began it, who is at its other end, and for how long that was not known.
 #[derive(Clone, Copy, Drop)]
 pub struct Contact {
-    /// The peer to which it was begun. `None` where somebody else began it.
+    /// The peer to which it was begun. `None` if somebody else began it.
     pub peer: Option<usize>,
-    /// Who said Hello on it.
+    /// The replica that sent Hello on it.
     pub name: Option<ReplicaName>,
-    /// How many connections had been accepted before it, itself among them.
+    /// How many connections were accepted up to it, itself included.
     pub came: u64,
-    /// How long it has been there; once its Hello has come, since then.
+    /// How long it has existed; once its Hello was received, since then.
     pub lasted: Lasted,
-    /// How long nothing has come on it.
+    /// How long nothing has been received on it.
     pub silent: Lasted,
     /// The replica began it and waits for its peer: their link had not ended.
     pub waits: bool,
-    /// Who began it has begun another one since: it is let go once all that came is read.
+    /// Its caller has begun another connection since: it is closed once all that was received is
+    /// read.
     pub is_replaced: bool,
 }
 
@@ -61,21 +62,21 @@ impl Contact {
         }
     }
 
-    /// Whether the peer at its other side said Hello.
+    /// Whether the peer sent Hello.
     pub fn has_greeted(&self) -> bool
         ensures { result ≡ has_greeted self.now }
     {
         self.name.is_some()
     }
 
-    /// Whether somebody began it who said no Hello.
+    /// Whether it is a stranger's: somebody else began it and has sent no Hello.
     pub fn is_stranger(&self) -> bool
         ensures { result ≡ is_stranger self.now }
     {
         self.peer.is_none() && self.name.is_none()
     }
 
-    /// Whether a caller began it, who said Hello and has begun no other since.
+    /// Whether a caller began it that sent Hello and has begun no other since.
     pub fn is_guest(&self) -> bool
         ensures { result ≡ is_guest self.now }
     {
@@ -92,28 +93,28 @@ impl Contact {
         }
     }
 
-    /// Whether its Hello has not come for so long that it is let go, whoever began it.
+    /// Whether it is closed because its Hello was not received in time, whoever began it.
     pub fn is_overdue(&self) -> bool
         ensures { result ≡ is_overdue self.now }
     {
         !self.has_greeted() && self.lasted.is_past(HELLO_PERIODS)
     }
 
-    /// Whether nothing has come on it for as long, though the replica waits for its peer.
+    /// Whether the replica waits for its peer and has received nothing on it for as long.
     pub fn is_silent(&self) -> bool
         ensures { result ≡ is_silent self.now }
     {
         self.has_greeted() && self.waits && self.silent.is_past(SILENCE_PERIODS)
     }
 
-    /// Whether it is let go, and begun anew if the replica began it.
+    /// Whether it is closed, and begun again if the replica began it.
     pub fn is_stale(&self) -> bool
         ensures { result ≡ is_stale self.now }
     {
         self.is_overdue() || self.is_silent()
     }
 
-    /// Whether a whole period was over since its Hello.
+    /// Whether a whole period is over since its Hello.
     pub fn has_settled(&self) -> bool
         ensures { result ≡ has_settled self.now }
     {
@@ -127,7 +128,7 @@ impl Contact {
         self.has_greeted() && self.lasted.is_past(GREETING_PERIODS)
     }
 
-    /// The same connection, after a poll that ran out or did not.
+    /// The same connection after a poll; `ran_out`: a period was over.
     pub fn polled(&self, ran_out: bool) -> Contact
         ensures { result ≡ polled ran_out self.now }
     {
@@ -145,7 +146,7 @@ impl Contact {
         }
     }
 
-    /// The same connection, after octets came.
+    /// The same connection, after octets were received.
     pub fn heard(&self) -> Contact
         ensures { result ≡ heard self.now }
     {
@@ -175,7 +176,7 @@ impl Contact {
         }
     }
 
-    /// Who said Hello on it.
+    /// The replica that sent Hello on it.
     fn name_copy(&self) -> Option<ReplicaName>
         ensures { result ≡ self.now.name }
     {

@@ -1,4 +1,4 @@
-//! With whom a replica speaks.
+//! The contacts of a replica.
 
 ghost use Rattle.std.specs.Prelude.{◌≡◌, IfOk, None, map, option_map, slice_set};
 ghost use Rattle.nm_policy.specs.Contact.{heard, polled, replaced_by};
@@ -16,8 +16,8 @@ use nm_frames::ReplicaName;
 use std::alloc::{AllocError, Global};
 use std::marker::Model;
 
-/// The peers that a replica calls, the replicas that call it, and the connections that there are.
-/// It changes by events alone, as the table `after` says.
+/// The peers that a replica calls, the replicas that call it, and the open connections. Only events
+/// change it, by the table `after`.
 #[derive(Drop)]
 pub struct Contacts {
     /// By their numbers.
@@ -25,7 +25,7 @@ pub struct Contacts {
     pub(crate) callers: Callers,
     /// By their keys.
     pub(crate) connections: Vec<Option<Contact>>,
-    /// How many were accepted. It stops at the greatest `u64`.
+    /// How many connections were accepted. It stops at the greatest `u64`.
     accepted: u64,
 }
 
@@ -51,7 +51,7 @@ fn rest_all(peers: &mut [Peer], ran_out: bool)
     }
 }
 
-/// A slot, after a poll that ran out or did not.
+/// A slot after a poll; `ran_out`: a period was over.
 fn polled(slot: &Option<Contact>, ran_out: bool) -> Option<Contact>
     ensures { result ≡ option_map (polled ran_out) slot.now }
 {
@@ -71,7 +71,7 @@ fn replaced_by(slot: &Option<Contact>, name: &ReplicaName) -> Option<Contact>
     }
 }
 
-/// A slot, after octets came on its connection.
+/// A slot, after octets were received on its connection.
 fn heard(slot: &Option<Contact>) -> Option<Contact>
     ensures { result ≡ option_map heard slot.now }
 {
@@ -108,11 +108,11 @@ fn take_at(connections: &mut Vec<Option<Contact>>, key: usize) -> Option<Contact
 }
 
 impl Contacts {
-    /// So many peers that are to be called, and the replicas that are to call. Nobody is connected.
+    /// `peers` peers are to be called, and `callers` are to call. Nobody is connected.
     ///
     /// # Errors
     ///
-    /// Where memory was refused.
+    /// If memory was refused.
     pub fn new(alloc: Global, peers: usize, callers: &[ReplicaName]) -> Result<Self, AllocError>
         ensures { IfOk result (λ s. s ≡ at_first peers callers.now) }
     {
@@ -147,7 +147,7 @@ impl Contacts {
         }
     }
 
-    /// A poll was made, which ran out or did not.
+    /// A poll was made; `ran_out`: a period was over.
     fn pass_poll(&mut self, ran_out: bool)
         ensures { self.new ≡ record self.old {
           peers = map (rested ran_out) self.old.peers;
@@ -192,7 +192,7 @@ impl Contacts {
         }
     }
 
-    /// A connection that somebody began was taken.
+    /// A connection that somebody began was accepted.
     fn accept(&mut self, key: usize)
         ensures { self.new ≡ after self.old (event.Accepted key) }
     {
@@ -200,7 +200,7 @@ impl Contacts {
         self.keep(key, Contact::accepted(self.accepted));
     }
 
-    /// Octets came on this connection.
+    /// Octets were received on this connection.
     fn hear(&mut self, key: usize)
         ensures { self.new ≡ after self.old (event.Heard key) }
     {
@@ -218,7 +218,7 @@ impl Contacts {
         replace_all(self.connections.as_mut_slice(), name);
     }
 
-    /// On this connection the replica with this name said Hello.
+    /// The replica with this name sent Hello on this connection.
     fn greet(&mut self, key: usize, name: &ReplicaName)
         ensures { self.new ≡ after self.old (event.Greeted key name.now) }
     {
@@ -255,7 +255,7 @@ impl Contacts {
         }
     }
 
-    /// This connection is let go, at whose other side somebody was or nobody.
+    /// This connection is closed; `was_there`: somebody was at its other end.
     fn break_off(&mut self, key: usize, was_there: bool)
         ensures { self.new ≡ after self.old (event.Broke key was_there) }
     {

@@ -1,4 +1,4 @@
-//! What is to be done, by what is known of those with whom a replica speaks.
+//! What a replica's contacts require it to do.
 
 ghost use Rattle.std.specs.Prelude.{◌≡◌, ◌+◌, ◌<◌, count_by, length, option_copied};
 ghost use Rattle.std.specs.List.{list_all, list_any};
@@ -16,7 +16,7 @@ use crate::contacts::Contacts;
 use crate::limits::MAX_STRANGERS;
 use crate::peer::Peer;
 
-/// How many connections are there that somebody began and on which no Hello came.
+/// How many connections are strangers'.
 fn count_strangers(connections: &[Option<Contact>]) -> usize
     ensures { result ≡ count_by (is_slot is_stranger) connections.now }
 {
@@ -29,7 +29,7 @@ fn count_strangers(connections: &[Option<Contact>]) -> usize
     count
 }
 
-/// Whether somebody began the connection of a slot who said no Hello.
+/// Whether the connection of a slot is a stranger's.
 fn is_stranger(slot: &Option<Contact>) -> bool
     ensures { result ≡ is_slot is_stranger slot.now }
 {
@@ -39,7 +39,8 @@ fn is_stranger(slot: &Option<Contact>) -> bool
     }
 }
 
-/// Whether a slot has the connection of a caller who greeted, and has begun no other since.
+/// Whether the connection of a slot is that of a caller that sent Hello and has begun no other
+/// since.
 fn is_guest(slot: &Option<Contact>) -> bool
     ensures { result ≡ is_slot is_guest slot.now }
 {
@@ -49,7 +50,7 @@ fn is_guest(slot: &Option<Contact>) -> bool
     }
 }
 
-/// How many connections are there of callers who greeted.
+/// How many connections are of such callers.
 fn count_guests(connections: &[Option<Contact>]) -> usize
     ensures { result ≡ count_by (is_slot is_guest) connections.now }
 {
@@ -62,7 +63,7 @@ fn count_guests(connections: &[Option<Contact>]) -> usize
     count
 }
 
-/// Whether a slot has a connection whose peer said Hello.
+/// Whether a slot has a connection on which the peer sent Hello.
 fn is_greeted(slot: &Option<Contact>) -> bool
     ensures { result ≡ is_slot has_greeted slot.now }
 {
@@ -72,7 +73,7 @@ fn is_greeted(slot: &Option<Contact>) -> bool
     }
 }
 
-/// How many connections had been accepted before the one with this key, itself among them.
+/// How many connections were accepted up to the one with this key, itself included.
 fn came_at(connections: &[Option<Contact>], key: usize) -> u64
     ensures { result ≡ came_of (contact_at connections.now key) }
 {
@@ -82,7 +83,7 @@ fn came_at(connections: &[Option<Contact>], key: usize) -> u64
     }
 }
 
-/// The first of the strangers up to this key, of which that one is the first below it.
+/// The first stranger up to this key, if `first` is the first stranger below it.
 fn first_up_to(connections: &[Option<Contact>], key: usize, first: Option<usize>) -> Option<usize>
     requires { key < length connections.now }
     ensures { IsFirstBelow connections.now key first
@@ -174,7 +175,7 @@ impl Contacts {
         }
     }
 
-    /// Whether the connection with this key is to be let go: no Hello came on it for its time, or
+    /// Whether the connection with this key is to be closed: its Hello was not received in time, or
     /// nothing for as long from a peer for which the replica waits.
     pub fn is_stale(&self, key: usize) -> bool
         ensures { result ≡ is_slot is_stale (contact_at self.now.connections key) }
@@ -185,7 +186,7 @@ impl Contacts {
         }
     }
 
-    /// Whether who began the connection with this key has begun another since.
+    /// Whether the caller of the connection with this key has begun another since.
     pub fn is_replaced(&self, key: usize) -> bool
         ensures { result ≡ is_slot (λ c. c.is_replaced) (contact_at self.now.connections key) }
     {
@@ -195,7 +196,7 @@ impl Contacts {
         }
     }
 
-    /// Whether a Hello came on the connection with this key.
+    /// Whether a Hello was received on the connection with this key.
     pub fn has_greeted(&self, key: usize) -> bool
         ensures { result ≡ is_slot has_greeted (contact_at self.now.connections key) }
     {
@@ -215,7 +216,7 @@ impl Contacts {
         }
     }
 
-    /// To which peer the connection with this key was begun, if it was.
+    /// The peer to which the replica began the connection with this key, if it did.
     pub fn peer_at(&self, key: usize) -> Option<usize>
         ensures { result ≡ peer_of (contact_at self.now.connections key) }
     {
@@ -229,7 +230,7 @@ impl Contacts {
         first_of(self.connections.as_slice())
     }
 
-    /// Whether there are so many strangers that one is let go when another comes.
+    /// Whether there are so many strangers that the next one replaces the oldest.
     fn are_too_many(&self) -> bool
         ensures { result ≡ are_too_many self.now }
     {
@@ -237,8 +238,7 @@ impl Contacts {
         count_strangers(self.connections.as_slice()) >= most
     }
 
-    /// The stranger that is let go when another comes: the one that came first, where there are as
-    /// many as there may be.
+    /// The stranger that the next one replaces: the oldest, if there are as many as there may be.
     pub fn stranger_to_drop(&self) -> Option<usize>
         ensures { IsToDrop self.now result }
     {
@@ -249,8 +249,7 @@ impl Contacts {
         }
     }
 
-    /// Whether somebody is not connected whose link has not ended: a peer that is called, or a
-    /// replica that is to call.
+    /// Whether a link has not ended and its peer or caller is not connected.
     pub fn are_missing(&self) -> bool
         ensures { result ≡ are_missing self.now }
     {
@@ -258,8 +257,8 @@ impl Contacts {
             || count_guests(self.connections.as_slice()) < self.callers.open_count()
     }
 
-    /// Whether a connection is open whose peer said Hello: that may have been lost and begun anew,
-    /// and be told all again.
+    /// Whether a connection is open on which the peer sent Hello. That peer may have been
+    /// restarted, and then all is sent to it again.
     pub fn are_serving(&self) -> bool
         ensures { result ≡ are_serving self.now }
     {

@@ -3,9 +3,9 @@
 ghost use Rattle.std.specs.Prelude.{◌≡◌};
 ghost use Rattle.nm_policy.specs.Ends.{after_nobody, has_ended, is_sure, once_more};
 
-/// How often a link has ended. An end is sure once it was made twice, or once a call after it
-/// found nobody: the Bye that was said last may have been lost with its connection, and then the
-/// peer waits for one that says it again.
+/// How often a link has ended. An end is sure after the second one, or once a call after the first
+/// finds nobody: the last Bye may be lost with its connection, and then the peer waits for a
+/// connection that sends it again.
 #[derive(Clone, Copy, Debug, PartialEq, Eq)]
 pub enum Ends {
     /// Not yet.
@@ -27,7 +27,7 @@ impl Ends {
         }
     }
 
-    /// The peer was called, and nobody greeted.
+    /// The peer was called, and nobody sent Hello.
     pub fn after_nobody(self) -> Ends
         ensures { result ≡ after_nobody self }
     {

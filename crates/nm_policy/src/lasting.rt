@@ -17,7 +17,7 @@ impl Lasted {
         Lasted { periods: 0 }
     }
 
-    /// One more poll was made, and ran out or not: whether a period was over then.
+    /// One more poll was made; `ran_out`: a period was over then.
     pub fn pass_poll(&mut self, ran_out: bool)
         ensures { self.new.periods ≡ lasted_after self.old.periods ran_out }
     {

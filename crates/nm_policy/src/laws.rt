@@ -39,23 +39,22 @@ pub fn a_peer_has_one_connection()
         → LeadsTo (after_all (at_first peers callers) events) other peer → one ≡ other }
 {}
 
-/// A connection without a Hello is let go once it has lasted for its periods, and not before; on
-/// which the Hello came it never is for that reason.
+/// A connection without a Hello is closed once it has lasted for its periods, and not before. One
+/// with a Hello is never closed for that reason.
 pub fn a_hello_has_its_time()
     ensures waits { (c : Contact) (n : ℕ) → c.name ≡ None → c.lasted.periods ≡ 0 → n < 2 ^ 64
         → is_overdue (polled_for n c) ≡ nat_le limits.HELLO_PERIODS n }
     ensures greeted { (c : Contact) → is_some c.name ≡ true → is_overdue c ≡ false }
 {}
 
-/// A connection with a peer for which the replica waits is begun anew once nothing has come on it
-/// for so many periods, and not before.
+/// A connection with a peer for which the replica waits is begun again once nothing was received on
+/// it for so many periods, and not before.
 pub fn silence_has_its_time()
     ensures { (c : Contact) (n : ℕ) → is_some c.name ≡ true → c.waits ≡ true
         → n < 2 ^ 64 → is_silent (polled_for n (heard c)) ≡ nat_le limits.SILENCE_PERIODS n }
 {}
 
-/// The end of a link, or that it broke, is told to the peer to which its connection led, and to no
-/// other.
+/// The end or the break of a link changes the peer to which its connection led, and no other.
 pub fn an_end_is_told_to_its_peer()
     ensures { (s : ContactsValue) (key peer other : ℕ) (was_there : Bool) → LeadsTo s key peer
         → other ≢ peer
@@ -65,7 +64,7 @@ pub fn an_end_is_told_to_its_peer()
         ≡ slice_index_or s.peers other new_peer) }
 {}
 
-/// Who said Hello is never let go for a stranger.
+/// No connection with a Hello is ever closed for a stranger.
 pub fn a_stranger_makes_room_for_strangers()
     ensures { (s : ContactsValue) (key : ℕ) → IsToDrop s (Some key)
         → is_slot is_stranger (contact_at s.connections key) ≡ true }

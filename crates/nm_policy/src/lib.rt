@@ -1,6 +1,6 @@
-//! What a replica decides about the replicas with which it speaks: whom it calls, and when again,
-//! which connections it lets go, whether links have ended, and how long it stays for others. No
-//! call of the system is made here.
+//! What a replica decides about its peers: which to call, and when again, which connections to
+//! close, whether links have ended, and how long it stays for others. No call of the system is made
+//! here.
 #![tactic(auto)]
 
 pub mod callers;

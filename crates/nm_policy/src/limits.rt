@@ -1,36 +1,35 @@
-//! After how long what is done, each stated once. Periods are those of a transport
+//! The timeouts and limits of a replica, each stated once. Periods are those of a transport
 //! (`nm_transport::limits`).
 
-/// After so many periods a connection that broke before a whole period was over since the peer's
-/// Hello is begun again.
+/// After so many periods a connection is begun again that broke within a period after the peer's
+/// Hello.
 pub const REST_PERIODS: u32 = 1;
 
-/// After so many periods, a second, a peer is called anew whose link has ended for sure. It may
-/// have been lost and begun anew.
+/// After so many periods, a second, a peer is called again although its link's end is sure: it may
+/// have been restarted.
 pub const RECALL_PERIODS: u32 = 20;
 
-/// After so many periods, five seconds, a connection on which no Hello came is let go: that of a
-/// stranger, and a call that nobody answers, as where it is held or dropped on its way.
+/// After so many periods, five seconds, a connection without a Hello is closed: a stranger's, or a
+/// call that nobody answers, as if it is held or dropped on its way.
 pub const HELLO_PERIODS: u64 = 100;
 
-/// For so many periods, a second, after its Hello octets of a connection do not count: what is said
-/// at a greeting is said again on each connection. What comes later is new, since a session says
-/// nothing twice.
+/// For so many periods, a second, after its Hello the octets of a connection do not count: each
+/// connection begins with frames that were sent before. What comes later is new, since a session
+/// sends nothing twice.
 pub const GREETING_PERIODS: u64 = 20;
 
-/// After so many periods, five seconds, in which nothing came a connection is begun anew on which
-/// the replica waits for its peer: that may have vanished without a word.
+/// After so many periods, five seconds, without an octet a connection is begun again if the replica
+/// waits for its peer: the peer may have vanished.
 pub const SILENCE_PERIODS: u64 = 100;
 
-/// The most connections that others began and whose Hello did not come, beside one for each
-/// replica that is to call. The oldest of them is let go when another comes.
+/// The most strangers, besides one for each replica that is to call. The next one replaces the
+/// oldest.
 pub const MAX_STRANGERS: usize = 64;
 
-/// For so many periods, two seconds, a replica that is done stays for those whose link's end is not
+/// For so many periods, two seconds, a replica that is done stays while the end of a link is not
 /// sure.
 pub const LINGER_PERIODS: u64 = 40;
 
-/// After so many polls in a row that ran out, a fifth of a second, nobody is to call again who
-/// lacks a Bye: such a one calls at once. A replica stays so long once the ends of its links are
-/// sure.
+/// A replica leaves after so many polls in a row that ran out, a fifth of a second, once the ends
+/// of its links are sure: a peer that lacks a Bye calls at once.
 pub const QUIET_POLLS: u64 = 4;

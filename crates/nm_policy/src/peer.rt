@@ -1,4 +1,4 @@
-//! A peer to which the replica connects.
+//! A peer that the replica calls.
 
 ghost use Rattle.std.specs.Prelude.{◌≡◌};
 ghost use Rattle.nm_policy.specs.Ends.{rest_of};
@@ -8,7 +8,7 @@ ghost use Rattle.nm_policy.specs.Peers.{new_peer, not_called, rested};
 use crate::ends::Ends;
 use crate::limits::{RECALL_PERIODS, REST_PERIODS};
 
-/// A peer to which the replica connects, again after each break, and now and then after the end.
+/// A peer that the replica calls: again after each break, and now and then after the end.
 #[derive(Clone, Copy, Debug, PartialEq, Eq)]
 pub struct Peer {
     /// A connection to it is begun.
@@ -19,7 +19,7 @@ pub struct Peer {
     pub ends: Ends,
 }
 
-/// For how many periods a peer is not called again whose link has ended so often.
+/// For how many periods a peer is not called again, by how often its link has ended.
 fn rest_of(ends: Ends, had_settled: bool) -> u32
     ensures { result ≡ rest_of ends had_settled }
 {
@@ -65,7 +65,7 @@ impl Peer {
         }
     }
 
-    /// The same, after it could not be called: it is left alone for a while.
+    /// The same, after it could not be called: it rests.
     pub fn not_called(self) -> Peer
         ensures { result ≡ not_called self }
     {
@@ -75,8 +75,8 @@ impl Peer {
         }
     }
 
-    /// The same, after its link has ended. It is called once more at once, so that a Bye which was
-    /// lost is said again.
+    /// The same, after its link has ended. It is called once more at once, to send again a Bye that
+    /// was lost.
     pub fn link_ended(self) -> Peer
         ensures { result ≡ link_ended self }
     {
@@ -88,9 +88,9 @@ impl Peer {
         }
     }
 
-    /// The same, after its connection broke, on which it had said Hello or had not, which had
-    /// settled or had not, and at whose other side somebody was or nobody. Where it had not settled
-    /// the peer is left alone for a while.
+    /// The same, after its connection broke. `has_greeted`: the peer had sent Hello. `had_settled`:
+    /// a period was over since then; else the peer rests. `was_there`: somebody was at the other
+    /// end.
     pub fn link_broke(self, has_greeted: bool, had_settled: bool, was_there: bool) -> Peer
         ensures { result ≡ link_broke has_greeted had_settled was_there self }
     {
@@ -106,7 +106,7 @@ impl Peer {
         }
     }
 
-    /// The same, after a poll that ran out or did not.
+    /// The same, after a poll; `ran_out`: a period was over.
     pub fn rested(&self, ran_out: bool) -> Peer
         ensures { result ≡ rested ran_out self.now }
     {

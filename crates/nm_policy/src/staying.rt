@@ -1,4 +1,4 @@
-//! How long a replica stays whose links have ended.
+//! How long a replica stays after its links have ended.
 
 ghost use Rattle.std.specs.Prelude.{◌≡◌};
 ghost use Rattle.nm_policy.specs.Stays.{leaves, may_leave, stayed};
@@ -7,8 +7,8 @@ use crate::contacts::Contacts;
 use crate::lasting::Lasted;
 use crate::limits::{LINGER_PERIODS, QUIET_POLLS};
 
-/// How long a replica has stayed since its links ended, for those that may call again: the Bye that
-/// was said last may have been lost with its connection, and then its peer calls at once.
+/// How long a replica has stayed since its links ended, for peers that may call again: the last Bye
+/// may be lost with its connection, and then the peer calls at once.
 #[derive(Clone, Copy, Drop)]
 pub struct Stay {
     /// For how many periods.
@@ -28,7 +28,7 @@ impl Stay {
         }
     }
 
-    /// One more poll was made, which ran out or did not. It stays for as long as its links have
+    /// One more poll was made; `ran_out`: a period was over. The count runs while all links have
     /// ended.
     pub fn pass_poll(&mut self, contacts: &Contacts, ran_out: bool)
         ensures { self.new ≡ stayed ran_out contacts.now self.old }
@@ -44,7 +44,7 @@ impl Stay {
         };
     }
 
-    /// Whether it has stayed for as long as it has to, where the ends of its links are sure or not.
+    /// Whether it has stayed as long as it must; `are_sure`: the ends of its links are sure.
     fn is_over(&self, are_sure: bool) -> bool
         ensures { result ≡ may_leave are_sure self.now.all.periods self.now.quiet }
     {
@@ -54,8 +54,8 @@ impl Stay {
         self.all.is_past(LINGER_PERIODS)
     }
 
-    /// Whether it leaves: its links have ended, no peer that said Hello is connected, and it has
-    /// stayed for as long as it has to.
+    /// Whether it leaves: its links have ended, no peer that sent Hello is connected, and it has
+    /// stayed as long as it must.
     pub fn leaves(&self, contacts: &Contacts) -> bool
         ensures { result ≡ leaves contacts.now self.now }
     {

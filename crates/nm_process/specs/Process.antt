@@ -1,4 +1,4 @@
--- What a process comes to.
+-- The result of a process.
 use Rattle.std.specs.Prelude.{◌≡◌, ◌⊎◌, ℕ, ◌<◌, Bool, true, false, List, map}
 use Rattle.std.specs.List.{filter}
 use Rattle.std.specs.Net.Socket.{socket_ip, socket_port}
@@ -17,8 +17,8 @@ use Rattle.nm_peers.specs.declared.listener.Listener.{Listener}
 use Rattle.nm_process.specs.declared.fault.ProcessCause.{ProcessCause}
 use Rattle.nm_process.specs.declared.fault.ProcessCause.TheVariants as cause
 
--- The book is replica r of partition p of this topology, nothing is left to do for it, and its
--- trace is whole.
+-- The book is replica r of partition p of this topology, it has nothing left to do, and its trace
+-- is whole.
 pub record IsDoneReplica (t : TopologyValue) (p r : ℕ) (b : BookValue) : Type 0 where
   pub topology : b.topology ≡ t
   pub partition : b.partition ≡ p
@@ -26,8 +26,8 @@ pub record IsDoneReplica (t : TopologyValue) (p r : ℕ) (b : BookValue) : Type 
   pub finished : IsDone b
   pub whole : b.handed ≡ 0
 
--- the system says that it listens at this address, which was asked for: at the same port, too, unless
--- the system was to choose one
+-- the address at which a socket listens is the one asked for: the same port, too, unless the system
+-- was to choose one
 abbrev pub IsAt : (at asked : SocketAddr) → Type 0
 IsAt at asked =
     (socket_ip at ≡ socket_ip asked)
@@ -38,14 +38,14 @@ abbrev pub AreCalled : TopologyValue → ℕ → List Listener → List SocketAd
 AreCalled t p listeners addresses =
     addresses ≡ map socket_of (filter (is_called t p) listeners)
 
--- a replica is told that it is stalled
+-- the fault is that a replica is stalled
 abbrev pub is_stall : Fault ProcessCause → Bool
 is_stall Memory = false
 is_stall (Refused cause.Net) = false
 is_stall (Refused cause.Stalled) = true
 is_stall (Refused cause.Broken) = false
 
--- why a replica cannot be served that has no book
+-- why a replica without a book cannot be served
 abbrev pub fault_without_book : Fault BookRefusal → Fault ProcessCause
 fault_without_book Memory = Memory
 fault_without_book (Refused refusal) = Refused cause.Broken

@@ -1,4 +1,4 @@
-//! What serving a replica comes to, and what its process does.
+//! How serving a replica ends, and what its process answers.
 
 ghost use Rattle.std.specs.Prelude.{◌≡◌, IsSomeAnd, Some, [], false, true};
 ghost use Rattle.std.specs.Arc.{arc_value};
@@ -20,23 +20,23 @@ use std::net::Net;
 use std::sync::Wait;
 use std::time::Clock;
 
-/// What serving a replica came to: only `serve_over` makes it, so that nobody tells another.
+/// How serving a replica ended: only `serve_over` makes it, so that it is the true ending.
 #[derive(Clone, Copy)]
 pub(crate) struct Ending {
     served: Served,
 }
 
-/// What the replica of a process came to.
+/// The result of a process.
 #[derive(Drop)]
 pub struct ProcessEnd {
-    /// It knows all and did all of its events.
+    /// The book knows all, and did all of its events.
     pub book: Book,
-    /// What serving it came to: it may have ended otherwise than as done, as where a peer was gone
-    /// for the last minute, or broke the rules.
+    /// How serving ended. That need not be as done: a peer may have been gone for the last minute,
+    /// or have broken the rules.
     pub served: Served,
 }
 
-/// Serves a replica over this transport, which is shared with nobody else.
+/// Serves a replica over this transport, which only it uses.
 pub(crate) fn serve_over<C: Counts, R: Net + Wait + Clock + Drop + Copy>(
     rt: &R,
     alloc: Global,
@@ -45,7 +45,7 @@ pub(crate) fn serve_over<C: Counts, R: Net + Wait + Clock + Drop + Copy>(
     holdings: &mut Holdings<'_, C, MemSink>,
     transport: &mut TcpTransport<R>,
 ) -> Ending
-    // It speaks with all neighbours that its book's replica has among the listeners.
+    // Its peers are all that its book's replica has among the listeners.
     requires topology { service.now.topology ≡ process.now.topology }
     requires peers { (peers : Peers)
         × ArePeers (arc_value process.now.topology.now) service.now.book.now.partition
@@ -57,8 +57,8 @@ pub(crate) fn serve_over<C: Counts, R: Net + Wait + Clock + Drop + Copy>(
     requires called { AreCalled (arc_value process.now.topology.now)
         service.now.book.now.partition process.now.listeners.now transport.old.peers }
 
-    // It is stalled after as many periods as the process says, merges with nobody, and its book
-    // keeps its records.
+    // It is stalled after the process's idle limit, merges with nobody, and its book keeps its
+    // records.
     requires limits { (service.now.idle_limit ≡ process.now.idle_limit)
         × (service.now.run_limit ≡ RUN_EVENTS) × (service.now.keeps_records ≡ true) }
     requires alone { (service.now.books.now ≡ []) × (service.now.lending.now ≡ false) }
@@ -69,7 +69,7 @@ pub(crate) fn serve_over<C: Counts, R: Net + Wait + Clock + Drop + Copy>(
     requires at { IsSomeAnd (own_address process.now.listeners.now service.now.book.now.partition
         service.now.book.now.replica) (IsAt transport.old.at) }
 
-    // What it came to is true of the replica, and of the periods and the waits that passed.
+    // The ending is true of the replica, and of the periods and the waits that passed.
     ensures { EndsWith C.exact C.home true process.now.idle_limit
         (transport.old.elapsed, transport.new.elapsed)
         (transport.old.asked.waits, transport.new.asked.waits) result.served }
@@ -79,7 +79,7 @@ pub(crate) fn serve_over<C: Counts, R: Net + Wait + Clock + Drop + Copy>(
     }
 }
 
-/// Why a replica is not done whose serving came to this.
+/// Why a replica is not done, by how serving it ended.
 fn unfinished_fault(served: Served) -> ProcessFault
     ensures { result ≡ unfinished_fault served }
 {
@@ -91,7 +91,7 @@ fn unfinished_fault(served: Served) -> ProcessFault
     }
 }
 
-/// What the process comes to whose replica left this book, if it is done.
+/// The result of a process, by the book of its replica, if that is done, and by how serving ended.
 pub(crate) fn process_end(closed: Option<Book>, ending: Ending) -> Result<ProcessEnd, ProcessFault>
     ensures { result ≡ process_end closed ending.served }
 {

@@ -16,20 +16,20 @@ pub enum ProcessCause {
     /// It cannot listen at its address, or a peer broke the rules.
     #[error("the network failed")]
     Net,
-    /// Nothing moved for a minute, and events are left to do: a peer is missing, or does not go on.
+    /// Nothing moved for a minute, and events are left to do: a peer is missing, or stopped.
     #[error("stalled")]
     Stalled,
-    /// What the code rules out, and no contract does: a replica that is not there, a pass that is
-    /// missing, a trace file where there are none.
+    /// What the code rules out but no contract does: a missing replica or pass, or a trace file
+    /// that should not exist.
     #[error("the program's own state is not what it should be: please report it with the topology \
          and the command")]
     Broken,
 }
 
-/// Why the replica of a process is not done, or that memory was refused. Nothing of it is left.
+/// Why the replica of a process is not done, or that memory was refused. Its book is dropped.
 pub type ProcessFault = Fault<ProcessCause>;
 
-/// What an error of the system is to a process.
+/// The fault of a process for an error of the system.
 pub(crate) fn fault_of(error: io::Error) -> ProcessFault
     ensures kind { IsFaultOfKind (error_kind error) Net result }
     ensures stall { is_stall result ≡ false }

@@ -37,24 +37,23 @@ use std::time::Clock;
 /// How many events a process does at most after each poll.
 pub(crate) const RUN_EVENTS: u64 = 4_096;
 
-/// A replica of a partition that is a process of its own, and where the replicas of the network
-/// listen.
+/// A replica of a partition as a process of its own, and where the replicas of the network listen.
 #[derive(Clone, Copy)]
 pub struct Process<'a> {
     pub topology: &'a Arc<Topology>,
     pub partition: PartNo,
     /// 0 or 1.
     pub replica: u8,
-    /// Those of all replicas that take part, its own among them.
+    /// Those of all replicas that take part, its own included.
     pub listeners: &'a [Listener],
-    /// After so many periods of 50 ms in a row in which nothing moved it is stalled.
+    /// It is stalled after so many periods of 50 ms in a row in which nothing moved.
     pub idle_limit: u64,
-    /// Where it notes how far it is.
+    /// Where it notes its progress.
     pub progress: &'a Progress,
 }
 
-/// Whether one listens at an address where the system says that it listens: at the same address,
-/// and at the same port unless the system was to choose one.
+/// Whether the address at which a socket listens is the one asked for: the same host, and the same
+/// port unless the system was to choose one.
 fn is_at(at: SocketAddr, asked: SocketAddr) -> bool
     ensures { IsTrue result ↔ IsAt at asked }
 {
@@ -65,7 +64,7 @@ fn is_at(at: SocketAddr, asked: SocketAddr) -> bool
 ///
 /// # Errors
 ///
-/// `AddrNotAvailable` where it has none, or the system listens at another one.
+/// `AddrNotAvailable` if it has none, or the socket listens at another one.
 fn listen<C: Counts, R: Net>(
     rt: &R,
     process: &Process<'_>,
@@ -83,7 +82,8 @@ fn listen<C: Counts, R: Net>(
     Ok(bound)
 }
 
-/// Listens at the address that the replica of a book has among these, and calls its peers at those.
+/// A transport that listens at the address that the replica of a book has among these, and calls
+/// its peers at theirs.
 fn open_transport<C: Counts, R: Net + Clock + Drop + Copy>(
     rt: &R,
     alloc: Global,
@@ -99,11 +99,12 @@ fn open_transport<C: Counts, R: Net + Clock + Drop + Copy>(
     TcpTransport::new(*rt, alloc, Poll::new(rt)?, bound, addresses)
 }
 
-/// Serves a replica that is shared with nobody else: what that came to, whether it is done or not.
+/// Serves a replica that only this process has. Answers how serving ended, whether it is done or
+/// not.
 ///
 /// # Errors
 ///
-/// Where serving could not begin.
+/// If serving could not begin.
 fn serve<C: Counts, R: Net + Wait + Clock + Drop + Copy>(
     rt: &R,
     alloc: Global,
@@ -134,13 +135,14 @@ fn serve<C: Counts, R: Net + Wait + Clock + Drop + Copy>(
         lending: &lending,
         progress: Some(process.progress),
         notes_progress: true,
-        // Files are made of them once it is done.
+        // Files are made of the records once it is done.
         keeps_records: true,
     };
     Ok(serve_over(rt, alloc, process, &service, holdings, &mut transport))
 }
 
-/// Why there is no book: memory was refused, or there is no such replica, which the words rule out.
+/// Why there is no book: memory was refused, or there is no such replica, which the command line
+/// rules out.
 fn fault_without_book(fault: &BookFault) -> ProcessFault
     ensures { result ≡ fault_without_book fault.now }
 {
@@ -150,7 +152,7 @@ fn fault_without_book(fault: &BookFault) -> ProcessFault
     }
 }
 
-/// A shared book of a replica, which no other one is.
+/// The shared book of a replica. Types name it, so that no other book is of this type.
 fn shared_of<M: Naming + Send + Sync, E: Ledger + Send + Sync>(
     alloc: Global,
     process: &Process<'_>,
@@ -172,7 +174,7 @@ fn shared_of<M: Naming + Send + Sync, E: Ledger + Send + Sync>(
     }
 }
 
-/// Serves a replica with this pass of its book: the pass, and what serving came to.
+/// Serves a replica with this pass of its book. Answers the pass, and how serving ended.
 fn serve_with<C: Counts, R: Net + Wait + Clock + Drop + Copy>(
     rt: &R,
     alloc: Global,
@@ -189,14 +191,14 @@ fn serve_with<C: Counts, R: Net + Wait + Clock + Drop + Copy>(
         pass,
         passes: Vec::new(alloc),
         seats,
-        // The book keeps its trace: files are made of it once it is done.
+        // The book keeps its trace: files are made of it once the replica is done.
         files: TraceFiles::new(alloc),
     };
     let ending = serve(rt, alloc, process, book, &mut holdings)?;
     Ok((holdings.pass, ending))
 }
 
-/// The book of a replica of which a pass is missing: what that counted nobody asks for.
+/// The book of a replica if a pass is missing: nothing here needs the counts.
 fn left_book<C: Counts>(out: PassesOut<C>) -> Book
     ensures { C.exact ≡ true → home_of result ≡ C.home }
 {
@@ -215,8 +217,7 @@ fn book_of<C: Counts>(closed: Result<Closed, PassesOut<C>>) -> Book
     }
 }
 
-/// The book of a replica that was served with this one pass, if it is done, whatever serving came
-/// to.
+/// The book of a replica that was served with this one pass, if it is done, however serving ended.
 fn close<M: Naming + Send + Sync, E: Ledger + Send + Sync>(
     alloc: Global,
     shared: SharedBook<Ledgers<M, E>>,
@@ -237,7 +238,7 @@ fn close<M: Naming + Send + Sync, E: Ledger + Send + Sync>(
     Ok(Some(book))
 }
 
-/// Serves a replica whose book and passes types name: what it came to.
+/// Serves a replica; types name its book and passes. Answers the result of the process.
 fn run_named<M: Naming + Send + Sync, E: Ledger + Send + Sync, R: Net + Wait + Clock + Drop + Copy>(
     rt: &R,
     alloc: Global,
@@ -262,15 +263,15 @@ fn run_named<M: Naming + Send + Sync, E: Ledger + Send + Sync, R: Net + Wait + C
 }
 
 /// Serves one replica of a partition over TCP until it is done and all its links have ended, or
-/// until nothing moved for so many polls of 50 ms in a row, or the network or memory fails. Its
-/// book knows all and did all of its events, however serving ended. It merges with nobody, and
-/// nothing is certified.
+/// until nothing moved for `idle_limit` periods of 50 ms in a row, or the network or memory fails.
+/// On success its book knows all and did all of its events, however serving ended. It merges with
+/// nobody, and nothing is certified.
 ///
 /// # Errors
 ///
-/// Of a replica that is not done: `Net` where it cannot listen at its address, a peer broke the
-/// rules or told what cannot be; `Stalled` where nothing moved for so long; `Memory` where memory
-/// was refused. The book is let go then. Who is told `Stalled` was not done.
+/// If the replica is not done: `Net` if it cannot listen at its address, or a peer broke the rules
+/// or sent what cannot be; `Stalled` if nothing moved for so long; `Memory` if memory was refused.
+/// The book is dropped then. `Stalled` is never answered for a replica that was done.
 pub fn run_process<R: Net + Wait + Clock + Drop + Copy>(
     rt: &R,
     alloc: Global,

@@ -8,12 +8,12 @@ abbrev pub is_called : Option Contact → Bool
 is_called None = false
 is_called (Some c) = is_some c.peer
 
--- the Hello of who speaks on the connection was taken, or the replica is to say the first
+-- the peer's Hello was taken, or the replica sends the first one
 abbrev pub has_session : {W : Type 0} → Option (Connection W) → Bool
 has_session None = false
 has_session (Some c) = is_some c.link.session
 
--- who speaks on it is a peer
+-- the other end of it is a peer
 abbrev pub is_peer : {W : Type 0} → Option Contact → Option (Connection W) → Bool
 is_peer contact connection = is_called contact || has_session connection
 

@@ -1,4 +1,4 @@
--- What connections are told of by events, and which of them are begun and let go.
+-- How events change contacts, and which connections are begun and closed.
 use Rattle.std.specs.Prelude.{◌≡◌, ◌⊎◌, ◌+◌, ◌<◌, ◌≤◌, ℕ, suc, zero, Bool, true, false, ◌||◌, List, slice_index_or, slice_set, Option, Some, None, IfSome, IsSome, IsSomeAnd}
 use Rattle.slab.specs.Slab.{Slab, get}
 use Rattle.nm_engine.specs.Acceptor.{AcceptorValue}
@@ -18,24 +18,24 @@ use Rattle.nm_policy.specs.declared.contact_event.ContactEvent.TheVariants.{Call
 use Rattle.nm_replica.specs.Moved.{sends_no_more, was_there}
 use Rattle.nm_replica.specs.declared.connection.Connection.{Connection}
 
--- a connection once it was reported: a read asks its wire
+-- a connection after a report: a read asks its wire
 abbrev pub reported_connection : {W : Type 0} → Connection W → Connection W
 reported_connection c = record c { link = record c.link { wire = reported c.link.wire } }
 
--- something may have come on a connection, if there is one
+-- there may be something to read on a connection, if there is one
 abbrev pub is_ready : {W : Type 0} → Option (Connection W) → Bool
 is_ready None = false
 is_ready (Some c) = c.link.wire.is_ready
 
--- nothing may have come on any
+-- there is nothing to read on any
 abbrev pub IsNoneReady : {W : Type 0} → Slab (Connection W) → Type 0
 IsNoneReady slab = (key : ℕ) → is_ready (get slab key) ≡ false
 
--- each connection is to be looked at
+-- each connection is to be read
 abbrev pub AreAllReady : {W : Type 0} → Slab (Connection W) → Type 0
 AreAllReady slab = (key : ℕ) → IfSome (get slab key) (λ c. c.link.wire.is_ready ≡ true)
 
--- each of the first connections is to be looked at that were reported, by their keys
+-- each connection whose key is in one of the first reports is to be read
 abbrev pub AreReady : {W : Type 0} → (reported : ℕ → Option ℕ) → (first : ℕ) → Slab (Connection W)
     → Type 0
 AreReady reported first slab =
@@ -43,18 +43,18 @@ AreReady reported first slab =
     → ((j : ℕ) → j ≤ k → IsSome (reported j)) → reported k ≡ Some key
     → IfSome (get slab key) (λ c. c.link.wire.is_ready ≡ true)
 
--- a connection is let go, at whose other side somebody was or nobody
+-- a connection is closed; somebody was at its other end, or nobody
 abbrev pub LetsGo : ℕ → (old new : ContactsValue) → Type 0
 LetsGo key old new = (was_there : Bool) × (new ≡ after old (Broke key was_there))
 
--- so many connections are let go in turn, each of which is stale then
+-- so many connections are closed in turn, each of which is stale then
 abbrev pub LetGoStale : ℕ → (old new : ContactsValue) → Type 0
 LetGoStale zero old new = new ≡ old
 LetGoStale (suc n) old new =
     (mid : ContactsValue) × LetGoStale n old mid
     × ((key : ℕ) × (is_slot is_stale (contact_at mid.connections key) ≡ true) × LetsGo key mid new)
 
--- those that are stale are let go, and no others
+-- those that are stale are closed, and no others
 abbrev pub LetsStaleGo : (old new : ContactsValue) → Type 0
 LetsStaleGo old new =
     ((n : ℕ) × LetGoStale n old new)
@@ -78,17 +78,17 @@ CallsOne old new =
     × ((new ≡ after old (NotCalled peer))
     ⊎ ((key : ℕ) × MayCome old (Called key peer) × (new ≡ after old (Called key peer))))
 
--- so many are, one after another
+-- so many are called, one after another
 abbrev pub CallsSome : ℕ → (old new : ContactsValue) → Type 0
 CallsSome zero old new = new ≡ old
 CallsSome (suc n) old new = (mid : ContactsValue) × CallsSome n old mid × CallsOne mid new
 
--- those that are due are called, and nobody is due any more
+-- those that are due are called, and then nobody is due
 abbrev pub CallsAll : (old new : ContactsValue) → Type 0
 CallsAll old new =
     ((n : ℕ) × CallsSome n old new) × ((peer : ℕ) → is_due_at new.peers peer ≡ false)
 
--- the stranger that came first is let go, if there is one
+-- the oldest stranger is closed, if there is one
 abbrev pub DropsFirst : Option ℕ → (old new : ContactsValue) → Type 0
 DropsFirst None old new = new ≡ old
 DropsFirst (Some key) old new = LetsGo key old new
@@ -97,7 +97,7 @@ abbrev pub DropsStranger : (old new : ContactsValue) → Type 0
 DropsStranger old new =
     (first : Option ℕ) × IsFirstStranger old.connections first × DropsFirst first old new
 
--- the stranger that came first is let go, where there are as many as there may be
+-- the oldest stranger is closed, if there are as many as there may be
 abbrev pub MakesRoom : (old new : ContactsValue) → Type 0
 MakesRoom old new = (first : Option ℕ) × IsToDrop old first × DropsFirst first old new
 
@@ -107,7 +107,7 @@ Keeps old new =
     (new ≡ old)
     ⊎ ((key : ℕ) × MayCome old (Accepted key) × (new ≡ after old (Accepted key)))
 
--- one that is kept takes sessions for this replica
+-- one that is kept awaits a session with this replica
 abbrev pub Awaits : {W : Type 0} → AcceptorValue → (old new : ContactsValue)
     → Slab (Connection W) → Type 0
 Awaits me old new slab =
@@ -115,8 +115,8 @@ Awaits me old new slab =
     ⊎ ((key : ℕ) × (new ≡ after old (Accepted key))
     × IsSomeAnd (get slab key) (λ c. c.link.acceptor ≡ Some me))
 
--- Where so many connections that others began came, a transport was asked once more, which had none;
--- or there were as many as there may be. How often it was asked before and after.
+-- After `came` connections that others began a transport was asked once more and had none, or as
+-- many as may be were accepted. `before` and `after`: how often it was asked.
 abbrev pub AsksFor : (came most before after : ℕ) → Type 0
 AsksFor came most before after =
     (after ≡ before + came + 1) ⊎ ((came ≡ most) × (after ≡ before + came))
@@ -128,13 +128,13 @@ Admits (suc n) old new =
     (mid : ContactsValue) × Admits n old mid
     × ((roomy : ContactsValue) × MakesRoom mid roomy × Keeps roomy new)
 
--- the stranger that came first is let go, or nobody
+-- the oldest stranger is closed, or nobody
 abbrev pub DropsSome : (old new : ContactsValue) → Type 0
 DropsSome old new = (new ≡ old) ⊎ DropsStranger old new
 
--- One wait: before it all are called that are due; then a poll is noted, at which a period was over
--- or not, and those go that are stale; then others are admitted; and at last a stranger may be let
--- go, where the system has too little.
+-- One wait: first all that are due are called; then a poll is noted, at which a period was over or
+-- not, and stale connections are closed; then others are admitted; at last a stranger may be
+-- closed, if the system lacks resources.
 abbrev pub WaitsOnce : (ran_out : Bool) → (old new : ContactsValue) → Type 0
 WaitsOnce ran_out old new =
     (called : ContactsValue) × (passed : ContactsValue) × (admitted : ContactsValue)
@@ -142,7 +142,7 @@ WaitsOnce ran_out old new =
     × ((n : ℕ) × Admits n passed admitted)
     × DropsSome admitted new
 
--- which replica the peer of a connection is is known, once its Hello has come
+-- the peer of a connection is known once its Hello was received
 abbrev pub learned_name : ℕ → Option ReplicaName → ContactsValue → ContactsValue
 learned_name key None s = s
 learned_name key (Some name) s = after s (Greeted key name)
@@ -151,28 +151,28 @@ abbrev pub learned : {W : Type 0} → ℕ → Option (Connection W) → Contacts
 learned key None s = s
 learned key (Some c) s = learned_name key (greeted_by c.link.session) s
 
--- it is noted that octets came, where they did
+-- it is noted that octets were received, if they were
 abbrev pub heard_at : ℕ → (has_heard : Bool) → ContactsValue → ContactsValue
 heard_at key false s = s
 heard_at key true s = after s (Heard key)
 
--- what is known of a connection after its last turn, in which octets came or did not
+-- what is known of a connection after its last turn; `has_heard`: octets were received in it
 abbrev pub known_after : {W : Type 0} → ℕ → (has_heard : Bool) → Option (Connection W)
     → ContactsValue → ContactsValue
 known_after key has_heard connection s = learned key connection (heard_at key has_heard s)
 
--- the other side sends no more on a connection, or has begun another
+-- the peer sends no more on a connection, or has begun another
 abbrev pub is_abandoned : {W : Type 0} → Option Contact → Option (Connection W) → Bool
 is_abandoned contact connection = sends_no_more connection || is_slot (λ c. c.is_replaced) contact
 
--- what is noted of one that is, or is not
+-- it is noted that a connection broke, if it is abandoned
 abbrev pub broken_if : {W : Type 0} → (abandoned : Bool) → ℕ → Option (Connection W) → ContactsValue
     → ContactsValue
 broken_if true key connection s = after s (Broke key (was_there cause.End connection))
 broken_if false key connection s = s
 
--- What a turn of a connection comes to, once it is known who is there: the end of its link is
--- noted; a broken one is let go; any other is let go where it is abandoned, and else stays.
+-- What follows a turn of a connection: the end of its link is noted; a broken one is closed; any
+-- other is closed if it is abandoned, and else stays.
 abbrev pub SettlesAs : {W : Type 0} → ℕ → Turn → Option (Connection W) → (old new : ContactsValue)
     → Type 0
 SettlesAs key turn.Progress connection old new =

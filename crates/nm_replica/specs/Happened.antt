@@ -9,8 +9,8 @@ use Rattle.nm_replica.specs.declared.serving.Polled.{Polled}
 use Rattle.nm_replica.specs.declared.serving.Serving.{Serving}
 
 -- The connections waited and had their turns, records were written, and the book did events or not.
--- Where the replica is done its book was seen to be, whether that keeps its records or not; and it
--- has stayed, or each of so many replicas of the run was seen to be done.
+-- If the replica is done, its book was seen to be done, whether that keeps its records or not; and
+-- it has stayed, or each of so many replicas of the run was seen to be done.
 abbrev pub Happens : {W S : Type 0} → Links W → (S → SinkSeen) → (limits : Bool × ℕ)
     → (old new : Serving W) → (files : List (Option (Writer S)) × List (Option (Writer S)))
     → Polled → Type 0

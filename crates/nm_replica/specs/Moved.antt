@@ -1,4 +1,4 @@
--- Octets that moved on a connection, and what its turns count of them.
+-- Octets that moved on a connection, and their counts.
 use Rattle.std.specs.Prelude.{◌≡◌, ℕ, ◌+◌, ◌-◌, Bool, true, false, nat_lt, ◌&&◌, ◌||◌, Option, Some, None, IsSomeAnd, if◌then◌else◌}
 use Rattle.nm_base.specs.Count.{saturated}
 use Rattle.nm_engine.specs.CountingWire.{CountingWireValue}
@@ -22,7 +22,7 @@ abbrev pub sends_no_more : {W : Type 0} → Option (Connection W) → Bool
 sends_no_more None = false
 sends_no_more (Some c) = c.link.wire.has_ended
 
--- the other side ended it: who ends a connection is there, though nothing could be written
+-- the peer ended it, and so is there, even if nothing could be written
 abbrev pub is_end : Cause → Bool
 is_end cause.End = true
 is_end cause.Fault = false
@@ -35,8 +35,8 @@ abbrev pub was_there : {W : Type 0} → Cause → Option (Connection W) → Bool
 was_there why connection = has_written connection || is_end why
 
 -- What is counted of a connection as its turns end: the octets that moved since they were counted
--- last, and whether some came. Before the peer's Hello none is told to the gate, and none is
--- activity. Those are told once it has come, and are never activity. All that moved is noted.
+-- last, and whether some were received. Before the peer's Hello none is reported to the gate, and
+-- none is activity. After it those are reported, and are never activity. All that moved is noted.
 pub record CountsMoves {W : Type 0} (counts : Bool) (old new : Connection W) (m : Moves) : Type 0 where
   pub moved : m.moved
       ≡ (if has_greeted new.link.session then moved_on new.link.wire - old.told else 0)
@@ -49,7 +49,7 @@ pub record CountsMoves {W : Type 0} (counts : Bool) (old new : Connection W) (m 
   pub counted : new.counted ≡ moved_on new.link.wire
   pub heard : new.heard ≡ new.link.wire.came
 
--- the same under a key: nothing moves where no connection has it
+-- the same under a key: nothing moves if no connection has it
 abbrev pub CountsMovesAt : {W : Type 0} → (counts : Bool) → (old new : Option (Connection W))
     → Moves → Type 0
 CountsMovesAt counts None new m =

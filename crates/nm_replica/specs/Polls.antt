@@ -1,4 +1,4 @@
--- What polls come to: how long nothing was ready or done, and when serving ends by it.
+-- The results of polls: how long nothing was ready or done, and when serving ends by that.
 use Rattle.std.specs.Prelude.{◌≡◌, ℕ, ◌+◌, ◌-◌, ◌%◌, ◌==◌, Bool, true, false, nat_le, nat_lt, ◌||◌, not, Option, Some, None, IfSome, is_some, Result, Ok, Err, if◌then◌else◌}
 use Rattle.std.specs.declared.alloc.AllocError.{AllocError}
 use Rattle.nm_base.specs.Count.{saturated}
@@ -26,8 +26,8 @@ KeepsCounts old new =
 abbrev pub is_active : (octets written : ℕ) → (was_run : Bool) → Bool
 is_active octets written was_run = nat_lt 0 octets || nat_lt 0 written || was_run
 
--- for how many periods in a row nothing moved and nothing was done, after one more poll, at which a
--- period was over or not
+-- for how many periods in a row nothing moved and nothing was done, after one more poll; `ran_out`:
+-- a period was over
 abbrev pub idle_after : (before : ℕ) → (was_active ran_out : Bool) → ℕ
 idle_after before true ran_out = 0
 idle_after before false ran_out = if ran_out then saturated (before + 1) else before
@@ -38,21 +38,21 @@ failed_waits before Ready = Ok 0
 failed_waits before RanOut = Ok 0
 failed_waits before Fault = if nat_le MAX_FAILED_WAITS before then Err Net else Ok (before + 1)
 
--- a wait was made, at which a period was over or not, and so many in a row have failed then
+-- a wait was made, at which a period was over or not; so many in a row have failed before and after
 abbrev pub Waits : (ran_out : Bool) → (before after : ℕ) → Type 0
 Waits ran_out before after =
     (waited : Waited) × (has_run_out waited ≡ ran_out) × (failed_waits before waited ≡ Ok after)
 
--- whether a replica is to go on at once after a run of its book, or after none: where the run left
--- events to do, and there is no pool that does them; or memory was refused to the run
+-- whether a replica goes on at once after a run of its book, or after none: if the run left events
+-- to do, and no pool does them; or the run was refused memory
 abbrev pub runs_on : (has_pool : Bool) → Option Ran → Result Bool AllocError
 runs_on has_pool None = Ok false
 runs_on has_pool (Some (All n)) = Ok false
 runs_on has_pool (Some (Limit n)) = Ok (not has_pool)
 runs_on has_pool (Some (Memory n)) = Err (record {})
 
--- what a run of a replica's book answers, of at most so many events, if it ran: without a pool it runs
--- unless that is none
+-- the answer of a run of at most so many events, if the book ran: without a pool it runs unless the
+-- limit is 0
 abbrev pub RunsOwn : (has_pool : Bool) → (limit : ℕ) → Option Ran → Type 0
 RunsOwn has_pool limit ran =
     IfSome ran (IsRunAnswer limit) × (has_pool ≡ false → is_some ran ≡ nat_lt 0 limit)
@@ -61,8 +61,8 @@ RunsOwn has_pool limit ran =
 abbrev pub is_merge_due : (polls : ℕ) → Bool
 is_merge_due polls = polls % MERGE_POLLS == MERGE_POLLS - 1
 
--- A pool is told, whether its book is lent or not, where the book is newly done; and where records
--- were written, if it is lent.
+-- A pool is notified if the book is newly done, lent or not; and if records were written and the
+-- book is lent.
 abbrev pub IsNews : (is_newly_done has_written : Bool) → Option News → Type 0
 IsNews true has_written (Some (Done told)) = Unit {0}
 IsNews true has_written (Some (Written told)) = ⊥
@@ -73,8 +73,8 @@ IsNews false true None = ⊥
 IsNews false false (Some news) = ⊥
 IsNews false false None = Unit {0}
 
--- how serving ends after a poll, if it does: it is done, or so many periods in a row were idle as
--- its limit says
+-- how serving ends after a poll, if it does: it is done, or as many periods in a row were idle as
+-- its limit
 abbrev pub ending_of : (is_done : Bool) → (idle limit polls : ℕ) → Option Served
 ending_of true idle limit polls = Some Ended
 ending_of false idle limit polls = if nat_le limit idle then Some (Stalled polls) else None

@@ -15,14 +15,15 @@ use Rattle.nm_replica.specs.declared.limits.TheConstants.{MAX_HANDED}
 abbrev pub IsEmptied : BookValue → Type 0
 IsEmptied b = length (state_of b).records ≤ b.handed
 
--- book b hands out the first n of the records that it keeps, behind those of a list, and is c then
+-- book b hands out the first n of the records that it keeps, which go behind those of a list, and
+-- is c then
 abbrev pub TakesOut : BookValue → List (Record (List ℕ)) → BookValue → List (Record (List ℕ))
     → Type 0
 TakesOut b before c after =
     (n : ℕ) × (c ≡ record b { handed = b.handed + n })
     × (after ≡ before ++ take n (drop b.handed (state_of b).records))
 
--- it has none left then, or the list has as many as there is room for or may be
+-- it has none left then, or the list has no more room, or as many as may be handed out
 abbrev pub AreAllOut : (room : ℕ) → BookValue → List (Record (List ℕ)) → Type 0
 AreAllOut room c after = IsEmptied c ⊎ (room ≤ length after) ⊎ (MAX_HANDED ≤ length after)
 
@@ -41,15 +42,14 @@ WasEmptied exact own = (b : BookValue) × (exact ≡ true → home_of b ≡ own)
 abbrev pub out_of : BookValue × ℕ → List (Record (List ℕ))
 out_of out = take out.1 (drop out.0.handed (state_of out.0).records)
 
--- what was handed out of books, one hand-out behind another: of those of this replica, if the
--- counts are exact
+-- the records handed out of books, one hand-out behind another; the books are this replica's, if
+-- the counts are exact
 abbrev pub AreHandedOut : (exact : Bool) → Home → List (Record (List ℕ)) → Type 0
 AreHandedOut exact own records =
     (outs : List (BookValue × ℕ)) × All (λ out. exact ≡ true → home_of out.0 ≡ own) outs
     × (records ≡ flat_map out_of outs)
 
--- the files took the parts of so many records that were handed out, each those at its own
--- interface
+-- of so many records that were handed out each file took those at its own interface
 pub record Wrote {S : Type 0} (seen : S → SinkSeen) (exact : Bool) (own : Home) (written : ℕ)
     (old new : List (Option (Writer S))) : Type 0 where
   pub records : List (Record (List ℕ))
@@ -57,26 +57,26 @@ pub record Wrote {S : Type 0} (seen : S → SinkSeen) (exact : Bool) (own : Home
   pub handed : AreHandedOut exact own records
   pub took : FilesTook seen records old new
 
--- however many
+-- the same for any number of records
 abbrev pub Streams : {S : Type 0} → (S → SinkSeen) → Bool → Home
     → List (Option (Writer S)) → List (Option (Writer S)) → Type 0
 Streams seen exact own old new = (n : ℕ) × Wrote seen exact own n old new
 
--- however many, which a count says that stops at the greatest `u64`
+-- the same for a count that stops at the greatest `u64`
 abbrev pub WroteAsCounted : {S : Type 0} → (S → SinkSeen) → Bool → Home → (written : ℕ)
     → List (Option (Writer S)) → List (Option (Writer S)) → Type 0
 WroteAsCounted seen exact own written old new =
     (n : ℕ) × (written ≡ saturated n) × Wrote seen exact own n old new
 
--- a file failed at one of some records that were handed out, once those before it were taken
+-- a file failed at a record that was handed out, after those before it were taken
 abbrev pub FailedStream : {S : Type 0} → (S → SinkSeen) → Bool → Home
     → List (Option (Writer S)) → List (Option (Writer S)) → Type 0
 FailedStream seen exact own old new =
     (records : List (Record (List ℕ))) × (fault : FileFault) × AreHandedOut exact own records
     × FailedAt seen records old new fault
 
--- However serving ended, the files took the parts of what was handed out, each those at its own
--- interface, or those before a record at which one of them failed.
+-- However serving ended, of the records handed out each file took those at its own interface, or
+-- those before a record at which one of them failed.
 abbrev pub Streamed : {S : Type 0} → (S → SinkSeen) → Bool → Home
     → List (Option (Writer S)) → List (Option (Writer S)) → Type 0
 Streamed {S} seen exact own old new =

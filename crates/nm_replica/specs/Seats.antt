@@ -23,8 +23,8 @@ words_of own = map owned_word own.seats.items
 abbrev pub AreKept : (old new : OwnSeats) → Type 0
 AreKept old new = (board_of new ≡ board_of old) × (seat_count new ≡ seat_count old)
 
--- a book of this replica, if the counts are exact, was seen, and the seat's word is no less than
--- the promise that it had of the seat's channel, where that goes out
+-- a book, which is this replica's if the counts are exact, was seen, and the seat's word is no less
+-- than its promise of the seat's channel, if that goes out
 abbrev pub StandsOnBoard : (exact : Bool) → Home → OwnerSeat → Type 0
 StandsOnBoard exact own seat =
     (b : BookValue) × (exact ≡ true → home_of b ≡ own)

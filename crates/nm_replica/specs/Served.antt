@@ -21,7 +21,7 @@ use Rattle.nm_replica.specs.Finished.{IsDone}
 use Rattle.nm_replica.specs.Polls.{ending_of, idle_after, is_active}
 use Rattle.nm_replica.specs.declared.limits.TheConstants.{MAX_POLLS}
 
--- how serving ends because a link broke: not, where its wire did, or where who said no Hello spoke
+-- how serving ends because a link broke: it does not if the wire broke, or if a stranger sent
 -- nonsense
 abbrev pub break_served : Cause → Bool → Option Served
 break_served cause.End is_peer = None
@@ -31,7 +31,7 @@ break_served cause.Session is_peer = if is_peer then Some Net else None
 break_served cause.Book is_peer = Some Net
 break_served cause.Memory is_peer = Some Memory
 
--- how serving ends where trace files were not written on
+-- how serving ends if trace files could not be written
 abbrev pub file_served : Fault FileFault → Served
 file_served (fault.Refused f) = File f.iface f.written
 file_served fault.Memory = Memory
@@ -42,7 +42,7 @@ is_handed_out b =
     is_done (net_of b.topology) b.partition (replica_of b)
     && (b.handed == length (state_of b).records)
 
--- so far it was when a book of this replica, if the counts are exact, was looked at
+-- this was the state of a book, which is this replica's if the counts are exact
 abbrev pub WasSeen : (exact : Bool) → Home → Standing → Type 0
 WasSeen exact own s =
     (b : BookValue) × (exact ≡ true → home_of b ≡ own)
@@ -50,8 +50,8 @@ WasSeen exact own s =
     × (s.handed ≡ b.handed) × (s.records ≡ length (state_of b).records)
     × (s.events ≡ b.events)
 
--- a book of this replica, if the counts are exact, was seen to be done, and to have no record left
--- to hand out unless it keeps them
+-- a book, which is this replica's if the counts are exact, was seen to be done, and to have no
+-- record left to hand out unless it keeps them
 abbrev pub WasFinished : (exact : Bool) → Home → (keeps_records : Bool) → Type 0
 WasFinished exact own keeps =
     (b : BookValue) × (exact ≡ true → home_of b ≡ own) × IsDone b
@@ -64,13 +64,13 @@ WereFinished exact replicas counted =
     (n : ℕ) → n < replicas
     → (b : BookValue) × (exact ≡ true → slice_index_or counted n 0 ≤ b.events) × IsDone b
 
--- There are other replicas, so many with the own, and of each a book was seen to be done.
+-- There are other replicas, so many with this one, and of each a book was seen to be done.
 abbrev pub AllWereFinished : (replicas : ℕ) → Type 0
 AllWereFinished replicas =
     (0 < replicas) × ((n : ℕ) → n < replicas → (b : BookValue) × IsDone b)
 
--- At a poll, which ran out or not, a replica has stayed for one period more or for none, as its
--- contacts then are, and may leave.
+-- At a poll, at which a period was over or not, a replica's stay is updated by its contacts, and it
+-- may leave.
 abbrev pub HasStayed : (ran_out : Bool) → ContactsValue → (old new : Stay) → Type 0
 HasStayed ran_out contacts old new =
     (new ≡ stayed ran_out contacts old) × (leaves contacts new ≡ true)
@@ -82,9 +82,9 @@ IsSomeLeft replicas passes =
     ((b : BookValue) × (is_done (net_of b.topology) b.partition (replica_of b) ≡ false))
     ⊎ (replicas ≡ 0) ⊎ (passes < replicas)
 
--- Why serving ends: the replica was done, and its records were handed out; or no fewer periods were
--- over than the limit between the first of these counts of periods and the second, or as many waits
--- were made as there may be polls, by the counts of waits.
+-- Why serving ends: the replica was done, and its records were handed out; or no fewer periods than
+-- the limit were over between the two counts of periods; or, by the counts of waits, as many waits
+-- were made as there may be polls.
 abbrev pub EndsWith : (exact : Bool) → Home → (keeps_records : Bool) → (limit : ℕ)
     → (periods waits : ℕ × ℕ) → Served → Type 0
 EndsWith exact own keeps limit periods waits Ended = WasFinished exact own keeps
@@ -94,9 +94,9 @@ EndsWith exact own keeps limit periods waits (File iface written) = Unit {0}
 EndsWith exact own keeps limit periods waits (Stalled polls) =
     (periods.0 + limit ≤ periods.1) ⊎ (waits.0 + MAX_POLLS ≤ waits.1)
 
--- What one poll comes to, the last of so many, in which this happened. Idle periods and waits that
--- ran out, as before and after it, and whether serving ends, follow from what it came to: it was
--- active or not, a period was over or not, and the replica was found done or not.
+-- The result of one poll, the last of `polls`, in which `Happened` holds. It was active or not, a
+-- period was over or not, and the replica was found done or not. That determines the idle periods
+-- and the waits that ran out, before and after it, and whether serving ends.
 abbrev pub PolledOnce : (Happened : Polled → Type 0) → (limit polls : ℕ) → (idle waits : ℕ × ℕ)
     → Option Served → Type 0
 PolledOnce Happened limit polls idle waits end =
@@ -104,7 +104,7 @@ PolledOnce Happened limit polls idle waits end =
     × (waits.1 ≡ elapsed_after waits.0 p.ran_out)
     × (end ≡ ending_of p.is_done idle.1 limit polls) × Happened p
 
--- no trace file failed by it, and no memory was refused: each took all that was handed out
+-- no trace file failed, and no memory was refused: each file took all that was handed out
 abbrev pub took_all : Served → Bool
 took_all Ended = true
 took_all Net = true
@@ -112,11 +112,11 @@ took_all Memory = false
 took_all (File iface written) = false
 took_all (Stalled polls) = true
 
--- how serving ends where it is interrupted: the network failed, or memory was refused
+-- how serving ends if it is interrupted: the network failed, or memory was refused
 abbrev pub IsInterrupted : Served → Type 0
 IsInterrupted s = (s ≡ Net) ⊎ (s ≡ Memory)
 
--- how serving ends where the replica was not seen to be done, and is not stalled
+-- how serving ends if the replica was not seen to be done, and is not stalled
 abbrev pub EndsEarly : Served → Type 0
 EndsEarly s =
     (s ≡ Net) ⊎ (s ≡ Memory) ⊎ ((iface : ℕ) × (written : ℕ) × (s ≡ File iface written))

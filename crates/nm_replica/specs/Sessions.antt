@@ -1,4 +1,4 @@
--- Sessions with peers to which the replica connects.
+-- Sessions with peers that the replica calls.
 use Rattle.std.specs.Prelude.{◌≡◌, ℕ, false, List, Option, Some, None, map}
 use Rattle.nm_topology.specs.TopologyValue.{TopologyValue}
 use Rattle.nm_frames.specs.Session.{SessionValue, new_incoming, new_outgoing, new_session}

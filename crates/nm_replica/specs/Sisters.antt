@@ -10,13 +10,13 @@ replica_name partition replica = record { partition = partition; replica = repli
 abbrev pub is_sister_of : ReplicaName → ReplicaName → Bool
 is_sister_of own other = (other.partition == own.partition) && not (other.replica == own.replica)
 
--- whether there is a book of this number, and so many passes that it has one
+-- whether there is a book with this number, and a pass of it among so many
 abbrev pub has_pass : Option ℕ → (passes : ℕ) → Bool
 has_pass None passes = false
 has_pass (Some n) passes = nat_lt n passes
 
--- What was merged, where the sister's book stands there and has a pass: what the sister knows, into
--- the own book.
+-- What was merged, if the sister's book is there and has a pass: the sister's knowledge, into the
+-- replica's own book.
 pub record MergesSister (own : ReplicaName) (sister : Option ℕ) (passes : ℕ)
     (merged : Option Merged) : Type 0 where
   pub whether : is_some merged ≡ has_pass sister passes

@@ -28,7 +28,7 @@ has_moved turn.Ended = false
 has_moved (turn.Broken cause) = false
 has_moved turn.Failed = false
 
--- What its links do, of a replica: what is seen of their wires, and whose book they act on.
+-- The links of a replica: what is seen of their wires, and the book that they act on.
 pub record Links (W : Type 0) : Type 0 where
   pub seen : W → WireSeen
   pub owner : Owner
@@ -36,7 +36,7 @@ pub record Links (W : Type 0) : Type 0 where
 abbrev pub links : {W : Type 0} → (W → WireSeen) → Bool → Home → Links W
 links seen exact home = record { seen = seen; owner = owner_if exact home }
 
--- The turns of one link, in each of which it only hears, or speaks too.
+-- The turns of one link, in each of which it only reads, or also writes.
 module _ {W : Type 0} (seen : W → WireSeen) where
   -- one turn, by the pass of the replica's book
   abbrev pub TurnsAs : ByPass → Does → (old new : LinkValue W) → Turn → Type 0
@@ -55,14 +55,14 @@ module _ {W : Type 0} (seen : W → WireSeen) where
     Progresses does (suc n) old new =
         (mid : LinkValue W) × Progresses does n old mid × TurnsOnce does mid new turn.Progress
 
-    -- as many as it may have, or up to the first in which nothing moved or which was the last
+    -- as many turns as it may have, or up to the first in which nothing moved or which was the last
     abbrev pub HasTurns : Does → (old new : LinkValue W) → Turn → Type 0
     HasTurns does old new last =
         ((n : ℕ) × (n ≡ MAX_TURNS) × Progresses does n old new × (last ≡ turn.Progress))
         ⊎ ((n : ℕ) × (mid : LinkValue W) × (n < MAX_TURNS) × Progresses does n old mid
         × TurnsOnce does mid new last × (has_moved last ≡ false))
 
--- the same under a key: no turn where no connection has it
+-- the same under a key: no turn if no connection has it
 abbrev pub HasTurnsAt : {W : Type 0} → Links W → Does → (old new : Option (Connection W)) → Turn
     → Type 0
 HasTurnsAt l does None new last = last ≡ turn.Idle
@@ -73,8 +73,8 @@ HasTurnsAt l does (Some old) new last =
 abbrev pub KeepsOthers : {W : Type 0} → ℕ → (old new : Slab (Connection W)) → Type 0
 KeepsOthers key old new = (other : ℕ) → other ≢ key → get new other ≡ get old other
 
--- a key keeps its connection after its last turn where that is not abandoned, and loses it where
--- the link ended or broke
+-- a key keeps its connection after its last turn if that is not abandoned, and loses it if the link
+-- ended or broke
 abbrev pub kept_after : {W : Type 0} → Turn → (abandoned : Bool) → Option (Connection W)
     → Option (Connection W)
 kept_after turn.Progress abandoned connection = if abandoned then None else connection
@@ -84,7 +84,7 @@ kept_after (turn.Broken cause) abandoned connection = None
 kept_after turn.Failed abandoned connection = connection
 
 module _ {W : Type 0} (key : ℕ) (old new : Connections W) where
-  -- the connection with the key, if there is one, has its turns, which come to this, and its octets
+  -- the connection with the key, if there is one, has its turns with this result, and its octets
   -- count once its greeting is over; nothing else changes
   pub record GivesTurns (l : Links W) (does : Does) (r : Moves × Turn) : Type 0 where
     pub talked : HasTurnsAt l does (get old.open key) (get new.open key) r.1
@@ -94,7 +94,7 @@ module _ {W : Type 0} (key : ℕ) (old new : Connections W) where
     pub contacts : new.contacts ≡ old.contacts
     pub sessions : new.sessions ≡ old.sessions
 
-  -- what its last turn asks for is done, in which octets came or did not, and nothing else
+  -- what its last turn requires is done, and nothing else; `has_heard`: octets were received in it
   pub record SettlesKey (last : Turn) (has_heard : Bool) : Type 0 where
     pub contacts : SettlesAs key last (get old.open key)
         (known_after key has_heard (get old.open key) old.contacts) new.contacts
@@ -105,7 +105,7 @@ module _ {W : Type 0} (key : ℕ) (old new : Connections W) where
     pub others : KeepsOthers key old.open new.open
 
 module _ {W : Type 0} (l : Links W) where
-  -- a key is served: its connection has its turns, and what the last of them asks for is done
+  -- a key is served: its connection has its turns, and what the last one requires is done
   abbrev pub ServesKey : Does → ℕ → (old new : Connections W) → Moves → Type 0
   ServesKey does key old new m =
       (turned : Connections W) × (last : Turn)
@@ -125,14 +125,14 @@ module _ {W : Type 0} (l : Links W) where
   ServesAll does old new moved octets =
       (n : ℕ) × (length old.open.slots ≤ n) × ServesKeys does n old new moved octets
 
-  -- all keys are served twice: connections first hear, and then they speak
+  -- all keys are served twice: connections first only read, and then also write
   abbrev pub ServesTwice : (old new : Connections W) → (moved octets : ℕ) → Type 0
   ServesTwice old new moved octets =
       (heard : Connections W) × (told : ℕ) × (counted : ℕ) × (told' : ℕ) × (counted' : ℕ)
       × ServesAll Hear old heard told counted × ServesAll Speak heard new told' counted'
       × (moved ≡ saturated (told + told')) × (octets ≡ saturated (counted + counted'))
 
-  -- a wait, after which all keys are served twice, and all are looked at where a period was over
+  -- a wait, after which all keys are served twice; all are read if a period was over
   abbrev pub WaitsAndServes : (ran_out : Bool) → (old new : Connections W) → (moved octets : ℕ)
       → Type 0
   WaitsAndServes ran_out old new moved octets =

@@ -1,4 +1,4 @@
-//! What the loop does with a shared book in one go.
+//! What the loop does with a shared book in one act.
 
 ghost use Rattle.std.specs.Prelude.{◌≡◌, ◌+◌, length, Some};
 ghost use Rattle.nm_book.specs.Book.{replica_of, safe_of, state_of};
@@ -17,11 +17,11 @@ use nm_shared::Act;
 /// How far a book is.
 #[derive(Clone, Copy, Drop)]
 pub struct Standing {
-    /// It may run what is before this time.
+    /// It may do the events before this time.
     pub safe: Time,
     /// How many events were done.
     pub events: u64,
-    /// How many records its trace has, those that were handed out among them.
+    /// How many records its trace has, with those that were handed out.
     pub records: u64,
     /// How many of them were handed out.
     pub handed: u64,
@@ -76,8 +76,8 @@ fn take_some(book: &mut Book, room: &mut Vec<Record>)
     }
 }
 
-/// Takes the first records out that are kept, as many as the list has room for: all in one go where
-/// it has room for all.
+/// Takes the first records out that are kept, as many as the list has room for: all at once if it
+/// has room for all.
 fn take_out(book: &mut Book, room: Vec<Record>) -> Vec<Record>
     ensures takes { TakesOut book.old room.items book.new result.items }
     ensures all { AreAllOut room.cap book.new result.items }
@@ -105,8 +105,8 @@ pub struct HandedOut {
     pub is_last: bool,
 }
 
-/// `Book::hand_out`, again and again: takes the first records that are kept out of the trace, as
-/// many as the list has room for, and appends them.
+/// `Book::hand_out`, repeated: takes the first kept records out of the trace, as many as the list
+/// has room for, and appends them.
 #[derive(Drop)]
 pub struct HandOutSome {
     pub room: Vec<Record>,
@@ -136,7 +136,7 @@ impl Act for HandOutSome {
     ghost grows = { λ a b r c h. handed_grows (b.handed + h.0.takes.0) b c h.0.takes.1 };
 }
 
-/// The channel that comes in whose clock is the least: the one that holds the book back.
+/// The incoming channel with the least clock, which holds the book back.
 fn least_channel(book: &Book) -> Option<ChanNo> {
     let topology = book.topology();
     let (mut least, mut found) = (u64::MAX, None);

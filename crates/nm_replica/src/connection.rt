@@ -7,22 +7,22 @@ ghost use Rattle.nm_replica.specs.Moved.{moved_on};
 use nm_engine::{CountingWire, GivenBefore, GivenCounts, Link};
 use nm_frames::Session;
 
-/// How many octets moved on a connection whose peer greeted, and how many of them count as
-/// activity.
+/// How many octets moved on a connection with a Hello, and how many of them count as activity.
 #[derive(Clone, Copy)]
 pub(crate) struct MovedCounts {
     pub all: u64,
     pub counted: u64,
 }
 
-/// A link, and what of it has been counted.
+/// A link, and what was counted of it.
 #[derive(Drop)]
 pub(crate) struct Connection<W> {
     pub link: Link<CountingWire<W>>,
-    /// How many octets had moved when the gate was told last, and when activity was counted last.
+    /// How many octets had moved when they were last reported to the gate, and when activity was
+    /// last counted.
     told: u64,
     counted: u64,
-    /// How many octets had come when that was looked at last.
+    /// How many octets had been received at the last call of `has_heard`.
     heard: u64,
     /// What its link had given when that was counted last.
     given: GivenCounts,
@@ -42,9 +42,9 @@ impl<W> Connection<W> {
         }
     }
 
-    /// How many octets moved since they were counted last. Before the peer's Hello has come they
-    /// may be a stranger's: none is told, and none counts. Those are told when it has come, and
-    /// never count, as what moves while octets of this connection do not count.
+    /// How many octets moved since they were counted last. Before the peer's Hello they may be a
+    /// stranger's: none is reported, and none is activity. After the Hello those are reported, and
+    /// are never activity, as are octets that move while `counts` is false.
     pub(crate) fn count_moved(&mut self, counts: bool) -> MovedCounts
         ensures all { result.all ≡ (if has_greeted self.old.link.session
             then moved_on self.old.link.wire - self.old.told else 0) }
@@ -67,7 +67,7 @@ impl<W> Connection<W> {
         MovedCounts { all, counted }
     }
 
-    /// Whether octets have come since it was asked last.
+    /// Whether octets were received since this was called last.
     pub(crate) fn has_heard(&mut self) -> bool
         ensures value { result ≡ nat_lt self.old.heard self.old.link.wire.came }
         ensures noted { self.new.heard ≡ self.old.link.wire.came }
@@ -80,7 +80,7 @@ impl<W> Connection<W> {
         is_more
     }
 
-    /// What its link has given since that was counted last, where it is counted.
+    /// What its link has given since that was counted last, if it is counted.
     pub(crate) fn count_given(&mut self) -> GivenCounts
         ensures { (self.new.link ≡ self.old.link) × (self.new.told ≡ self.old.told)
             × (self.new.counted ≡ self.old.counted) × (self.new.heard ≡ self.old.heard) }
@@ -94,8 +94,8 @@ impl<W> Connection<W> {
         more
     }
 
-    /// How many of the messages that its link has given had been given to the same replica on one
-    /// of the connections that are gone.
+    /// How many of the messages that its link has given had been given to the same replica on a
+    /// connection that is gone.
     pub(crate) fn resent(&self, before: &GivenBefore) -> u64 {
         match (self.link.greeted_by(), self.link.given()) {
             (Some(name), Some(given)) => before.resent_to(&name, &given.messages),

@@ -1,4 +1,4 @@
-//! The connections of a replica: begun, accepted and let go as its contacts say.
+//! The connections of a replica: begun, accepted and closed as its contacts require.
 
 ghost use Rattle.std.specs.Arc.{arc_value};
 ghost use Rattle.std.specs.Option.{option_map};
@@ -35,38 +35,38 @@ use slab::Slab;
 use std::alloc::{AllocError, Global};
 use std::sync::Arc;
 
-/// The connections that there are, and what is known of those with whom the replica speaks.
+/// The open connections, and the contacts of the replica.
 #[derive(Drop)]
 pub(crate) struct Connections<W> {
     pub open: Slab<Connection<W>>,
     pub contacts: Contacts,
     pub sessions: Sessions,
-    /// On how many connections the peer said Hello, and how many of these broke.
+    /// On how many connections the peer sent Hello, and how many of these broke.
     pub begun: u64,
     pub broken: u64,
-    /// What links give is counted, since figures are asked for; and what those gave whose
-    /// connections are gone.
+    /// Whether what links give is counted, for figures; and what links gave on connections that are
+    /// gone.
     is_counted: bool,
     given: GivenBefore,
 }
 
-/// What is left to tell of a connection that was taken out.
+/// What is still needed of a connection that was taken out.
 #[derive(Clone, Copy)]
 struct Left {
-    /// It was that of a peer, who is called or said Hello.
+    /// It was a peer's, which the replica calls or which sent Hello.
     is_peer: bool,
     /// Octets were written on it, so that somebody was there.
     has_written: bool,
 }
 
-/// Whether a link broke since the other side sends no more.
+/// Whether a link broke because the peer sends no more.
 fn is_end(cause: Cause) -> bool
     ensures { result ≡ is_end cause }
 {
     matches!(cause, Cause::End)
 }
 
-/// A connection to this peer, which the transport watches under this key, if it can.
+/// A connection to this peer that the transport watches under this key, if it can.
 fn connect<T: Transport>(transport: &mut T, peer: usize, key: usize) -> Option<T::Connection>
     ensures leads { IfSome result (λ w. T.leads_to w ≡ Some peer) }
     ensures idle { T.elapsed_periods transport.new ≡ T.elapsed_periods transport.old }
@@ -77,7 +77,7 @@ fn connect<T: Transport>(transport: &mut T, peer: usize, key: usize) -> Option<T
     transport.watch(wire, key)
 }
 
-/// A link. What it gives is counted, or is not.
+/// A link; `is_counted`: what it gives is counted.
 fn counted<W>(alloc: Global, link: Link<W>, is_counted: bool) -> Link<W>
     ensures { result ≡ link }
 {
@@ -110,14 +110,14 @@ impl<W> Connections<W> {
         })
     }
 
-    /// A key that no connection reaches: each has a lesser one.
+    /// A key above those of all connections.
     pub(crate) fn key_end(&self) -> usize
         ensures { length self.now.open.slots ≤ result }
     {
         self.open.capacity()
     }
 
-    /// Whether more may be read that no wait reports.
+    /// Whether more may be read without a wait's report.
     pub(crate) fn have_more(&self) -> bool
         ensures { result ≡ false → IsNoneReady self.now.open }
     {
@@ -129,7 +129,7 @@ impl<W> Connections<W> {
         false
     }
 
-    /// Whether something may have come on the connection with this key.
+    /// Whether there may be something to read on the connection with this key.
     fn is_ready(&self, key: usize) -> bool
         ensures { result ≡ is_ready (get self.now.open key) }
     {
@@ -139,7 +139,7 @@ impl<W> Connections<W> {
         }
     }
 
-    /// A wait reported a connection, which may be gone.
+    /// Notes a report of a wait; its connection may be gone.
     pub(crate) fn note(&mut self, report: Reported)
         ensures contacts { self.new.contacts ≡ self.old.contacts }
         ensures open { Updates self.old.open self.new.open report.key
@@ -150,7 +150,7 @@ impl<W> Connections<W> {
         }
     }
 
-    /// A wait ran out: each connection is looked at, whatever was reported.
+    /// A wait ran out: each connection is to be read, whatever was reported.
     pub(crate) fn note_all(&mut self)
         ensures contacts { self.new.contacts ≡ self.old.contacts }
         ensures ready { AreAllReady self.new.open }
@@ -160,7 +160,7 @@ impl<W> Connections<W> {
         }
     }
 
-    /// Calls this peer, as far as the transport lets it.
+    /// Calls this peer, if the transport can.
     fn dial<T: Transport<Connection = W>>(
         &mut self,
         alloc: Global,
@@ -218,7 +218,7 @@ impl<W> Connections<W> {
         Ok(())
     }
 
-    /// Where there are as many strangers as there may be, lets the one go that came first.
+    /// Closes the oldest stranger, if there are as many as there may be.
     fn make_room<T: Transport<Connection = W>>(&mut self, transport: &mut T)
         ensures idle { T.elapsed_periods transport.new ≡ T.elapsed_periods transport.old }
         ensures waits { (T.asked transport.new).waits ≡ (T.asked transport.old).waits }
@@ -270,8 +270,8 @@ impl<W> Connections<W> {
         Ok(())
     }
 
-    /// Accepts the connections that others began. Where there are as many strangers as there may
-    /// be, the one that came first is let go.
+    /// Accepts the connections that others began. If there are as many strangers as there may be,
+    /// the oldest is closed.
     pub(crate) fn accept_all<T: Transport<Connection = W>>(
         &mut self,
         alloc: Global,
@@ -283,7 +283,7 @@ impl<W> Connections<W> {
         ensures admits { OnOk result
             ((n : ℕ) × Admits n self.old.contacts self.new.contacts) }
 
-        // The transport is asked until there is none, or there were as many as there may be.
+        // The transport is asked until it has none, or as many as may be were accepted.
         ensures asked { OnOk result ((n : ℕ) × Admits n self.old.contacts self.new.contacts
             × AsksFor n MAX_ACCEPTED (T.asked transport.old).accepts
             (T.asked transport.new).accepts) }
@@ -298,7 +298,7 @@ impl<W> Connections<W> {
         Ok(())
     }
 
-    /// Lets the stranger go that came first, if there is one.
+    /// Closes the oldest stranger, if there is one.
     pub(crate) fn drop_first<T: Transport<Connection = W>>(&mut self, transport: &mut T)
         ensures idle { T.elapsed_periods transport.new ≡ T.elapsed_periods transport.old }
         ensures waits { (T.asked transport.new).waits ≡ (T.asked transport.old).waits }
@@ -309,7 +309,7 @@ impl<W> Connections<W> {
         }
     }
 
-    /// Lets the connection with this key go for another.
+    /// Closes the connection with this key to make room.
     fn drop_at<T: Transport<Connection = W>>(&mut self, transport: &mut T, key: usize)
         ensures idle { T.elapsed_periods transport.new ≡ T.elapsed_periods transport.old }
         ensures waits { (T.asked transport.new).waits ≡ (T.asked transport.old).waits }
@@ -324,7 +324,7 @@ impl<W> Connections<W> {
         });
     }
 
-    /// A poll was made, and ran out or not. Connections that are stale are let go, and calls among
+    /// A poll was made; `ran_out`: a period was over. Stale connections are closed, and calls among
     /// them are made again.
     pub(crate) fn pass_poll<T: Transport<Connection = W>>(
         &mut self,
@@ -340,8 +340,8 @@ impl<W> Connections<W> {
         self.let_stale_go(transport);
     }
 
-    /// Lets the connections go on which no Hello came for their time, or nothing for as long from a
-    /// peer for which the replica waits.
+    /// Closes the connections without a Hello in time, or with a peer for which the replica waits
+    /// and which sent nothing for as long.
     fn let_stale_go<T: Transport<Connection = W>>(&mut self, transport: &mut T)
         ensures idle { T.elapsed_periods transport.new ≡ T.elapsed_periods transport.old }
         ensures waits { (T.asked transport.new).waits ≡ (T.asked transport.old).waits }
@@ -354,12 +354,12 @@ impl<W> Connections<W> {
         }
     }
 
-    /// Does what the last turn of the connection with this key asks for, in which octets came or
-    /// did not.
+    /// Does what the last turn of the connection with this key requires; `has_heard`: octets were
+    /// received in it.
     ///
     /// # Errors
     ///
-    /// How serving ends, where it does.
+    /// How serving ends, if it does.
     pub(crate) fn settle<T: Transport<Connection = W>>(
         &mut self,
         transport: &mut T,
@@ -391,7 +391,7 @@ impl<W> Connections<W> {
         }
     }
 
-    /// Whether the other side sends no more on the connection with this key, or has begun another.
+    /// Whether the peer sends no more on the connection with this key, or has begun another.
     fn is_abandoned(&self, key: usize) -> bool
         ensures { result ≡ is_abandoned (contact_at self.now.contacts.connections key)
             (get self.now.open key) }
@@ -403,7 +403,7 @@ impl<W> Connections<W> {
         has_ended || self.contacts.is_replaced(key)
     }
 
-    /// Notes that octets came on the connection with this key, where they did.
+    /// Notes that octets were received on the connection with this key, if they were.
     fn hear(&mut self, key: usize, has_heard: bool)
         ensures contacts { self.new.contacts ≡ heard_at key has_heard self.old.contacts }
         ensures open { self.new.open ≡ self.old.open }
@@ -413,7 +413,8 @@ impl<W> Connections<W> {
         }
     }
 
-    /// Learns which replica the peer of the connection with this key is, once its Hello has come.
+    /// Learns which replica the peer of the connection with this key is, once its Hello was
+    /// received.
     fn learn(&mut self, key: usize)
         ensures contacts { self.new.contacts
             ≡ learned key (get self.old.open key) self.old.contacts }
@@ -432,8 +433,8 @@ impl<W> Connections<W> {
     }
 
     /// Takes the connection with this key out, if it is there. The session of a peer that is called
-    /// comes back. What is left to tell of it: whether it was a peer's, and whether octets were
-    /// written on it.
+    /// comes back. Answers whether the connection was a peer's, and whether octets were written on
+    /// it.
     fn remove<T: Transport<Connection = W>>(&mut self, transport: &mut T, key: usize) -> Left
         ensures idle { T.elapsed_periods transport.new ≡ T.elapsed_periods transport.old }
         ensures waits { (T.asked transport.new).waits ≡ (T.asked transport.old).waits }
@@ -469,11 +470,11 @@ impl<W> Connections<W> {
         }
     }
 
-    /// Lets a broken connection go. Its session, if the replica is to call again, begins anew.
+    /// Closes a broken connection. If the replica is to call again, its session starts again.
     ///
     /// # Errors
     ///
-    /// How serving ends, where it does.
+    /// How serving ends, if it does.
     fn let_go<T: Transport<Connection = W>>(
         &mut self,
         transport: &mut T,
@@ -497,13 +498,13 @@ impl<W> Connections<W> {
         if let Some(served) = break_served(cause, is_peer) {
             return Err(served);
         }
-        // Who ends a connection is there, though nothing could be written.
+        // A peer that ends a connection is there, even if nothing could be written.
         self.note_broken(key, has_written || is_end(cause));
         Ok(())
     }
 
-    /// Lets a connection go on which nothing came in time. Its session, if the replica is to call
-    /// again, begins anew.
+    /// Closes a connection on which nothing was received in time. If the replica is to call again,
+    /// its session starts again.
     fn break_at<T: Transport<Connection = W>>(&mut self, transport: &mut T, key: usize)
         ensures idle { T.elapsed_periods transport.new ≡ T.elapsed_periods transport.old }
         ensures waits { (T.asked transport.new).waits ≡ (T.asked transport.old).waits }
@@ -516,7 +517,7 @@ impl<W> Connections<W> {
         self.note_broken(key, has_written);
     }
 
-    /// Notes that the connection with this key broke, at whose other side somebody was or nobody.
+    /// Notes that the connection with this key broke; `was_there`: somebody was at its other end.
     fn note_broken(&mut self, key: usize, was_there: bool)
         ensures contacts { self.new.contacts
             ≡ after self.old.contacts (event.Broke key was_there) }
@@ -529,7 +530,7 @@ impl<W> Connections<W> {
     }
 
     /// How many of the messages that were given had been given to the same replica on an earlier
-    /// connection, where that is counted.
+    /// connection, if that is counted.
     pub(crate) fn resent(&self) -> u64 {
         let mut count = self.given.resent();
         for (_, connection) in self.open.iter() {

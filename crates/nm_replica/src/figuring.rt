@@ -1,4 +1,4 @@
-//! What a replica notes of what it does, where that is asked for.
+//! The figures of a replica, if they are asked for.
 
 use crate::acts::{HeldBack, Standing};
 use crate::replica::Service;
@@ -8,13 +8,13 @@ use nm_progress::{Figure, ReplicaFigures};
 use nm_shared::{Counts, Pass};
 use std::sync::Wait;
 
-/// Where it notes what it does, if that is asked for.
+/// Where a replica notes its figures, if that is asked for.
 fn own<'a, C: Counts>(service: &Service<'a, C>) -> Option<ReplicaFigures<'a>> {
     let figures = service.progress?.figures()?;
     Some(figures.of(service.book.partition, service.book.replica))
 }
 
-/// It waits now, or does not.
+/// Notes whether the replica waits now.
 pub(crate) fn note_wait<C: Counts>(service: &Service<'_, C>, waits: bool) {
     if let Some(figures) = own(service) {
         figures.set(Figure::IsWaiting, u64::from(waits));
@@ -22,21 +22,21 @@ pub(crate) fn note_wait<C: Counts>(service: &Service<'_, C>, waits: bool) {
     }
 }
 
-/// Its book is lent now, or is not.
+/// Notes whether its book is lent now.
 pub(crate) fn note_loan<C: Counts>(service: &Service<'_, C>, is_lent: bool) {
     if let Some(figures) = own(service) {
         figures.set(Figure::IsLent, u64::from(is_lent));
     }
 }
 
-/// How far its book is, where nobody else notes that.
+/// Notes the progress of its book, if nobody else does.
 pub(crate) fn note_progress<C: Counts>(service: &Service<'_, C>, standing: &Standing) {
     if let (true, Some(progress)) = (service.notes_progress, service.progress) {
         progress.note(standing.safe, standing.records);
     }
 }
 
-/// What it did in one poll, and how far its book is.
+/// Notes what it did in one poll, and the progress of its book.
 pub(crate) fn note_figures<C: Counts, W>(
     service: &Service<'_, C>,
     serving: &Serving<W>,
@@ -59,7 +59,7 @@ pub(crate) fn note_figures<C: Counts, W>(
     figures.set(Figure::Resent, serving.connections.resent());
 }
 
-/// Which channel holds it back, where it is going to wait and is not done.
+/// Notes which channel holds it back, if it is going to wait and is not done.
 pub(crate) fn note_hold<C: Counts, R: Wait>(
     rt: &R,
     service: &Service<'_, C>,

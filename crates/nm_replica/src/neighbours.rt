@@ -1,21 +1,21 @@
-//! Which replica it is, and with whom it speaks.
+//! A replica and its peers.
 
 use nm_base::PartNo;
 use nm_frames::ReplicaName;
 use nm_topology::Topology;
 use std::sync::Arc;
 
-/// A replica, and those with which it speaks: what its connections are for.
+/// A replica and its peers, as its connections need them.
 #[derive(Clone, Copy)]
 pub(crate) struct Neighbours<'a> {
     pub topology: &'a Arc<Topology>,
     pub partition: PartNo,
     /// 0 or 1.
     pub replica: u8,
-    /// The partitions of the peers to which it connects.
+    /// The partitions of the peers that it calls.
     pub peers: &'a [PartNo],
-    /// The replicas that connect to it.
+    /// The peers that call it.
     pub callers: &'a [ReplicaName],
-    /// It is counted what links give, since figures are asked for.
+    /// What links give is counted, for figures.
     pub are_counted: bool,
 }

@@ -1,4 +1,4 @@
-//! What a replica does by itself after a wait: it runs its book, and merges what its sister knows.
+//! What a replica does itself after a wait: it runs its book, and merges what its sister knows.
 
 ghost use Rattle.std.specs.Prelude.{◌≡◌, IfOk, IfSome, Ok, if◌then◌else◌, is_some, length, not};
 ghost use Rattle.std.specs.Prelude.{position};
@@ -23,8 +23,8 @@ fn own_limit(is_lent: bool, run_limit: u64) -> u64
     if is_lent { 0 } else { run_limit }
 }
 
-/// Its run left events to do: whether the replica is to go on with them at once. Where there is a
-/// pool, that does them.
+/// Whether the replica goes on at once with the events that its run left. If there is a pool, that
+/// does them.
 fn goes_on<C: Counts>(service: &Service<'_, C>) -> bool
     ensures { result ≡ not service.now.lending.now }
 {
@@ -33,11 +33,11 @@ fn goes_on<C: Counts>(service: &Service<'_, C>) -> bool
     lent.is_none()
 }
 
-/// Whether the replica is to go on at once after a run, or after none.
+/// Whether the replica goes on at once after a run, or after none.
 ///
 /// # Errors
 ///
-/// Where memory was refused to the run.
+/// If the run was refused memory.
 fn runs_on<C: Counts>(service: &Service<'_, C>, ran: Option<Ran>) -> Result<bool, AllocError>
     ensures { result ≡ runs_on service.now.lending.now ran }
 {
@@ -67,15 +67,15 @@ fn run_own<C: Counts, R: Wait>(
 /// What a replica did with its book.
 #[derive(Clone, Copy)]
 pub(crate) struct Own {
-    /// How far it is.
+    /// The state of the book.
     pub standing: Standing,
-    /// What a run of it came to, if it ran.
+    /// The answer of its run, if it ran.
     pub ran: Option<Ran>,
-    /// It may run on at once, which no replica does that has a pool.
+    /// It may run on at once; a replica with a pool never does.
     pub runs_on: bool,
 }
 
-/// Runs the book, if the replica is to, and looks how far it is.
+/// Runs the book, if the replica is to, and reads its state.
 fn run_book<C: Counts, R: Wait>(
     rt: &R,
     alloc: Global,
@@ -98,7 +98,7 @@ fn run_book<C: Counts, R: Wait>(
     })
 }
 
-/// Merges what the sister knows after so many polls, where that is to be done then: whether it was,
+/// Merges what the sister knows, if that is due after so many polls. Answers whether it was due,
 /// and what was merged into which book.
 fn merge_at<C: Counts, S, R: Wait>(
     rt: &R,
@@ -125,7 +125,7 @@ fn merge_at<C: Counts, S, R: Wait>(
     Ok(Some(merge_sister(rt, alloc, service, holdings)?))
 }
 
-/// What the replica does by itself after a poll: its events, and what its sister knows.
+/// What the replica does itself after a poll: its events, and the merge.
 pub(crate) fn act_alone<C: Counts, S, R: Wait>(
     rt: &R,
     alloc: Global,

@@ -14,7 +14,7 @@ use nm_shared::{Counts, Pass};
 use std::alloc::Global;
 use std::sync::Wait;
 
-/// What writing came to.
+/// The result of writing records.
 #[derive(Clone, Copy)]
 pub(crate) struct Recorded {
     /// How many records were written.
@@ -50,12 +50,12 @@ fn write_some<C: Counts, S: Sink, R: Wait>(
     })
 }
 
-/// Takes the records that there are out of the book, unless it is to keep them, and writes those
-/// whose interfaces have trace files.
+/// Takes the records out of the book, unless it is to keep them, and writes those of interfaces
+/// with trace files.
 ///
 /// # Errors
 ///
-/// `File` where a file failed. `Memory` where memory was refused, and no record is lost.
+/// `File` if a file failed. `Memory` if memory was refused; no record is lost then.
 pub(crate) fn write_records<C: Counts, S: Sink, R: Wait>(
     rt: &R,
     alloc: Global,

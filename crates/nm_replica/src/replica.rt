@@ -25,37 +25,38 @@ use nm_transport::Transport;
 use std::alloc::{AllocError, Global};
 use std::sync::{Arc, Wait};
 
-/// A replica, those with which it speaks, and its limits.
+/// A replica, its peers, and its limits.
 #[derive(Clone, Copy)]
 pub struct Service<'a, C: Counts> {
     pub topology: &'a Arc<Topology>,
-    /// Its book, which says which replica it is.
+    /// Its book, which has its partition and number.
     pub book: &'a SharedBook<C>,
-    /// The partitions of the peers to which it connects, by their numbers in the network: one for
-    /// each replica of a partition above its own with which it shares a channel.
+    /// The partitions of the peers that it calls: one for each replica of a partition above its own
+    /// with which it shares a channel.
     pub peers: &'a [PartNo],
-    /// The replicas that connect to it: those of the partitions below with which it shares one.
+    /// The peers that call it: the replicas of partitions below its own with which it shares a
+    /// channel.
     pub callers: &'a [ReplicaName],
-    /// The books of all replicas of the run, its own among them. None in a run of its own, where it
-    /// merges with nobody.
+    /// The books of all replicas of the run, its own included. None if it runs alone and merges
+    /// with nobody.
     pub books: &'a [SharedBook<C>],
-    /// After so many periods in a row in which nothing moved and nothing was done it is stalled.
+    /// It is stalled after so many periods in a row in which nothing moved and nothing was done.
     pub idle_limit: u64,
     /// How many events it does at most after each poll.
     pub run_limit: u64,
-    /// Whose turn it is to run its book. While it is lent the replica does no event itself.
+    /// Who runs its book. While that is lent, the replica does no event itself.
     pub lending: &'a Lending,
-    /// Where it notes what it does, if that is asked for there.
+    /// Where it notes its figures, if they are asked for.
     pub progress: Option<&'a Progress>,
-    /// It notes there how far its book is, too: nobody else does.
+    /// It also notes the progress of its book there, since nobody else does.
     pub notes_progress: bool,
-    /// Its book keeps its records, for who closes it. Else they leave it while it runs: to the
-    /// trace files, where it has any.
+    /// Its book keeps its records until it is closed. Else they leave it while it runs, to the
+    /// trace files, if there are any.
     pub keeps_records: bool,
 }
 
 impl<'a, C: Counts> Service<'a, C> {
-    /// What its connections are for.
+    /// The replica and its peers.
     pub(crate) fn neighbours(&self) -> Neighbours<'a>
         ensures { (result.topology ≡ self.now.topology)
             × (result.partition ≡ self.now.book.now.partition)
@@ -77,7 +78,7 @@ impl<'a, C: Counts> Service<'a, C> {
     }
 }
 
-/// What a replica holds while it runs, and has still when it has ended.
+/// What a replica holds while it runs, and still has once it has ended.
 #[derive(Drop)]
 pub struct Holdings<'a, C: Counts, S> {
     /// The pass of its book.
@@ -117,7 +118,7 @@ fn ending_of(is_done: bool, idle: u64, limit: u64, polls: u64) -> Option<Served>
     None
 }
 
-/// A replica that is served a poll at a time: its connections, and what it counts.
+/// A replica that is served poll by poll: its connections, and its counts.
 #[derive(Drop)]
 pub struct Running<W> {
     serving: Serving<W>,
@@ -128,11 +129,11 @@ pub struct Running<W> {
 }
 
 impl<W> Running<W> {
-    /// One that has no connection so far.
+    /// A replica without connections.
     ///
     /// # Errors
     ///
-    /// Where memory was refused.
+    /// If memory was refused.
     pub fn new<C: Counts>(alloc: Global, service: &Service<'_, C>) -> Result<Self, AllocError>
         ensures { IfOk result (λ r. (r.idle ≡ 0) × (r.polls ≡ 0)) }
     {
@@ -144,12 +145,11 @@ impl<W> Running<W> {
     }
 }
 
-/// Makes one poll of a replica: how serving ends by it, if it does. `run_replica` does this again
-/// and again.
+/// Makes one poll of a replica. Answers how serving ends, if it does. `run_replica` repeats this.
 ///
 /// # Errors
 ///
-/// How serving ends where the replica was not seen to be done, and is not stalled.
+/// How serving ends if the replica was not seen to be done, and is not stalled.
 #[tactic(auto, using(crate::proofs::Polls::polled_once))]
 pub fn poll_replica<C: Counts, S: Sink, T: Transport, R: Wait>(
     rt: &R,
@@ -159,8 +159,8 @@ pub fn poll_replica<C: Counts, S: Sink, T: Transport, R: Wait>(
     transport: &mut T,
     running: &mut Running<T::Connection>,
 ) -> Result<Option<Served>, Served>
-    // Each file took those at its interface of the records that were handed out; where it fails,
-    // those before the record at which a file failed.
+    // Of the records that were handed out each file took those at its interface; on failure, those
+    // before the record at which a file failed.
     ensures streams { OnOk result (Streams S.seen C.exact C.home
         holdings.old.files.files.items holdings.new.files.files.items) }
     ensures so_far { IfErr result (λ _. Streamed S.seen C.exact C.home
@@ -169,7 +169,7 @@ pub fn poll_replica<C: Counts, S: Sink, T: Transport, R: Wait>(
         holdings.old.files.files.items holdings.new.files.files.items) }
 
     // Connections waited and had their turns, records were written, and the book did events or not.
-    // What is counted of idle periods, and whether serving ends by it, follow from that.
+    // That determines the count of idle periods, and whether serving ends.
     ensures exact { IfOk result (PolledOnce (Happens
         (links T.Connection.seen C.exact C.home) S.seen
         (service.now.keeps_records, length service.now.books.now)
@@ -182,7 +182,7 @@ pub fn poll_replica<C: Counts, S: Sink, T: Transport, R: Wait>(
         ((T.asked transport.new).waits ≡ (T.asked transport.old).waits + 1) }
     ensures early { IfErr result EndsEarly }
 
-    // The seats and the passes stay, and the promise of each seat's channel stands on the board.
+    // The seats and the passes stay, and the board has the promise of each seat's channel.
     ensures seats { AreKept holdings.old.seats holdings.new.seats }
     ensures told { OnOk result (StandOnBoard C.exact C.home holdings.new.seats) }
     ensures passes { length holdings.new.passes.items ≡ length holdings.old.passes.items }
@@ -206,19 +206,19 @@ pub fn poll_replica<C: Counts, S: Sink, T: Transport, R: Wait>(
 }
 
 /// Serves the connections of a replica, and runs its book if it is to, until the replica is done
-/// and its links have ended, or it ends for another reason. Passes, seats and files stay where they
-/// are. Records go to the trace files while it runs: these take what is handed out of the book,
-/// each record at its own interface.
+/// and its links have ended, or it ends for another reason. Passes, seats and files stay in
+/// `holdings`. Meanwhile the trace files take the records that the book hands out, each those at
+/// its interface.
 ///
-/// A connection that breaks is begun again by the side that began it; an octet or a Hello that
-/// should not be costs a connection that said no Hello, and after one the replica. The promise of
-/// each outgoing channel stands on the board before a poll ends. Before each poll the gate is
-/// asked, and told how many octets have moved with peers, whether they count as activity or not.
+/// The end that began a connection begins it again if it breaks. A wrong octet or Hello closes a
+/// connection without a Hello; after the Hello it ends the replica. Before a poll ends, the board
+/// has the promise of each outgoing channel. Before each poll the gate is called, with how many
+/// octets have moved with peers, whether they count as activity or not.
 ///
-/// `Ended` where the replica was seen to be done, with no record left to hand out. `File` where a
-/// trace file failed. `Stalled` after no fewer periods than its limit, or after 10^9 polls. `Net`
-/// where a peer broke the rules, a message was refused, or the gate said so. `Memory` where memory
-/// was refused.
+/// `Ended` if the replica was seen to be done, with no record left to hand out. `File` if a trace
+/// file failed. `Stalled` after no fewer periods than its limit, or after 10^9 polls. `Net` if a
+/// peer broke the rules, a message was refused, the system refuses connections or waits, or the
+/// gate stopped it. `Memory` if memory was refused.
 pub fn run_replica<C: Counts, S: Sink, T: Transport, G: Gate, R: Wait>(
     rt: &R,
     alloc: Global,
@@ -227,14 +227,14 @@ pub fn run_replica<C: Counts, S: Sink, T: Transport, G: Gate, R: Wait>(
     transport: &mut T,
     gate: &G,
 ) -> Served
-    // Unless a file failed or memory was refused, each file took those at its interface of the
-    // records handed out; and however it ended, those before a record at which a file failed.
+    // Unless a file failed or memory was refused, each file took, of the records handed out, those
+    // at its interface; in any case, those before a record at which a file failed.
     ensures streams { took_all result ≡ true → Streams S.seen C.exact C.home
         holdings.old.files.files.items holdings.new.files.files.items }
     ensures so_far { Streamed S.seen C.exact C.home
         holdings.old.files.files.items holdings.new.files.files.items }
 
-    // The ending says the truth about the replica and about the time that passed.
+    // The ending is true of the replica and of the time that passed.
     ensures ends { EndsWith C.exact C.home service.now.keeps_records service.now.idle_limit
         (T.elapsed_periods transport.old, T.elapsed_periods transport.new)
         ((T.asked transport.old).waits, (T.asked transport.new).waits) result }

@@ -54,7 +54,7 @@ impl<'a> OwnSeats<'a> {
     ///
     /// # Errors
     ///
-    /// Where memory was refused.
+    /// If memory was refused.
     pub fn deal(
         self,
         alloc: Global,
@@ -91,11 +91,11 @@ impl<'a> OwnSeats<'a> {
     }
 
     /// Of all seats that own a word of a new board, those of the outgoing channels of one replica.
-    /// The others are let go.
+    /// The others are dropped.
     ///
     /// # Errors
     ///
-    /// Where memory was refused.
+    /// If memory was refused.
     pub fn of_replica(
         alloc: Global,
         topology: &Topology,

@@ -9,12 +9,13 @@ use nm_engine::Cause;
 use nm_files::{FileFault, FilesFault};
 use std::alloc::AllocError;
 
-/// What serving a replica came to.
+/// How serving a replica ended.
 #[derive(Clone, Copy, Debug, PartialEq, Eq)]
 pub enum Served {
     /// The replica is done, and all its links have ended; or every replica of the run is done.
     Ended,
-    /// A peer broke the rules, a replica refused what it told, or the gate said so.
+    /// A peer broke the rules, the book refused its message, the system refuses connections or
+    /// waits, or the gate stopped it.
     Net,
     /// Memory was refused.
     Memory,
@@ -32,8 +33,8 @@ impl From<AllocError> for Served {
     }
 }
 
-/// How serving ends because a link broke, if it does. A wire may break at any time. Who has not
-/// said Hello costs its own link alone, and is no peer.
+/// How serving ends because a link broke, if it does. A wire may break at any time. A stranger is
+/// no peer, and its faults end its own link alone.
 pub(crate) fn break_served(cause: Cause, is_peer: bool) -> Option<Served>
     ensures value { result ≡ break_served cause is_peer }
     ensures early { IfSome result IsInterrupted }
@@ -46,7 +47,7 @@ pub(crate) fn break_served(cause: Cause, is_peer: bool) -> Option<Served>
     }
 }
 
-/// How serving ends where trace files were not written on.
+/// How serving ends if trace files could not be written.
 pub(crate) fn file_served(fault: FilesFault) -> Served
     ensures value { result ≡ file_served fault }
     ensures early { EndsEarly result }

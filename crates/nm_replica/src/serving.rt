@@ -47,29 +47,29 @@ use std::sync::Wait;
 #[derive(Drop)]
 pub(crate) struct Serving<W> {
     pub connections: Connections<W>,
-    /// How many octets have moved on connections whose peer greeted, of which the gate is told, and
-    /// how many of them count as activity. Each stops at the greatest `u64`.
+    /// How many octets have moved on connections with a Hello, as reported to the gate, and how
+    /// many of them count as activity. Each stops at the greatest `u64`.
     pub moved: u64,
     pub counted: u64,
-    /// How many events the book had done when it was looked at last.
+    /// How many events the book had done when it was last read.
     events: u64,
-    /// The book was done when it was looked at last.
+    /// The book was done when it was last read.
     was_done: bool,
     /// How many polls were made.
     polls: u64,
     /// How long it has stayed since its links ended.
     stay: Stay,
-    /// How long the system has had too little for one more connection.
+    /// How long the system has lacked resources for one more connection.
     short: Lasted,
     /// How many waits in a row have failed.
     failed_waits: u32,
-    /// More may be left to do that no connection tells of: the next poll does not wait.
+    /// More may be left to do without a report of a connection: the next poll does not wait.
     pub is_busy: bool,
     buffer: ReadBuffer,
     alloc: Global,
 }
 
-/// What a poll came to.
+/// The result of a poll.
 #[derive(Clone, Copy)]
 pub(crate) struct Polled {
     /// A period was over, or it could not wait.
@@ -81,13 +81,14 @@ pub(crate) struct Polled {
     pub written: u64,
     /// The book did events since the poll before.
     pub was_run: bool,
-    /// What a run of the book came to, if the replica ran it.
+    /// The answer of the book's run, if the replica ran it.
     pub ran: Option<Ran>,
     /// What was merged of what the sister knows, if that was due.
     pub merged: Option<Option<Merged>>,
-    /// A pool was told of it, if it is to know.
+    /// How the pool was notified, if it was.
     pub news: Option<News>,
-    /// The replica is done, so are its links or all replicas, and its trace files are written.
+    /// The replica is done, its links have ended or all replicas are done, and its trace files are
+    /// written.
     pub is_done: bool,
 }
 
@@ -131,7 +132,7 @@ impl<W> Serving<W> {
 }
 
 /// Whether a replica that is done leaves: its links have ended, and it has stayed long enough for
-/// those that may call again. A poll was made, and ran out or not.
+/// those that may call again. A poll was made; `ran_out`: a period was over.
 fn may_leave(stay: &mut Stay, contacts: &Contacts, ran_out: bool) -> bool
     ensures stays { stay.new ≡ stayed ran_out contacts.now stay.old }
     ensures leaves { result ≡ leaves contacts.now stay.new }
@@ -140,8 +141,8 @@ fn may_leave(stay: &mut Stay, contacts: &Contacts, ran_out: bool) -> bool
     stay.leaves(contacts)
 }
 
-/// Gives each connection its turns, and lets go of those that ended or broke: what moved, or how
-/// serving ends.
+/// Gives each connection its turns, and closes those that ended or broke. Answers what moved, or
+/// how serving ends.
 #[tactic(auto, using(crate::proofs::Turns::serves_one_more, crate::proofs::Turns::serves_all))]
 fn serve_all<T: Transport, C: Counts, R: Wait>(
     rt: &R,
@@ -190,8 +191,8 @@ fn serve_all<T: Transport, C: Counts, R: Wait>(
     Ok(all)
 }
 
-/// Learns which connections are to be looked at: those that the wait reported, or all where a
-/// period was over.
+/// Notes which connections are to be read: those that the wait reported, or all if a period was
+/// over.
 fn note_reports<T: Transport>(
     transport: &T,
     connections: &mut Connections<T::Connection>,
@@ -213,13 +214,13 @@ fn note_reports<T: Transport>(
     }
 }
 
-/// Where the system has too little for one more connection, and somebody is not connected whose
-/// link has not ended, strangers are let go once that has lasted for half a second. Where all are
-/// connected nothing is missing: the system refuses a connection that nobody began, too.
+/// If the system lacks resources for one more connection while a peer with an open link is not
+/// connected, strangers are closed once that has lasted for half a second. If all are connected, no
+/// connection is missing: the system refuses also if nobody has called.
 ///
 /// # Errors
 ///
-/// `Net` where that has lasted for a second.
+/// `Net` if that has lasted for a second.
 fn bear_shortage<T: Transport>(
     transport: &mut T,
     serving: &mut Serving<T::Connection>,
@@ -253,11 +254,11 @@ fn bear_shortage<T: Transport>(
     Ok(())
 }
 
-/// How many waits in a row have failed, after one more that came to this.
+/// How many waits in a row have failed, after one more with this answer.
 ///
 /// # Errors
 ///
-/// `Net` where so many have that the system will let nobody wait.
+/// `Net` if too many have: the system lets it wait no more.
 fn failed_waits(before: u32, waited: Waited) -> Result<u32, Served>
     ensures value { result ≡ failed_waits before waited }
     ensures early { IfErr result IsInterrupted }
@@ -269,7 +270,7 @@ fn failed_waits(before: u32, waited: Waited) -> Result<u32, Served>
     }
 }
 
-/// Waits, or only looks where more is left to do: what that came to.
+/// Waits, or only looks if more is left to do. Answers what the wait answered.
 fn wait_once<T: Transport, C: Counts>(
     service: &Service<'_, C>,
     transport: &mut T,
@@ -287,12 +288,12 @@ fn wait_once<T: Transport, C: Counts>(
     waited
 }
 
-/// Waits, or only looks where more is left to do, and takes what came: whether a period was over.
+/// Calls peers, waits (or only looks, if more is left to do), and accepts connections. Answers
+/// whether a period was over.
 ///
 /// # Errors
 ///
-/// `Memory` where memory was refused. `Net` where the system has too little for more connections,
-/// or lets nobody wait.
+/// `Memory` if memory was refused. `Net` if the system refuses connections or waits for too long.
 fn await_transport<T: Transport, C: Counts>(
     alloc: Global,
     service: &Service<'_, C>,
@@ -325,7 +326,8 @@ fn await_transport<T: Transport, C: Counts>(
         .connections
         .accept_all(alloc, &neighbours, transport)?;
     bear_shortage(transport, serving, ran_out)?;
-    // A report may be of a connection that is gone: one that has its key since is looked at anyway.
+    // A report may be of a connection that is gone: the one with its key now is read, which does no
+    // harm.
     note_reports(transport, &mut serving.connections, ran_out);
     Ok(ran_out)
 }
@@ -333,25 +335,24 @@ fn await_transport<T: Transport, C: Counts>(
 /// What a replica did after a wait.
 #[derive(Clone, Copy)]
 struct Acted {
-    /// How far its book is.
+    /// The state of its book.
     standing: Standing,
     /// Its book did events since the last poll.
     was_run: bool,
     /// What moved, and whether more may be done at once.
     moves: Moves,
-    /// What a run of its book came to, if it ran.
+    /// The answer of its book's run, if it ran.
     ran: Option<Ran>,
     /// What was merged, if that was due.
     merged: Option<Option<Merged>>,
 }
 
-/// The connections have turns in which they hear, and the replica does its own part. Then they
-/// have turns in which they speak, so that each peer is told at once all that is new, and no
-/// promise that is overtaken.
+/// The connections first only read, and the replica does its own part. Then they also write, so
+/// that each peer is sent at once all that is new, and no promise that is outdated.
 ///
 /// # Errors
 ///
-/// How serving ends, where it does by itself.
+/// How serving ends, if it ends early.
 #[tactic(auto, using(crate::proofs::Polls::saturated_twice, crate::proofs::Turns::serves_twice))]
 fn serve_and_act<C: Counts, S, T: Transport, R: Wait>(
     rt: &R,
@@ -370,12 +371,12 @@ fn serve_and_act<C: Counts, S, T: Transport, R: Wait>(
     ensures stay { serving.new.stay ≡ serving.old.stay }
     ensures done { serving.new.was_done ≡ serving.old.was_done }
 
-    // What it answers was seen of the book, and an early ending is no success.
+    // Its answer was seen of the book, and an early ending is no success.
     ensures seen { IfOk result (λ a. WasSeen C.exact C.home a.standing) }
     ensures early { IfErr result IsInterrupted }
 
-    // The octets that moved are those that the gate is told of, those that count are among them,
-    // and the events are the book's.
+    // The octets that moved are those reported to the gate, those that count are among them, and
+    // the events are the book's.
     ensures moved { IfOk result
         (λ a. serving.new.moved ≡ saturated (serving.old.moved + a.moves.moved)) }
     ensures counted { IfOk result
@@ -385,13 +386,14 @@ fn serve_and_act<C: Counts, S, T: Transport, R: Wait>(
     ensures run { IfOk result (λ a. (serving.new.events ≡ a.standing.events)
         × (a.was_run ≡ not (a.standing.events == serving.old.events))) }
 
-    // Without a pool its book ran. What its sister knows is merged when that is due, by the polls.
+    // Without a pool its book ran. What its sister knows is merged when the count of polls requires
+    // it.
     ensures ran { IfOk result
         (λ a. RunsOwn service.now.lending.now service.now.run_limit a.ran) }
     ensures merged { IfOk result (λ a. is_some a.merged ≡ is_merge_due serving.old.polls) }
     ensures polls { OnOk result (serving.new.polls ≡ saturated (serving.old.polls + 1)) }
 
-    // Where no more is to be done at once, nothing may have come on any connection.
+    // If no more is to be done at once, there is nothing to read on any connection.
     ensures more { IfOk result (λ a. a.moves.has_more ≡ false
         → IsNoneReady serving.new.connections.open) }
 {
@@ -430,14 +432,14 @@ fn serve_and_act<C: Counts, S, T: Transport, R: Wait>(
     })
 }
 
-/// Whether a book is done now that was not when it was looked at last.
+/// Whether a book is done now and was not when it was last read.
 fn is_newly_done(is_done: bool, was_done: bool) -> bool
     ensures { result ≡ (is_done && not was_done) }
 {
     is_done && !was_done
 }
 
-/// What a pool was told, if there is one.
+/// How a pool was notified, if there is one.
 #[derive(Clone, Copy)]
 pub(crate) enum News {
     /// That the book is done.
@@ -446,8 +448,8 @@ pub(crate) enum News {
     Written(Result<Notified, NotLent>),
 }
 
-/// Tells a pool, if there is one, that the book that is lent to it keeps fewer records, or that it
-/// is done now and was not when it was looked at last.
+/// Notifies a pool, if there is one, that a book that is lent keeps fewer records, or that a book
+/// is done now and was not when it was last read.
 fn note_news<C: Counts>(
     service: &Service<'_, C>,
     has_written: bool,
@@ -472,12 +474,12 @@ fn is_served(standing: &Standing, keeps_records: bool, is_last: bool) -> bool
     standing.is_done && (keeps_records || is_last || standing.handed == standing.records)
 }
 
-/// One poll, after the gate was asked, and what follows it: the connections have their turns, the
-/// replica does its own part, the board is told, and its records are written.
+/// One poll, after the gate was called, and what follows it: the connections have their turns, the
+/// replica does its own part, its clocks on the board are raised, and its records are written.
 ///
 /// # Errors
 ///
-/// How serving ends, where it does by itself.
+/// How serving ends, if it ends early.
 pub(crate) fn poll<C: Counts, S: Sink, T: Transport, R: Wait>(
     rt: &R,
     alloc: Global,
@@ -486,13 +488,13 @@ pub(crate) fn poll<C: Counts, S: Sink, T: Transport, R: Wait>(
     transport: &mut T,
     serving: &mut Serving<T::Connection>,
 ) -> Result<Polled, Served>
-    // The seats and the passes stay, and the promise of each seat's channel stands on the board.
+    // The seats and the passes stay, and the board has the promise of each seat's channel.
     ensures seats { AreKept holdings.old.seats holdings.new.seats }
     ensures told { OnOk result (StandOnBoard C.exact C.home holdings.new.seats) }
     ensures passes { length holdings.new.passes.items ≡ length holdings.old.passes.items }
 
-    // Each file took those at its interface of the records that were handed out; where it fails,
-    // those before the record at which a file failed.
+    // Of the records that were handed out each file took those at its interface; on failure, those
+    // before the record at which a file failed.
     ensures streams { OnOk result (Streams S.seen C.exact C.home
         holdings.old.files.files.items holdings.new.files.files.items) }
     ensures so_far { IfErr result (λ _. Streamed S.seen C.exact C.home
@@ -500,8 +502,8 @@ pub(crate) fn poll<C: Counts, S: Sink, T: Transport, R: Wait>(
     ensures net { IfErr result (λ s. s ≡ Net → Streams S.seen C.exact C.home
         holdings.old.files.files.items holdings.new.files.files.items) }
 
-    // The gate is told of the octets that moved with peers. Who was active: octets moved that
-    // count, records were written, or the book has done more events.
+    // The octets that moved with peers are reported to the gate. A poll was active if octets moved
+    // that count, records were written, or the book has done more events.
     ensures moved { IfOk result
         (λ p. serving.new.moved ≡ saturated (serving.old.moved + p.moved)) }
     ensures counted { IfOk result
@@ -513,17 +515,18 @@ pub(crate) fn poll<C: Counts, S: Sink, T: Transport, R: Wait>(
     ensures written { IfOk result (λ p. WroteAsCounted S.seen C.exact C.home p.written
         holdings.old.files.files.items holdings.new.files.files.items) }
 
-    // Without a pool the book ran. What the sister knows is merged when that is due, by the polls.
+    // Without a pool the book ran. What the sister knows is merged when the count of polls requires
+    // it.
     ensures ran { IfOk result
         (λ p. RunsOwn service.now.lending.now service.now.run_limit p.ran) }
     ensures merged { IfOk result (λ p. is_some p.merged ≡ is_merge_due serving.old.polls) }
     ensures polls { OnOk result (serving.new.polls ≡ saturated (serving.old.polls + 1)) }
 
-    // A pool is told where records were written, and where the book is done since this poll.
+    // A pool is notified if records were written, and if the book is done since this poll.
     ensures news { IfOk result (λ p. IsNews (serving.new.was_done && not serving.old.was_done)
         (nat_lt 0 p.written) p.news) }
 
-    // The next poll waits only where nothing may have come on any connection, and no record is left
+    // The next poll waits only if there is nothing to read on any connection, and no record is left
     // to hand out, unless the book keeps them.
     ensures busy { OnOk result (serving.new.is_busy ≡ false
         → IsNoneReady serving.new.connections.open) }
@@ -554,7 +557,7 @@ pub(crate) fn poll<C: Counts, S: Sink, T: Transport, R: Wait>(
         && (may_leave(&mut serving.stay, &serving.connections.contacts, ran_out)
             || all_are_done(rt, service, &mut holdings.passes));
     tell_all(rt, service.book, &mut holdings.pass, &mut holdings.seats);
-    // A replica that is done makes no records any more: those that it has are written now.
+    // A replica that is done makes no more records: those that it has are written now.
     let is_left = standing.records > standing.handed;
     let recorded = match write_records(
         rt,

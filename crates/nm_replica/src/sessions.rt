@@ -1,4 +1,4 @@
-//! The sessions of the peers that a replica calls, while no connection has them.
+//! The sessions with the peers that a replica calls, while no connection has them.
 
 ghost use Rattle.std.specs.Arc.{arc_value};
 ghost use Rattle.std.specs.Prelude.{◌≡◌, IfOk, None, Some, slice_index_or, slice_set};
@@ -12,8 +12,8 @@ use nm_topology::Topology;
 use std::alloc::{AllocError, Global};
 use std::marker::Model;
 
-/// The sessions of all peers, by their numbers: each at its greeting, and `None` while a connection
-/// has it.
+/// The sessions with all peers, by their numbers: each at its greeting, or `None` while a
+/// connection has it.
 #[derive(Drop)]
 pub(crate) struct Sessions {
     all: Vec<Option<Session>>,
@@ -39,7 +39,7 @@ fn at_greeting(session: Session) -> Session
 }
 
 impl Sessions {
-    /// One for each peer to which a replica connects.
+    /// A session for each peer that a replica calls.
     pub(crate) fn new(alloc: Global, neighbours: &Neighbours<'_>) -> Result<Self, AllocError>
         ensures { IfOk result (λ s. s ≡ first_sessions (arc_value neighbours.now.topology.now)
             neighbours.now.partition neighbours.now.replica neighbours.now.peers.now) }

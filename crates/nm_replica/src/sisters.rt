@@ -13,8 +13,8 @@ use nm_shared::{Counts, MergeAnswer, Pass, SharedBook};
 use std::alloc::{AllocError, Global};
 use std::sync::Wait;
 
-/// What one replica knew was merged into another's book, or was refused there: `Merged::of` alone
-/// makes it, from the answer of that book.
+/// A merge of what one replica knew into another's book, or its refusal: only `Merged::of` makes
+/// it, from the answer of that book.
 #[derive(Clone, Copy)]
 pub(crate) struct Merged {
     into: ReplicaName,
@@ -29,7 +29,7 @@ struct Copied {
 }
 
 impl Merged {
-    /// The book of a replica answered this to a merge of what was copied.
+    /// The merge of what was copied, by the book's answer.
     fn of(answer: &MergeAnswer, copied: &Copied) -> Self
         ensures { (result.into ≡ replica_name answer.now.partition answer.now.replica)
             × (result.from ≡ copied.now.from) }
@@ -62,7 +62,7 @@ fn is_sister<C: Counts>(book: &SharedBook<C>, own: &SharedBook<C>) -> bool
     book.partition == own.partition && book.replica != own.replica
 }
 
-/// Where the book of its sister stands among these.
+/// The place of its sister's book among these.
 fn sister_in<C: Counts>(books: &[SharedBook<C>], own: &SharedBook<C>) -> Option<usize>
     ensures { result ≡ position
         (λ b. is_sister_of (replica_name own.now.partition own.now.replica)
@@ -101,12 +101,12 @@ fn merge_into<C: Counts, R: Wait>(
     Merged::of(&book.merge(rt, pass, alloc, &copied.knowledge), copied)
 }
 
-/// Merges what the sister knows into the replica's own book, if there is a sister: what was merged
-/// where. A merge that is refused changes nothing, and the run goes on.
+/// Merges what the sister knows into the replica's own book, if there is a sister. Answers what was
+/// merged into which book. A merge that is refused changes nothing, and the run goes on.
 ///
 /// # Errors
 ///
-/// Where memory was refused to the copy.
+/// If the copy was refused memory.
 pub(crate) fn merge_sister<C: Counts, S, R: Wait>(
     rt: &R,
     alloc: Global,

@@ -1,4 +1,4 @@
-//! What the board is told.
+//! Raising the words of the board.
 
 ghost use Rattle.std.specs.Prelude.{◌≡◌};
 ghost use Rattle.nm_replica.specs.Seats.{AreKept, StandOnBoard, StandsOnBoard};

@@ -1,4 +1,4 @@
-//! The turns of one connection, and what is counted of them.
+//! The turns of one connection, and their counts.
 
 ghost use Rattle.std.specs.Prelude.{◌+◌, ◌≡◌, None};
 ghost use Rattle.slab.specs.Slab.{get};
@@ -16,17 +16,17 @@ use nm_shared::{Counts, Pass, SharedBook};
 use std::alloc::Global;
 use std::sync::Wait;
 
-/// What turns of connections came to.
+/// The result of turns of connections.
 #[derive(Clone, Copy)]
 pub(crate) struct Moves {
     /// How many octets moved with peers, and how many of them count as activity.
     pub moved: u64,
     pub octets: u64,
-    /// Octets came.
+    /// Octets were received.
     pub has_heard: bool,
     /// A connection had all its turns, and may want more.
     pub has_more: bool,
-    /// What links gave, where that is counted.
+    /// What links gave, if that is counted.
     pub given: GivenCounts,
 }
 
@@ -40,7 +40,7 @@ impl Moves {
         given: GivenCounts::NONE,
     };
 
-    /// These and others.
+    /// The sum of these and others.
     pub(crate) fn with(self, other: Moves) -> Moves
         ensures moved { result.moved ≡ saturated (self.moved + other.moved) }
         ensures octets { result.octets ≡ saturated (self.octets + other.octets) }
@@ -58,13 +58,13 @@ impl Moves {
 /// What connections do in their turns.
 #[derive(Clone, Copy)]
 pub(crate) enum Does {
-    /// They take what came, and say nothing.
+    /// They read, and write nothing.
     Hear,
-    /// They say what is owed, too.
+    /// They also write what is owed.
     Speak,
 }
 
-/// Turns of connections: what they do in them, and whose book it is.
+/// Turns of connections: what they do in them, and the book that they act on.
 #[derive(Drop)]
 pub(crate) struct Talk<'a, C: Counts> {
     pub alloc: Global,
@@ -97,7 +97,7 @@ fn turn_of<W: Wire, C: Counts, R: Wait>(
     }
 }
 
-/// Gives a link its turns: what the last of them came to.
+/// Gives a link its turns. Answers the answer of the last one.
 #[tactic(auto, using(crate::proofs::Turns::has_had_all))]
 fn turns_of<W: Wire, C: Counts, R: Wait>(
     rt: &R,
@@ -118,7 +118,7 @@ fn turns_of<W: Wire, C: Counts, R: Wait>(
     Turn::Progress
 }
 
-/// Counts what moved on a connection in its turns, after which it may want more or not.
+/// Counts what moved on a connection in its turns; `has_more`: it may want more turns.
 fn count_turns<W>(connection: &mut Connection<W>, counts: bool, has_more: bool) -> Moves
     ensures counted { CountsMoves counts connection.old connection.new result }
     ensures link { connection.new.link ≡ connection.old.link }
@@ -133,8 +133,8 @@ fn count_turns<W>(connection: &mut Connection<W>, counts: bool, has_more: bool) 
     }
 }
 
-/// Gives the connection with this key its turns, if it is there: what moved, and what the last turn
-/// came to.
+/// Gives the connection with this key its turns, if it is there. Answers what moved, and the answer
+/// of the last turn.
 pub(crate) fn turns<W: Wire, C: Counts, R: Wait>(
     rt: &R,
     talk: &Talk<'_, C>,

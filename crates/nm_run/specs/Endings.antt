@@ -1,11 +1,11 @@
--- What the endings of replicas are to the run.
+-- How the run ends, given how its replicas ended.
 use Rattle.std.specs.Prelude.{◌≡◌, ◌≢◌, ◌⊎◌, ℕ, ◌<◌, All, List, slice_get, Option, Some, None, Result, Ok, Err}
 use Rattle.nm_replica.specs.declared.served.Served.{Served}
 use Rattle.nm_replica.specs.declared.served.Served.TheVariants as served
 use Rattle.nm_run.specs.declared.stop.Stop.{Stop}
 use Rattle.nm_run.specs.declared.stop.Stop.TheVariants as stop
 
--- why a run stops one of whose replicas ended so, if it does
+-- why a run stops if a replica ended so, or nothing if it need not
 abbrev pub fault_of : Served → Option Stop
 fault_of served.Ended = None
 fault_of served.Net = Some stop.Net
@@ -13,7 +13,7 @@ fault_of served.Memory = Some stop.Memory
 fault_of (served.File iface written) = Some (stop.File iface written)
 fault_of (served.Stalled polls) = Some (stop.Stalled polls)
 
--- a replica that was done, or that ended with `Net`, as those do that another told to end
+-- a replica that was done, or that ended with `Net`, as after another told it to end
 abbrev pub GivesNoReason : Served → Type 0
 GivesNoReason s = (fault_of s ≡ None) ⊎ (fault_of s ≡ Some stop.Net)
 

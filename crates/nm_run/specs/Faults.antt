@@ -14,7 +14,7 @@ use Rattle.nm_run.specs.declared.fault.RunCause.TheVariants as cause
 use Rattle.nm_run.specs.declared.stop.Stop.{Stop}
 use Rattle.nm_run.specs.declared.stop.Stop.TheVariants as stop
 
--- what a run is told that did not come to its end
+-- the fault of a run that stopped
 abbrev pub run_fault : Stop → Fault RunCause
 run_fault (stop.File iface written) = Refused (cause.File iface written)
 run_fault stop.Known = Refused cause.Known
@@ -23,7 +23,7 @@ run_fault stop.Memory = Memory
 run_fault (stop.Stalled polls) = Refused (cause.Stalled polls)
 run_fault stop.Broken = Refused cause.Broken
 
--- that books are not certified is a fault of the run's own
+-- if books are not certified, the run's own books have that fault
 abbrev pub HasReason : TopologyValue → ℕ → Fault RunCause → Type 0
 HasReason t replicas Memory = Unit {0}
 HasReason t replicas (Refused (cause.File iface written)) = Unit {0}
@@ -33,31 +33,31 @@ HasReason t replicas (Refused (cause.NotCertified fault)) = IsNotCertified t rep
 HasReason t replicas (Refused (cause.Stalled polls)) = Unit {0}
 HasReason t replicas (Refused cause.Broken) = Unit {0}
 
--- what an error of the system of this kind is told as: that memory was refused, or else the network
+-- an error of the system of this kind means that memory was refused, or else that the network
 -- failed
 abbrev pub IsToldAs : {A : Type 0} → ErrorKind → (memory net told : A) → Type 0
 IsToldAs kind memory net told = ((kind ≡ OutOfMemory) × (told ≡ memory))
     ⊎ ((kind ≡ OutOfMemory → ⊥) × (told ≡ net))
 
--- why a run stops whose call of the system failed so
+-- why a run stops after a call of the system failed so
 abbrev pub IsStopOf : ErrorKind → Stop → Type 0
 IsStopOf kind s = IsToldAs kind stop.Memory stop.Net s
 
--- why a run stops whose trace files have this fault
+-- why a run stops after this fault of its trace files
 abbrev pub files_stop : Fault FileFault → Stop
 files_stop Memory = stop.Memory
 files_stop (Refused fault) = stop.File fault.iface fault.written
 
--- and why one stops whose file of what a replica knows has this fault
+-- why a run stops after this fault of a file of what a replica knows
 abbrev pub output_stop : OutputFault → Stop
 output_stop output.Failed = stop.Known
 output_stop output.Memory = stop.Memory
 
--- so it stops for a fault of which this is true
+-- it stops so for a fault of this kind
 abbrev pub StopsFor : (Fault FileFault → Type 0) → Stop → Type 0
 StopsFor Is s = (fault : Fault FileFault) × Is fault × (s ≡ files_stop fault)
 
--- it may be that a file did not get its name: those before it have theirs then
+-- a file may not have got its name: those before it have theirs then
 abbrev pub IsOfFiles : Fault RunCause → Type 0
 IsOfFiles fault = ((iface written : ℕ) × (fault ≡ Refused (cause.File iface written)))
     ⊎ (fault ≡ Refused cause.Known) ⊎ (fault ≡ Memory)

@@ -24,7 +24,7 @@ pub record AreOpen {X : Type 0} (t : TopologyValue) (partition n : ℕ) (files :
   pub each : (i : ℕ) (file : Option X) → slice_get files i ≡ Some file
       → is_some file ≡ (receiver_of (net_of t) i == partition)
 
--- the first replica of a partition has a file of each of its interfaces, and any other has none
+-- the first replica of a partition has a file for each of its interfaces, and any other has none
 abbrev pub AreOwnFiles : {X : Type 0} → TopologyValue → (partition replica : ℕ)
     → List (Option X) → Type 0
 AreOwnFiles t partition zero files = AreOpen t partition (length t.ifaces) files
@@ -34,7 +34,7 @@ AreOwnFiles t partition (suc r) files = files ≡ []
 abbrev pub HoldsSome : {S : Type 0} → (S → SinkSeen) → Option Files → Option (Writer S) → Type 0
 HoldsSome seen made file = (octets : List ℕ) × HoldsFile seen made true octets file
 
--- as many octets were written to each file as these totals say
+-- each file was written with as many octets as these totals
 abbrev pub AreAsMany : {S : Type 0} → List IfaceTotals → List (Option (Writer S)) → Type 0
 AreAsMany {S} totals files = (n : ℕ) (file : Writer S) (own : IfaceTotals)
     → slice_get files n ≡ Some (Some file) → slice_get totals n ≡ Some own
@@ -44,12 +44,12 @@ AreAsMany {S} totals files = (n : ℕ) (file : Writer S) (own : IfaceTotals)
 abbrev pub run_files : (folder : List ℕ) → TopologyValue → (ℕ → List ℕ) → Files
 run_files folder t octets = chosen_files (λ n iface. true) folder octets t.ifaces
 
--- each interface has as many octets as these totals say, up to 2 ^ 64 - 1
+-- each interface has as many octets as these totals, up to 2 ^ 64 - 1
 abbrev pub AreSoMany : List IfaceTotals → (ℕ → List ℕ) → Type 0
 AreSoMany totals octets = (n : ℕ) (own : IfaceTotals) → slice_get totals n ≡ Some own
     → saturated (length (octets n)) ≡ own.octets
 
--- such files were closed, where it is told which files were placed
+-- such files were closed, if it is known which files were placed
 abbrev pub AreClosed : {C : Type 0} → (C → Option (List ℕ × List ℕ)) → Option Files
     → (folder : List ℕ) → TopologyValue → List IfaceTotals → List (ClosedFile C) → Type 0
 AreClosed closed made folder t totals all =
@@ -57,13 +57,13 @@ AreClosed closed made folder t totals all =
     × AreWhole made (map (λ c. closed c.file) all) (run_files folder t octets)
 
 -- What a run is to leave: in which folder, how many replicas each partition has, and whether files
--- of what the first of each knows are made too.
+-- of what the first of each knows are also made.
 pub record Leaving : Type 0 where
   pub folder : List ℕ
   pub replicas : ℕ
   pub keeps : Bool
 
--- these: one of each first replica
+-- the files of what is known: one of each first replica
 abbrev pub kept_file : (folder : List ℕ) → BookValue → Files
 kept_file folder b = if b.replica == 0 then known_file folder b ∷ [] else []
 
@@ -77,7 +77,7 @@ AreKeptBooks closed made run t all =
     (books : List BookValue) × (AreOfRun t run.replicas books × AreCertified t books)
     × AreWhole made (map closed all) (kept_files run books)
 
--- The files of a certified run: of each interface one with as many octets as these totals say, and
+-- The files of a certified run: for each interface one with as many octets as these totals, and
 -- behind them those of what is known.
 pub record AreRunFiles (run : Leaving) (t : TopologyValue) (totals : List IfaceTotals)
     (files : Files) : Type 0 where
@@ -88,7 +88,7 @@ pub record AreRunFiles (run : Leaving) (t : TopologyValue) (totals : List IfaceT
   pub certified : AreCertified t books
   pub are : files ≡ run_files run.folder t octets ++ kept_files run books
 
--- behind the files that were placed before came all of these, where it is told which files were
+-- behind the files that were placed before came all of these, if it is known which files were
 -- placed
 abbrev pub HaveFiles : (before after : Option Files) → Leaving → TopologyValue
     → List IfaceTotals → Type 0
@@ -101,8 +101,8 @@ abbrev pub HaveSomeFiles : (before after : Option Files) → Leaving → Topolog
 HaveSomeFiles before after run t totals =
     (files : Files) × AreRunFiles run t totals files × HasMadeSome before after files
 
--- However a run ends, a file got its name only where the run is certified: behind the files that
--- were placed before come the first of those that these totals say, where it is told which they are.
+-- However a run ends, a file got its name only if the run is certified: behind the files that were
+-- placed before come the first of those with these totals, if it is known which files were placed.
 abbrev pub AreNamed : (before after : Option Files) → Leaving → TopologyValue → Type 0
 AreNamed before after run t =
     (after ≡ before)

@@ -1,4 +1,4 @@
--- What a plan says of the files of its run.
+-- The files that a plan asks for.
 use Rattle.nm_run.specs.Files.{Leaving}
 use Rattle.nm_run.specs.declared.run.RunPlan.{RunPlan}
 

@@ -1,4 +1,4 @@
--- Which replicas a run has, and with whom each speaks.
+-- Which replicas a run has, and the peers of each.
 use Rattle.std.specs.Prelude.{◌≡◌, ◌⊎◌, ℕ, ◌+◌, ◌*◌, ◌<◌, true, List, [], ◌∷◌, ◌++◌, length, map, slice_get, Some}
 use Rattle.nm_model.specs.Partition.{comes_in}
 use Rattle.nm_sim.specs.Network.{net_of}
@@ -6,8 +6,8 @@ use Rattle.nm_topology.specs.Topology.{receiving_iface}
 use Rattle.nm_topology.specs.TopologyValue.{TopologyValue}
 use Rattle.nm_peers.specs.declared.listener.Listener.{Listener}
 
--- The replica that has this number, where each partition has so many, is this one, by its partition
--- and its number in that.
+-- The replica with this number, if each partition has so many, is this one, by its partition and
+-- its number in that.
 pub record IsAt (replicas number : ℕ) (name : ℕ × ℕ) : Type 0 where
   pub replica : name.1 < replicas
   pub number_is : number ≡ name.0 * replicas + name.1
@@ -30,13 +30,13 @@ listener_pair a = (a.partition, a.replica)
 abbrev pub IsNextListener : (old new : List Listener) → ℕ × ℕ → Type 0
 IsNextListener old new name = map listener_pair new ≡ map listener_pair old ++ name ∷ []
 
--- it is among these
+-- a word is among these
 abbrev pub IsAmong : List ℕ → ℕ → Type 0
 IsAmong [] word = ⊥
 IsAmong (w ∷ words) word = (w ≡ word) ⊎ IsAmong words word
 
--- the words of the board that tell of the channels which come into a partition: of each, one for
--- each replica of the partition that sends on it
+-- the words of the board of the channels that come into a partition: for each channel, one for each
+-- replica of the partition that sends on it
 abbrev pub AreWordsOf : TopologyValue → (partition replicas : ℕ) → List ℕ → Type 0
 AreWordsOf t partition replicas words =
     (channel replica : ℕ) → channel < length t.receivers

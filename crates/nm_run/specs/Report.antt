@@ -1,4 +1,4 @@
--- What a run comes to.
+-- The result of a run.
 use Rattle.std.specs.Prelude.{◌≡◌, ◌⊎◌, ℕ, ◌+◌, ◌*◌, ◌<◌, List, length, slice_get, Some, Result, Ok, Err}
 use Rattle.nm_base.specs.declared.fault.Fault.{Fault}
 use Rattle.nm_base.specs.declared.fault.Fault.TheVariants.{Memory, Refused}
@@ -31,8 +31,8 @@ pub record IsCertifiedRun (t : TopologyValue) (found : List IfaceTotals) : Type 
   pub certified : AreCertified t books
   pub totals : AreTotals t found
 
--- the book of the replica that has this number, where each partition has so many replicas: by
--- partition and replica
+-- the book of the replica with this number, if each partition has so many replicas: by partition
+-- and replica
 pub record IsInPlace (replicas number : ℕ) (b : BookValue) : Type 0 where
   pub replica : b.replica < replicas
   pub number_is : number ≡ b.partition * replicas + b.replica
@@ -51,7 +51,7 @@ abbrev pub IsNotCertified : TopologyValue → ℕ → CertFault → Type 0
 IsNotCertified t replicas fault =
     (books : List BookValue) × AreOfRun t replicas books × Certifies t books (Err fault)
 
--- what the certificate says of books, as the fault of a run; or memory was refused
+-- the certificate's answer about books, as the fault of a run; or memory was refused
 abbrev pub CertifiesRun : TopologyValue → List BookValue → Result Unit (Fault RunCause) → Type 0
 CertifiesRun t books (Ok u) = AreCertified t books
 CertifiesRun t books (Err fault) = (fault ≡ Memory)

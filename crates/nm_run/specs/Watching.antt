@@ -1,4 +1,4 @@
--- Of which replicas a run keeps what, and what the dispatcher remembers of them.
+-- The replicas of a run, and the dispatcher's notes of them.
 use Rattle.std.specs.Prelude.{◌≡◌, ◌⊎◌, ℕ, true, false, List, map, slice_get, Some, is_some}
 use Rattle.nm_book.specs.declared.running.Ran.{Ran}
 use Rattle.nm_book.specs.declared.running.Ran.TheVariants.{All, Limit, Memory}
@@ -21,18 +21,18 @@ abbrev pub AreOwns : List (ℕ × ℕ) → List Own → Type 0
 AreOwns names owns =
     (i : ℕ) (own : Own) → slice_get owns i ≡ Some own → IsOwnAt names i own
 
--- what is remembered of a book is as it was last seen: nothing is left to do for it, or it did no
--- event since
+-- the notes of a book are up to date: nothing is left to do for it, or it did no event since it was
+-- read
 abbrev pub WasLookedAt : Watched → Type 0
 WasLookedAt w = (w.is_done ≡ true) ⊎ (w.is_stale ≡ false)
 
--- a job that answered so is noted: how many events it was, and that its book was given back where
--- none is left
+-- a job with this answer is noted: how many events it did, and that its book was given back if none
+-- is left
 abbrev pub Answers : Ran → Answered → Type 0
 Answers (All n) a = (a.events ≡ n) × (is_some a.given_back ≡ true)
 Answers (Limit n) a = (a.events ≡ n) × (is_some a.given_back ≡ false)
 Answers (Memory n) a = ⊥
 
--- of which something is remembered
+-- the replicas that the notes are of
 abbrev pub owns_of : List Watched → List Own
 owns_of watched = map (λ w. w.own) watched

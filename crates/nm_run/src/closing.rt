@@ -28,7 +28,7 @@ struct Passes {
 }
 
 impl Passes {
-    /// None so far, of so many books.
+    /// No passes so far, of so many books.
     #[tactic(auto, using(std::proofs::lemmas::List::Sums::sum_by_push))]
     fn new(alloc: Global, books: usize) -> Result<Self, AllocError>
         ensures none { IfOk result (λ p. pass_count p ≡ 0) }
@@ -41,11 +41,11 @@ impl Passes {
         Ok(Passes { lists })
     }
 
-    /// One more of a book.
+    /// Adds a pass of a book.
     ///
     /// # Errors
     ///
-    /// `Broken` where there is no such book. `Memory` where memory was refused.
+    /// `Broken` if there is no such book. `Memory` if memory was refused.
     #[tactic(auto, using(crate::proofs::Passing::one_pass_more))]
     fn add(&mut self, book: usize, pass: Pass<Plain>) -> Result<(), Stop>
         ensures one { OnOk result (pass_count self.new ≡ pass_count self.old + 1) }
@@ -58,7 +58,7 @@ impl Passes {
         Ok(())
     }
 
-    /// One of each book, in order.
+    /// Adds a pass of each book, in order.
     ///
     /// # Errors
     ///
@@ -74,11 +74,11 @@ impl Passes {
     }
 }
 
-/// What replicas held: all of their passes go to the others, and their trace files are given.
+/// Adds the passes that replicas held. Answers their trace files.
 ///
 /// # Errors
 ///
-/// `Broken` where a pass is of no book. `Memory` where memory was refused.
+/// `Broken` if a pass is of no book. `Memory` if memory was refused.
 #[tactic(auto, using(std::proofs::lemmas::List::Sums::sum_by_push))]
 fn gather_sides<S: Sink + Drop>(
     alloc: Global,
@@ -108,7 +108,7 @@ fn gather_sides<S: Sink + Drop>(
     Ok(files)
 }
 
-/// The passes of jobs, and those with which a dispatcher looked at books, go to the others.
+/// Adds the passes of jobs, and those with which a dispatcher read books.
 ///
 /// # Errors
 ///
@@ -123,8 +123,7 @@ fn gather_others(passes: &mut Passes, others: Vec<BookPass<Plain>>) -> Result<()
     Ok(())
 }
 
-/// Whether a book is that of the replica which has this number among so many replicas of each
-/// partition.
+/// Whether a book is that of the replica with this number, if each partition has so many replicas.
 fn is_in_place(book: &Book, replicas: u8, number: usize) -> bool
     ensures is { result ≡ true → IsInPlace replicas number book.now }
     ensures only { IsInPlace replicas number book.now → result ≡ true }
@@ -133,7 +132,7 @@ fn is_in_place(book: &Book, replicas: u8, number: usize) -> bool
     book.replica() < replicas && number == first + book.replica() as usize
 }
 
-/// Closes a book, which is to be that of the replica of this number.
+/// Closes a book, which must be that of the replica with this number.
 fn close_one(
     book: SharedBook<Plain>,
     passes: Vec<Pass<Plain>>,
@@ -155,8 +154,8 @@ fn close_one(
 ///
 /// # Errors
 ///
-/// `Broken` where a pass is missing, or a book is not that of the replica at its place.
-/// `Memory` where memory was refused.
+/// `Broken` if a pass is missing, or a book is not that of the replica at its place. `Memory` if
+/// memory was refused.
 fn close_books(
     alloc: Global,
     books: Vec<SharedBook<Plain>>,
@@ -202,7 +201,7 @@ pub(crate) fn close_run<S: Sink + Drop>(
 ///
 /// # Errors
 ///
-/// `NotCertified` with the certificate's fault. `Memory` where memory was refused.
+/// `NotCertified` with the certificate's fault. `Memory` if memory was refused.
 pub(crate) fn certify_all(
     alloc: Global,
     topology: &Topology,

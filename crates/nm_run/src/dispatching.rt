@@ -1,4 +1,4 @@
-//! The dispatcher: it gives jobs to a pool as long as there are any.
+//! The dispatcher, which gives jobs to a pool as long as there are any.
 
 ghost use Rattle.std.specs.Prelude.{◌≡◌, ◌==◌, ◌+◌, ◌<◌, ◌≤◌, All, IfErr, IfOk, OnOk, is_some};
 ghost use Rattle.std.specs.Prelude.{length, true, vec_len};
@@ -23,15 +23,15 @@ use std::sync::atomic::Ordering;
 use std::thread::Threads;
 use std::time::Duration;
 
-/// What the dispatcher has: what it remembers of each book, where it looks at clocks, where it is
-/// woken, and the passes of the jobs so far.
+/// The dispatcher's notes of each book, its seat at the board, the poll that wakes it, and the
+/// passes of the jobs so far.
 #[derive(Drop)]
 pub(crate) struct Dispatcher<'a> {
     pub watched: Vec<Watched<'a>>,
     pub seat: Seat,
     pub poll: Poll,
     pub events: Events,
-    /// Nobody woke it for as long as it waits: it looks at all books.
+    /// It was not woken within its time limit: it reads all books.
     pub looks_at_all: bool,
     pub passes: Vec<BookPass<Plain>>,
 }
@@ -43,7 +43,7 @@ pub(crate) struct Dispatched {
 }
 
 impl<'a> Dispatcher<'a> {
-    /// The passes of jobs, and those with which it looked at books, once it has ended.
+    /// The passes of jobs, and those with which it read books, once it has ended.
     pub(crate) fn into_passes(self, _: Dispatched) -> Result<Vec<BookPass<Plain>>, AllocError>
         ensures { IfOk result
             (λ passes. vec_len passes ≡ vec_len self.entry.passes + vec_len self.entry.watched) }
@@ -60,15 +60,15 @@ impl<'a> Dispatcher<'a> {
     }
 }
 
-/// The answer of a job was noted: how many events it was, and that its book's replica was woken.
+/// The answer of a job was noted: how many events it did, and that its book's replica was woken.
 #[derive(Clone, Copy)]
 struct Noted<'a> {
     answered: Answered,
     woken: Woken<'a>,
 }
 
-/// Notes the answer of the job of a book, and wakes its replica. Where that is asked for the job is
-/// counted, and whether the book is lent still.
+/// Notes the answer of a book's job, and wakes its replica. If figures are asked for, counts the
+/// job, and notes whether the book is still lent.
 fn note<'a, G>(
     threaded: &Threaded<'_, G>,
     watched: &mut Watched<'a>,
@@ -93,7 +93,7 @@ fn note<'a, G>(
     })
 }
 
-/// Notes the answers of jobs: how many events they were.
+/// Notes the answers of jobs. Answers how many events they did.
 fn note_all<G>(
     threaded: &Threaded<'_, G>,
     dispatcher: &mut Dispatcher<'_>,
@@ -115,7 +115,7 @@ fn note_all<G>(
     Ok(events)
 }
 
-/// Does jobs one after another, without another thread: how many events they were.
+/// Does jobs one after another, in this thread. Answers how many events they did.
 fn do_in_turn<G: Gate, R: Wait>(
     rt: &R,
     threaded: &Threaded<'_, G>,
@@ -149,7 +149,7 @@ fn keep_all(all: &mut Vec<BookPass<Plain>>, passes: Vec<BookPass<Plain>>) -> Res
     Ok(())
 }
 
-/// Gives jobs to the pool: how many events they were.
+/// Gives jobs to the pool. Answers how many events they did.
 fn give_to_pool<G: Gate + Sync, R: Threads + Wait + Sync>(
     rt: &R,
     threaded: &Threaded<'_, G>,
@@ -172,8 +172,8 @@ fn give_to_pool<G: Gate + Sync, R: Threads + Wait + Sync>(
     note_all(threaded, dispatcher, jobs, answers.as_slice())
 }
 
-/// Has all jobs done that there are: how many events they were. No pool is made of one thread, nor
-/// for one job: what it answers would be the same.
+/// Does all jobs that there are. Answers how many events they did. No pool is made for one thread
+/// or one job: its answers would be the same.
 fn give_jobs<G: Gate + Sync, R: Threads + Wait + Sync>(
     rt: &R,
     threaded: &Threaded<'_, G>,
@@ -199,7 +199,7 @@ fn give_jobs<G: Gate + Sync, R: Threads + Wait + Sync>(
     give_to_pool(rt, threaded, dispatcher, jobs.as_slice())
 }
 
-/// Notes how far all partitions are, and which is furthest behind.
+/// Notes the progress of all partitions, and which is furthest behind.
 fn note_progress<G>(threaded: &Threaded<'_, G>, all: &[Watched<'_>]) {
     let (mut time, mut records) = (u64::MAX, 0u64);
     for watched in all {
@@ -222,15 +222,15 @@ fn note_progress<G>(threaded: &Threaded<'_, G>, all: &[Watched<'_>]) {
 #[derive(Clone, Copy)]
 struct Idle(());
 
-/// That there was nothing to do, where jobs did no events.
+/// A witness that there was nothing to do, if jobs did no events.
 fn idle_after(events: u64) -> Option<Idle>
     ensures { is_some result ≡ (events == 0) }
 {
     if events == 0 { Some(Idle(())) } else { None }
 }
 
-/// Waits until it is woken, or the time is over, since there was nothing to do. No replica is left
-/// asleep then whose run is done: once all books are, all were woken.
+/// Waits until it is woken, or the time limit, since there was nothing to do. If all books are
+/// done, all replicas were woken before, so that none sleeps on.
 fn listen(dispatcher: &mut Dispatcher<'_>, woken: Option<AllWoken>, _: Idle)
     requires { list_all (λ w. w.is_done) dispatcher.old.watched.items ≡ true
         → is_some woken ≡ true }
@@ -249,7 +249,7 @@ fn are_done(watched: &[Watched<'_>]) -> bool
     watched.iter().all(|watched| watched.is_done)
 }
 
-/// Wakes all replicas once all books are done, unless they were woken since.
+/// Wakes all replicas once all books are done, unless that was done already.
 fn wake_done<G>(
     threaded: &Threaded<'_, G>,
     watched: &[Watched<'_>],
@@ -267,8 +267,8 @@ fn wake_done<G>(
 ///
 /// # Errors
 ///
-/// Where memory was refused, to a job or to the pool, or after 2^64 times: that all replicas were
-/// told so.
+/// If a job or the pool was refused memory, or after 2^64 rounds of jobs. The error says that all
+/// replicas were told to end.
 pub(crate) fn dispatch<G: Gate + Sync, R: Threads + Wait + Sync>(
     rt: &R,
     threaded: &Threaded<'_, G>,

@@ -1,4 +1,4 @@
-//! What the endings of replicas are to the run.
+//! How the run ends, given how its replicas ended.
 
 ghost use Rattle.std.specs.Prelude.{◌≡◌, map};
 ghost use Rattle.nm_run.specs.Endings.{AreEndings, fault_of};
@@ -7,7 +7,7 @@ use crate::sides::SideEnd;
 use crate::stop::Stop;
 use nm_replica::Served;
 
-/// Why a run failed one of whose replicas ended so, if it did.
+/// Why a run stops if a replica ended so, or `None` if it need not.
 fn fault_of(served: Served) -> Option<Stop>
     ensures { result ≡ fault_of served }
 {
@@ -24,8 +24,8 @@ fn fault_of(served: Served) -> Option<Stop>
 ///
 /// # Errors
 ///
-/// Why one was not. The first that failed told the others to end, which is `Net` to them, so any
-/// other fault comes before that one.
+/// Why one was not. The first that failed made the others end with `Net`, so any other fault comes
+/// before `Net`.
 pub(crate) fn check_endings<S>(ends: &[SideEnd<S>]) -> Result<(), Stop>
     ensures { AreEndings (map (λ e. e.served) ends.now) result }
 {

@@ -8,19 +8,20 @@ use nm_base::{Fault, IfaceNo};
 use nm_rounds::certify::CertFault;
 use thiserror::Error;
 
-/// Why a run has no report. No file has its name then, but where one was refused its name those
-/// before it have. Each part that is left has a prefix of what its replica handed out, and
+/// Why a run has no report. No file has got its name then, unless one could not get it: those
+/// before it have theirs. Each part file that is left has a prefix of what its replica handed out;
 /// nothing is claimed of it.
 #[derive(Clone, Copy, Debug, PartialEq, Eq, Error)]
 pub enum RunCause {
-    /// The trace file of this interface could not be made, or failed when it had so many octets, or
-    /// had so many at its end where the certified books have another number. It stops at 2^64 - 1.
+    /// The trace file of this interface could not be made, failed after so many octets, or ended
+    /// with so many although the certified books have another number. The number stops at 2^64 - 1.
     #[error("a trace file failed after {written} octets")]
     File { iface: IfaceNo, written: u64 },
     /// The file of what a replica knows could not be made, written whole or given its name.
     #[error("a file of what a replica knows failed")]
     Known,
-    /// No replica can listen or wait, one was told what cannot be, or the gate said so.
+    /// A replica cannot listen, connect or wait, one received what cannot be, or the gate stopped
+    /// the run.
     #[error("the network failed")]
     Net,
     /// All replicas ended, and their books are not those of the one event list.
@@ -29,7 +30,7 @@ pub enum RunCause {
     /// A replica made so many polls, and the last of them moved nothing.
     #[error("stalled after {polls} polls")]
     Stalled { polls: u64 },
-    /// What the code rules out, and no contract does.
+    /// What the code rules out but no contract does.
     #[error("the program's own state is not what it should be: please report it with the topology \
          and the command")]
     Broken,

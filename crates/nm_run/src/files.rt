@@ -1,4 +1,4 @@
-//! The trace files of a run: those of its replicas, and those of all.
+//! The trace files of a run: those of each replica, and all together.
 
 ghost use Rattle.std.specs.Prelude.{◌≡◌, ◌*◌, ◌<◌, All, IfErr, IfOk, IfSome, IsSomeAnd};
 ghost use Rattle.std.specs.Prelude.{None, OnOk, Option, Some, get_or, length, map, slice_get};
@@ -38,8 +38,8 @@ impl Choice for Every {
     }
 }
 
-/// The trace files of a replica, as they are made: those of its partition's interfaces, where it is
-/// the first replica of that, and else none.
+/// Makes the trace files of a replica: those of its partition's interfaces if it is the first
+/// replica of that, else none.
 pub(crate) fn files_of<F: Outputs>(
     alloc: Global,
     plan: &RunPlan<'_>,
@@ -65,8 +65,8 @@ pub(crate) fn files_of<F: Outputs>(
     Ok(folder.open(alloc, outputs)?)
 }
 
-/// The trace file of an interface, if there is one. The first replica of its partition has it,
-/// whose files stand behind those of so many replicas of each partition before.
+/// The trace file of an interface, if there is one. The first replica of its partition has it; its
+/// files come after those of so many replicas of each partition before.
 fn take_file<S: Sink>(
     topology: &Topology,
     replicas: u8,
@@ -86,7 +86,7 @@ fn take_file<S: Sink>(
     files.get_mut(first)?.take(iface)
 }
 
-/// Sees that a trace file has as many octets as these totals say.
+/// Checks that a trace file has as many octets as these totals.
 fn check_octets<S>(iface: IfaceNo, file: &PcapOut<S>, totals: &IfaceTotals) -> Result<(), Stop>
     ensures many { OnOk result (file.now.written ≡ totals.now.octets) }
     ensures told { IfErr result (λ s. s ≡ File iface file.now.written) }
@@ -98,11 +98,11 @@ fn check_octets<S>(iface: IfaceNo, file: &PcapOut<S>, totals: &IfaceTotals) -> R
     Ok(())
 }
 
-/// The trace files of all interfaces, each with as many octets as these totals say.
+/// The trace files of all interfaces, each with as many octets as its totals.
 ///
 /// # Errors
 ///
-/// `File` where one has not as many. `Broken` where there is none. `Memory` where memory was
+/// `File` if one has another number of octets. `Broken` if one is missing. `Memory` if memory was
 /// refused.
 fn gather_files<S: Sink + Drop>(
     alloc: Global,
@@ -131,13 +131,13 @@ fn gather_files<S: Sink + Drop>(
     Ok(all)
 }
 
-/// Closes the trace files of all interfaces, in the order of the topology's text, which are to have
+/// Closes the trace files of all interfaces, in the order of the topology's text. They must have
 /// these totals.
 ///
 /// # Errors
 ///
-/// `File` where one was not closed, or has not as many octets. `Broken` where there is none.
-/// `Memory` where memory was refused.
+/// `File` if one was not closed, or has another number of octets. `Broken` if one is missing.
+/// `Memory` if memory was refused.
 pub(crate) fn close_all<F: Outputs>(
     alloc: Global,
     plan: &RunPlan<'_>,
@@ -161,7 +161,7 @@ pub(crate) fn close_all<F: Outputs>(
     Ok(folder.close(alloc, outputs, files)?)
 }
 
-/// Gives closed trace files their names, in place of what had them.
+/// Gives closed trace files their names, and replaces files that had them.
 pub(crate) fn place_files<F: Outputs>(
     outputs: &mut F,
     closed: ClosedFiles<F::Closed>,

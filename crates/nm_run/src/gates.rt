@@ -6,14 +6,14 @@ use mio::Waker;
 use nm_shared::{Entered, Gate, Lending};
 use std::sync::OnceLock;
 
-/// Lets a replica go on as long as the run's own gate does and no other replica has failed, and
-/// wakes the dispatcher where there is something new for it to do.
+/// Lets a replica go on as long as the run's own gate does and the run has not failed, and wakes
+/// the dispatcher if there is something new for it to do.
 #[derive(Drop)]
 pub(crate) struct SideGate<'a, G> {
     pub gate: &'a G,
     pub has_failed: &'a OnceLock<()>,
     pub dispatcher: &'a Waker,
-    /// Whose turn it is to run the replica's book.
+    /// Who runs the replica's book.
     pub lending: &'a Lending,
 }
 

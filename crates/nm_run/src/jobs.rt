@@ -25,27 +25,27 @@ use std::sync::Wait;
 /// How many events a job does at most.
 const JOB_EVENTS: u64 = 4_096;
 
-/// A book that keeps more records than these has no job until its replica has taken some out: as
-/// many as one job may make, so that one is done while those of the last are written.
+/// A book that keeps more records than this gets no job until its replica has taken some out. It is
+/// as many as one job may make, so that one is done while the last one's records are written.
 const MAX_KEPT: u64 = 2 * JOB_EVENTS;
 
-/// What the dispatcher remembers of a replica's book.
+/// The dispatcher's notes of a replica's book.
 #[derive(Drop)]
 pub(crate) struct Watched<'a> {
     pub own: Own<'a>,
     pass: Pass<Plain>,
     /// The words of the channels that come in.
     words: Vec<usize>,
-    /// The safe time when it was looked at last, in nanoseconds.
+    /// The safe time when the book was last read, in nanoseconds.
     pub safe: u64,
     /// How many records it had then.
     pub records: u64,
-    /// It did events since it was looked at.
+    /// The book has done events since then.
     is_stale: bool,
     pub is_done: bool,
 }
 
-/// A job was done: how many events it was, and that its book was given back, if it left none.
+/// A job was done: how many events it did, and that its book was given back, if it left none.
 #[derive(Clone, Copy)]
 pub(crate) struct Answered {
     pub events: u64,
@@ -73,7 +73,7 @@ fn words_of(
     Ok(words)
 }
 
-/// Whether a word of a channel that comes in is past the safe time that was found last.
+/// Whether a word of an incoming channel is past the safe time that was read last.
 fn has_news(board: &ClockBoard, seat: &mut Seat, words: &[usize], safe: u64) -> bool
     requires { IsSeatOf board.now seat.old }
     ensures { IsSeatOf board.now seat.new }
@@ -86,7 +86,7 @@ fn has_news(board: &ClockBoard, seat: &mut Seat, words: &[usize], safe: u64) -> 
     false
 }
 
-/// Whether a book keeps so many records that its replica is to take some out first.
+/// Whether a book keeps so many records that its replica must take some out first.
 fn is_full(standing: Standing) -> bool
     ensures { IsTrue result ↔ (MAX_KEPT < standing.records - standing.handed) }
 {
@@ -94,7 +94,7 @@ fn is_full(standing: Standing) -> bool
 }
 
 impl<'a> Watched<'a> {
-    /// The book of this replica, which has had no job.
+    /// The notes of this replica's book, which has had no job.
     pub(crate) fn new(
         alloc: Global,
         topology: &Topology,
@@ -125,9 +125,9 @@ impl<'a> Watched<'a> {
         }
     }
 
-    /// Whether the book is to have a job: it is lent, and does not keep too many records. A book
-    /// that is not lent runs in its own thread: its lock is taken only where the board says that
-    /// it may be further than it was, or all are looked at.
+    /// Whether the book is to have a job: it is lent, is not done, and does not keep too many
+    /// records. A book that is not lent runs in its replica's thread: it is locked here only if it
+    /// is stale, the board has news for it, or all books are read.
     fn wants<R: Wait>(
         &mut self,
         rt: &R,
@@ -176,11 +176,11 @@ impl<'a> Watched<'a> {
         self.own.book.run(rt, &mut self.pass, alloc, job.limit)
     }
 
-    /// A job of its book was done and is noted. One that left none gives the book back.
+    /// Notes that a job of its book was done. If the job left no events, the book is given back.
     ///
     /// # Errors
     ///
-    /// Where memory was refused to the job.
+    /// If the job was refused memory.
     pub(crate) fn note(&mut self, job: &Job, answer: Ran) -> Result<Answered, AllocError>
         requires { self.old.own.index ≡ job.now.book }
         ensures answered { MatchResult result (Answers answer)
@@ -218,7 +218,7 @@ pub(crate) fn jobs_for<G, R: Wait>(
         (λ jobs. All (λ j. j.book < length threaded.now.books.now) jobs.items) }
     ensures owns { OnOk result (owns_of watched.new.items ≡ owns_of watched.old.items) }
 
-    // Each was looked at that had been said to have changed.
+    // Each book was read that was noted to have changed.
     ensures looked { length watched.old.items ≤ length threaded.now.books.now
         → OnOk result (All WasLookedAt watched.new.items) }
 {

@@ -13,7 +13,7 @@ use nm_files::{Outputs, place_each};
 use nm_known::keep_known;
 use std::alloc::Global;
 
-/// Makes the file of what a replica knows, if it is the first of its partition, and closes it.
+/// Makes and closes the file of what a replica knows, if it is the first of its partition.
 fn keep_one<F: Outputs>(
     alloc: Global,
     folder: &str,
@@ -33,12 +33,12 @@ fn keep_one<F: Outputs>(
     Ok(keep_known(alloc, folder, book, outputs, known)?)
 }
 
-/// Makes the files of what the first replica of each partition knows, where the plan asks for them,
-/// and closes them.
+/// Makes and closes the files of what the first replica of each partition knows, if the plan asks
+/// for them.
 ///
 /// # Errors
 ///
-/// `Known` where one was not made or closed. `Memory` where memory was refused.
+/// `Known` if one was not made or closed. `Memory` if memory was refused.
 pub(crate) fn keep_books<F: Outputs>(
     alloc: Global,
     plan: &RunPlan<'_>,
@@ -59,7 +59,7 @@ pub(crate) fn keep_books<F: Outputs>(
     Ok(known)
 }
 
-/// Gives closed files their names, in place of what had them.
+/// Gives closed files their names, and replaces files that had them.
 pub(crate) fn place_known<F: Outputs>(outputs: &mut F, known: Vec<F::Closed>) -> Result<(), Stop>
     ensures placed { (files : Files)
         → AreWhole (F.made outputs.old) (map F.closed known.items) files

@@ -1,5 +1,5 @@
 //! All partitions of a network at once, each as one or two replicas over TCP, and the certificate
-//! of what they come to.
+//! of their books.
 #![tactic(auto)]
 
 mod closing;

@@ -1,4 +1,4 @@
-//! Where the replicas of a run listen, and what is kept of each from then on.
+//! Where the replicas of a run listen, and their stations.
 
 ghost use Rattle.std.specs.Prelude.{◌==◌, ◌≡◌, ◌+◌, ◌∷◌, [], IfOk, OnOk, length, map, not};
 ghost use Rattle.std.specs.Prelude.{vec_len};
@@ -27,7 +27,7 @@ pub(crate) struct Post {
     pub poll: Poll,
 }
 
-/// What the replicas of a run begin with, in the order of their books: what is kept of each, its
+/// What the replicas of a run begin with, in the order of their books: the station of each, its
 /// post, and where it listens.
 #[derive(Drop)]
 pub(crate) struct Posts {
@@ -36,23 +36,23 @@ pub(crate) struct Posts {
     pub listeners: Vec<Listener>,
 }
 
-/// A poll, and what wakes it.
+/// A poll, and its waker.
 pub(crate) fn woken_poll<R: Net>(net: &R) -> io::Result<(Poll, Waker)> {
     let poll = Poll::new(net)?;
     let waker = Waker::new(poll.registry(), WOKEN)?;
     Ok((poll, waker))
 }
 
-/// Where the replicas of a run listen: 127.0.0.1 (RFC 1122, section 3.2.1.3), which no other
-/// machine reaches.
+/// The host at which the replicas of a run listen: 127.0.0.1 (RFC 1122, section 3.2.1.3), which no
+/// other machine reaches.
 fn own_host() -> Ipv4Addr
     ensures { ipv4_octets result ≡ 127 ∷ 0 ∷ 0 ∷ 1 ∷ [] }
 {
     Ipv4Addr::LOCALHOST
 }
 
-/// A socket that listens at a free port of 127.0.0.1, for the replica of this book, which is said
-/// to listen where the socket does.
+/// A socket that listens at a free port of 127.0.0.1, and the listener of this book's replica at
+/// that address.
 fn listen<R: Net>(net: &R, book: &SharedBook<Plain>) -> io::Result<(Bound, Listener)>
     ensures replica { IfOk result (λ opened. (opened.1.partition ≡ book.now.partition)
         × (opened.1.replica ≡ book.now.replica)) }
@@ -72,7 +72,7 @@ fn listen<R: Net>(net: &R, book: &SharedBook<Plain>) -> io::Result<(Bound, Liste
     }
 }
 
-/// Opens the post of the replica of a book, which is lent so at first.
+/// Opens the post of the replica of a book, with this lending of the book.
 fn open_one<R: Net>(
     net: &R,
     posts: &mut Posts,
@@ -96,8 +96,8 @@ fn open_one<R: Net>(
     Ok(())
 }
 
-/// Each book is lent to the pool at first. A partition that is alone has no messages to wait for:
-/// its own threads run its books, and write records while they are near the processor.
+/// The lending of each book at first: to the pool. A partition that is alone has no messages to
+/// wait for: its own threads run its books, and write records while they are in the cache.
 fn first_lending(partitions: u32) -> Lending
     ensures { result ≡ not (partitions == 1) }
 {
@@ -112,7 +112,7 @@ fn first_lending(partitions: u32) -> Lending
 ///
 /// # Errors
 ///
-/// `Net` where a replica cannot listen or wait. `Memory` where memory was refused.
+/// `Net` if a replica cannot listen or wait. `Memory` if memory was refused.
 pub(crate) fn open_posts<R: Net>(
     net: &R,
     alloc: Global,

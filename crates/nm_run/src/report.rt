@@ -1,4 +1,4 @@
-//! What a run came to.
+//! The report of a run.
 
 ghost use Rattle.std.specs.Prelude.{◌≡◌, ℕ, ◌<◌, IfOk, length};
 ghost use Rattle.nm_model.specs.Before.{IsBefore, trace};
@@ -25,7 +25,7 @@ pub struct IfaceTotals {
     pub octets: u64,
 }
 
-/// What a certified run came to.
+/// The report of a certified run.
 #[derive(Drop)]
 pub struct Report {
     /// The totals of each interface, by its number.
@@ -46,7 +46,7 @@ fn totals_in(topology: &Topology, book: &Book, iface: IfaceNo) -> IfaceTotals
     IfaceTotals { records, octets }
 }
 
-/// The totals of an interface of certified books, of which one is of its partition.
+/// The totals of an interface in certified books, one of which is of its partition.
 fn totals_of(topology: &Topology, books: &[Book], iface: IfaceNo) -> IfaceTotals
     requires there { iface < length topology.now.ifaces }
     requires certified { AreCertified topology.now books.now }
@@ -66,7 +66,7 @@ fn totals_of(topology: &Topology, books: &[Book], iface: IfaceNo) -> IfaceTotals
 ///
 /// # Errors
 ///
-/// Where memory was refused.
+/// If memory was refused.
 pub(crate) fn report_of(
     alloc: Global,
     topology: &Topology,

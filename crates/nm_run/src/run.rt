@@ -58,9 +58,9 @@ pub struct RunPlan<'a> {
     pub workers: usize,
     /// How many replicas each partition has: 1 or 2.
     pub replicas: u8,
-    /// Whether files of what the first replica of each partition knows are made too.
+    /// Whether files of what the first replica of each partition knows are also made.
     pub keeps: bool,
-    /// Where it is noted how far all are.
+    /// Where the progress of all is noted.
     pub progress: &'a Progress,
 }
 
@@ -114,7 +114,7 @@ fn passes_of<R: Wait>(
     Ok(passes)
 }
 
-/// What a replica holds.
+/// The holdings of a replica.
 fn holdings_of<'a, F: Outputs, G, R: Wait>(
     rt: &R,
     threaded: &Threaded<'_, G>,
@@ -189,7 +189,7 @@ fn sides_of<'a, F: Outputs, G, R: Wait>(
     ensures board { IfOk result
         (λ sides. All (λ s. board_of s.holdings.seats ≡ threaded.now.board.now) sides.items) }
 
-    // Each has the seats of its own words, of all.
+    // Each has, of all seats, those of its own words.
     ensures seats { IfOk result (λ sides. All (λ s. words_of s.holdings.seats
         ≡ filter (is_word_of (arc_value threaded.now.plan.now.topology.now)
         s.own.book.now.partition s.own.book.now.replica) (map owned_word owners.items))
@@ -210,11 +210,11 @@ fn sides_of<'a, F: Outputs, G, R: Wait>(
     Ok(sides)
 }
 
-/// What the dispatcher remembers of each replica at first.
+/// The dispatcher's notes of each replica at first.
 ///
 /// # Errors
 ///
-/// `Memory` where memory was refused.
+/// `Memory` if memory was refused.
 fn watch_all<'a, G, R: Wait>(
     rt: &R,
     threaded: &Threaded<'a, G>,
@@ -234,7 +234,7 @@ fn watch_all<'a, G, R: Wait>(
     Ok(watched)
 }
 
-/// A dispatcher at the beginning of a run, which is woken at this poll.
+/// A dispatcher at the beginning of a run. This poll wakes it.
 fn dispatcher_of<'a, G, R: Wait>(
     rt: &R,
     threaded: &Threaded<'a, G>,
@@ -256,8 +256,8 @@ fn dispatcher_of<'a, G, R: Wait>(
     })
 }
 
-/// Runs all replicas over their books until all have ended, each as it should: how they ended, and
-/// the passes that the dispatcher had.
+/// Runs all replicas over their books until all have ended, each of them done. Answers how they
+/// ended, and the passes that the dispatcher had.
 fn run_books<'x, F: Outputs, G: Gate + Sync, R>(
     rt: &R,
     alloc: Global,
@@ -304,7 +304,7 @@ where
     Ok((ends, passes))
 }
 
-/// What a certified run leaves, whose files do not have their names yet.
+/// What a certified run leaves before its files get their names.
 #[derive(Drop)]
 struct Certified<C> {
     report: Report,
@@ -350,17 +350,17 @@ where
 }
 
 /// Runs all partitions of a network at once: each as one or two replicas in threads of their own,
-/// which speak over TCP on 127.0.0.1, and whose books so many workers run. The traces go to files
-/// of the folder as they are made. When all have ended their books are certified. Then the files,
-/// each of as many octets as its interface has in the trace of the one event list, get their
-/// names, `NAME.pcap`, in the order of the topology's text, and the report has these totals. Where
-/// the plan asks for them, those of what the first replica of each partition knows come behind.
+/// connected over TCP on 127.0.0.1. `workers` threads run their books. The traces are written to
+/// files of the folder as they are made. When all have ended, their books are certified. Then the
+/// files get their names, `NAME.pcap`, in the order of the topology's text. Each has as many octets
+/// as its interface has in the trace of the one event list, and the report has these totals. If the
+/// plan asks for them, the files of what the first replica of each partition knows follow.
 ///
 /// # Errors
 ///
 /// Those of `RunFault`. `NotCertified` has the first fault that the certificate finds in the books
-/// of the run, one of each replica. No file got its name, unless one of them could not get it:
-/// those before it have theirs then.
+/// of the run, one of each replica. No file has got its name then, unless one could not get it:
+/// those before it have theirs.
 #[tactic(auto, using(crate::proofs::Stops::stops_have_reason))]
 pub fn run_all<'x, F: Outputs, G: Gate + Sync, R>(
     rt: &R,

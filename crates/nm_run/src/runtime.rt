@@ -1,4 +1,4 @@
-//! What a run asks of the runtime.
+//! What a run needs of the runtime.
 
 use std::net::{self, Net};
 use std::sync::Wait;

@@ -35,9 +35,9 @@ use std::sync::Wait;
 use std::thread::{self, Promise};
 use std::time::Clock;
 
-/// How many events a replica does itself after a poll. Where more are left they take longer than to
-/// wake another thread, and the pool does them. The packets of so few are still near the processor
-/// when their records are written.
+/// How many events a replica does itself after a poll. If more are left, they take longer than to
+/// wake another thread, and the pool does them. The packets of so few are still in the cache when
+/// their records are written.
 const OWN_EVENTS: u64 = 128;
 
 /// A replica that is to run.
@@ -52,10 +52,10 @@ pub(crate) struct Side<'a, S> {
 /// A replica that has run.
 #[derive(Drop)]
 pub(crate) struct SideEnd<S> {
-    /// Where its book stands among those of the run.
+    /// The place of its book among those of the run.
     pub index: usize,
     pub served: Served,
-    /// The others were told, where it was not done.
+    /// Whether the others were told to end, since it was not done.
     pub told: Told,
     /// It was counted among those that have ended.
     pub counted: Counted,
@@ -66,8 +66,8 @@ pub(crate) struct SideEnd<S> {
     pub files: TraceFiles<S>,
 }
 
-/// What became of the trace files with which the thread of a replica began, if the replica was
-/// done: they took records.
+/// The trace files with which the thread of a replica began. If the replica was done, they took
+/// records.
 #[derive(Drop)]
 struct TookRecords<S>(Snapshot<TraceFiles<S>>);
 
@@ -79,13 +79,13 @@ impl<S: Sink> Promise<SideEnd<S>> for TookRecords<S> {
         p.0.value.files.items end.files.files.items };
 }
 
-/// Which replica of the run is served, and with whom it speaks.
+/// The replica of the run that is served, and its peers.
 #[derive(Clone, Copy)]
 struct Role<'a> {
     own: Own<'a>,
-    /// The partitions that it calls.
+    /// The partitions of the peers that it calls.
     peers: &'a [PartNo],
-    /// The replicas that call it.
+    /// The peers that call it.
     callers: &'a [ReplicaName],
 }
 
@@ -98,7 +98,7 @@ fn serve_as<S: Sink, G: Gate, R: Net + Wait + Clock + Drop + Copy>(
     holdings: &mut Holdings<'_, Plain, S>,
     transport: &mut TcpTransport<R>,
 ) -> Served
-    // It is this replica of this run, with these neighbours.
+    // It is this replica of this run, with these peers.
     requires own { (service.now.book ≡ role.own.book)
         × (service.now.lending.now ≡ role.own.station.now.lending) }
     requires run { (service.now.topology ≡ threaded.now.plan.now.topology)
@@ -122,7 +122,7 @@ fn serve_as<S: Sink, G: Gate, R: Net + Wait + Clock + Drop + Copy>(
     run_replica(rt, threaded.alloc, service, holdings, transport, &gate)
 }
 
-/// Serves a replica over its connections until it ends. The dispatcher notes how far it is.
+/// Serves a replica over its connections until it ends. The dispatcher notes its progress.
 fn serve<S: Sink, G: Gate, R: Net + Wait + Clock + Drop + Copy>(
     rt: &R,
     threaded: &Threaded<'_, G>,
@@ -149,7 +149,7 @@ fn serve<S: Sink, G: Gate, R: Net + Wait + Clock + Drop + Copy>(
     serve_as(rt, threaded, role, &service, holdings, transport)
 }
 
-/// How serving ends where there is no transport.
+/// How serving ends if the transport could not be made.
 fn served_of(error: &io::Error) -> Served
     ensures kind { IsToldAs (error_kind error.now) Memory Net result }
     ensures either { (result ≡ Memory) ⊎ (result ≡ Net) }
@@ -161,7 +161,7 @@ fn served_of(error: &io::Error) -> Served
     }
 }
 
-/// Tells all other replicas to end too, where one ended so that was not done.
+/// Tells all other replicas to end too, unless this one ended as done.
 fn tell_others<G, R: Wait>(rt: &R, threaded: &Threaded<'_, G>, served: &Served) -> Told
     ensures { (served.now ≡ Ended) ⊎ (result.are_all ≡ true) }
 {
@@ -171,7 +171,7 @@ fn tell_others<G, R: Wait>(rt: &R, threaded: &Threaded<'_, G>, served: &Served) 
     Told::NOBODY
 }
 
-/// Runs a replica until it ends. Where it was not done, all others are told to end too.
+/// Runs a replica until it ends. If it was not done, all others are told to end too.
 pub(crate) fn run_side<S: Sink, G: Gate, R: Net + Wait + Clock + Drop + Copy>(
     rt: &R,
     threaded: &Threaded<'_, G>,
@@ -228,12 +228,12 @@ pub(crate) fn run_side<S: Sink, G: Gate, R: Net + Wait + Clock + Drop + Copy>(
 
 /// Runs all replicas, each in a thread of its own, and the dispatcher in this one, until all have
 /// ended. The dispatcher gives the books that are lent to it to the pool, and begins when all
-/// replicas have begun. How the replicas ended, and the passes that the dispatcher had.
+/// replicas have begun. Answers how the replicas ended, and the passes that the dispatcher had.
 ///
 /// # Errors
 ///
-/// `Net` where the system refuses a thread: no event was done then. `Memory` where memory was
-/// refused. The replicas that had begun were told so, and have ended.
+/// `Net` if the system refuses a thread: no event was done then. `Memory` if memory was refused.
+/// The replicas that had begun were told to end, and have ended.
 pub(crate) fn run_threads<S: Sink + Drop + Send, G: Gate + Sync, R: Runtime>(
     rt: &R,
     threaded: &Threaded<'_, G>,

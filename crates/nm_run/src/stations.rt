@@ -11,11 +11,11 @@ use std::sync::{OnceLock, OnceToken, Wait};
 /// What a run keeps of a replica beside its book.
 #[derive(Drop)]
 pub(crate) struct Station {
-    /// Whose turn it is to run its book.
+    /// Who runs its book.
     pub lending: Lending,
     /// Wakes it.
     pub waker: Waker,
-    /// It has ended. Nothing takes that back.
+    /// Set once it has ended. Nothing clears it.
     pub ended: OnceLock<()>,
 }
 
@@ -33,8 +33,8 @@ impl Station {
         self.woken(self.waker.wake())
     }
 
-    /// The replica was woken, whatever its waker answered: one that fails leaves it to wake at the
-    /// end of its period.
+    /// The replica was woken, whatever its waker answered: if that failed, it wakes at the end of
+    /// its period.
     fn woken(&self, _: io::Result<()>) -> Woken<'_>
         ensures { result.station ≡ self.entry }
     {
@@ -42,7 +42,7 @@ impl Station {
     }
 }
 
-/// So many of a run's replicas were woken, the first of them: only `and` counts one more.
+/// The first `count` of a run's replicas were woken: only `and` counts one more.
 #[derive(Clone, Copy)]
 pub(crate) struct FirstWoken {
     count: usize,
@@ -56,7 +56,7 @@ impl FirstWoken {
         FirstWoken { count: 0 }
     }
 
-    /// One more: that of the next of these stations.
+    /// One more: the replica of the next of these stations.
     pub(crate) fn and(self, stations: &[Station], woken: &Woken<'_>) -> Self
         requires below { self.count < length stations.now }
         requires next { slice_get stations.now self.count ≡ Some woken.now.station.now }
@@ -68,7 +68,7 @@ impl FirstWoken {
     }
 }
 
-/// So many of a run's replicas have ended, the first of them: only `and` counts one more.
+/// The first `count` of a run's replicas have ended: only `and` counts one more.
 #[derive(Clone, Copy)]
 pub(crate) struct FirstEnded {
     count: usize,
@@ -82,7 +82,7 @@ impl FirstEnded {
         FirstEnded { count: 0 }
     }
 
-    /// One more: it was noted at its station, the next of these, that it has ended.
+    /// One more: its end was noted at its station, the next of these.
     pub(crate) fn and(self, stations: &[Station], noted: &OnceToken<'_, ()>) -> Self
         requires below { self.count < length stations.now }
         requires noted { IsSomeAnd (slice_get stations.now self.count)
@@ -95,8 +95,8 @@ impl FirstEnded {
     }
 }
 
-/// A replica of a run: where it stands among those of the run, what is kept of it, and its book,
-/// which says which replica it is.
+/// A replica of a run: its place among those of the run, its station, and its book, which has its
+/// partition and number.
 #[derive(Clone, Copy)]
 pub(crate) struct Own<'a> {
     pub index: usize,
@@ -116,7 +116,7 @@ impl<'a> Own<'a> {
         }
     }
 
-    /// It has ended.
+    /// Notes that it has ended.
     pub(crate) fn end<R: Wait>(&self, rt: &R) -> Counted
         ensures { result.index ≡ self.now.index }
     {
@@ -131,7 +131,7 @@ pub(crate) struct Counted {
 }
 
 impl Counted {
-    /// It was noted at the replica's station that it has ended.
+    /// The end of the replica was noted at its station.
     fn at(own: &Own<'_>, noted: &OnceToken<'_, ()>) -> Self
         requires { noted.now.of ≡ own.now.station.now.ended.id }
         ensures { result.index ≡ own.now.index }

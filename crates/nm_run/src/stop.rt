@@ -1,4 +1,4 @@
-//! Why a run does not come to its end.
+//! Why a run stops.
 
 ghost use Rattle.std.specs.Prelude.{◌≡◌};
 ghost use Rattle.nm_run.specs.declared.stop.Stop.TheVariants.{Memory};
@@ -8,10 +8,10 @@ use nm_files::{FileFault, FilesFault, OutputFault};
 use std::alloc::{AllocError, AllocFailed};
 use std::io::{self, ErrorKind};
 
-/// Why a run has no books that could be compared, or no files.
+/// Why a run stops: it has no books that could be compared, or no files.
 #[derive(Clone, Copy, PartialEq, Eq)]
 pub enum Stop {
-    /// The trace file of this interface could not be made, or failed when it had so many octets.
+    /// The trace file of this interface could not be made, or failed after so many octets.
     File { iface: IfaceNo, written: u64 },
     /// The file of what a replica knows could not be made, or given its name.
     Known,
@@ -21,8 +21,8 @@ pub enum Stop {
     Memory,
     /// A replica made so many polls, and the last of them moved nothing.
     Stalled { polls: u64 },
-    /// What the code rules out, and no contract does: a replica, a pass or a trace file that was
-    /// made is not there.
+    /// What the code rules out but no contract does: a replica, a pass or a trace file that was
+    /// made is missing.
     Broken,
 }
 

@@ -15,20 +15,20 @@ use std::sync::{OnceLock, Wait};
 /// What all threads of a run share.
 #[derive(Clone, Copy)]
 pub(crate) struct Threaded<'a, G> {
-    /// Where memory comes from.
+    /// The allocator.
     pub alloc: Global,
     pub plan: &'a RunPlan<'a>,
     /// The books of all replicas, by partition and replica.
     pub books: &'a [SharedBook<Plain>],
-    /// What is kept of each, in the same order.
+    /// Their stations, in the same order.
     pub stations: &'a [Station],
     /// Where they listen.
     pub listeners: &'a [Listener],
     pub board: &'a ClockBoard,
     /// Wakes the dispatcher.
     pub dispatcher: &'a Waker,
-    /// A replica has ended before it was done, or memory was refused to the dispatcher. Nothing
-    /// takes it back.
+    /// Set once a replica has ended before it was done, or the dispatcher was refused memory.
+    /// Nothing clears it.
     pub has_failed: &'a OnceLock<()>,
     pub gate: &'a G,
 }
@@ -40,7 +40,7 @@ pub(crate) struct AllWoken {
 }
 
 impl<'a, G> Threaded<'a, G> {
-    /// The replica that has this number among those of the run.
+    /// The replica with this number among those of the run.
     pub(crate) fn own_at(&self, number: usize) -> Own<'a>
         requires { (number < length self.now.books.now) × (number < length self.now.stations.now) }
         ensures { IsOwnAt (names_of self.now) number result }
@@ -63,7 +63,7 @@ impl<'a, G> Threaded<'a, G> {
         AllWoken { first }
     }
 
-    /// Tells all replicas that the run has failed.
+    /// Tells all replicas to end, since the run has failed.
     pub(crate) fn fail<R: Wait>(&self, rt: &R) -> Told
         ensures { result.are_all ≡ true }
     {
@@ -71,7 +71,7 @@ impl<'a, G> Threaded<'a, G> {
         Told::all(self.has_failed, &noted, self.wake_all())
     }
 
-    /// One more replica has ended.
+    /// Notes that one more replica has ended.
     pub(crate) fn count_end<R: Wait>(&self, rt: &R, own: &Own<'_>) -> Counted
         ensures { result.index ≡ own.now.index }
     {
@@ -80,7 +80,7 @@ impl<'a, G> Threaded<'a, G> {
         counted
     }
 
-    /// That all replicas have ended, if they have.
+    /// A witness that all replicas have ended, if they have.
     pub(crate) fn are_over(&self) -> Option<FirstEnded>
         ensures { IfSome result (λ ended. ended.count ≡ length self.now.stations.now) }
     {

@@ -1,4 +1,4 @@
-//! What the replicas of a run were told.
+//! Whether the replicas of a run were told to end.
 
 ghost use Rattle.std.specs.Prelude.{◌≡◌, true};
 
@@ -6,7 +6,7 @@ use crate::stop::Stop;
 use crate::threads::AllWoken;
 use std::sync::{OnceLock, OnceToken};
 
-/// Whether all replicas were told that the run has failed.
+/// Whether all replicas were told to end, since the run has failed.
 #[derive(Clone, Copy)]
 pub(crate) struct Told {
     are_all: bool,
@@ -16,7 +16,7 @@ impl Told {
     /// Nobody was told.
     pub(crate) const NOBODY: Told = Told { are_all: false };
 
-    /// All were: it is noted that the run has failed, which nothing takes back, and they are woken.
+    /// All were: the run's failure is noted, which nothing clears, and they are woken.
     pub(crate) fn all(has_failed: &OnceLock<()>, noted: &OnceToken<'_, ()>, _: AllWoken) -> Told
         requires { noted.now.of ≡ has_failed.now.id }
         ensures { result.are_all ≡ true }
@@ -25,7 +25,7 @@ impl Told {
     }
 }
 
-/// Why a run does not come to its end, and that its replicas were told so.
+/// Why a run stops; its replicas were told to end.
 #[derive(Clone, Copy)]
 pub(crate) struct Stopped {
     stop: Stop,

@@ -1,4 +1,4 @@
--- A clock board: its words, the seats that callers have, and what is told in the end.
+-- A clock board: its words, the seats of its callers, and its final words.
 use Rattle.std.specs.Prelude.{◌≡◌, ℕ, List, map, slice_index, vec_len}
 use mathlib.Core.Option.{some}
 use lib.ListN.{get_elem?}
@@ -11,14 +11,14 @@ use Rattle.nm_shared.specs.declared.word.WordSeat.{WordSeat}
 use Rattle.nm_shared.specs.declared.word.Word.{Word}
 use Rattle.nm_shared.specs.Clock.{Fits, looked, owner}
 
--- how many words there are, and which an owner owns
+-- how many words there are, and the word of an owner
 abbrev pub word_count : ClockBoard → ℕ
 word_count board = vec_len board.words
 
 abbrev pub owned_word : OwnerSeat → ℕ
 owned_word o = o.word
 
--- which table a word or a seat is of, and what a seat knows
+-- the table of a word or a seat, and what a seat knows
 abbrev pub word_id : Word → TableId
 word_id w = w.table.shared.table_id
 
@@ -64,15 +64,15 @@ AreOwners ws os = Each (λ k o. (o.word ≡ k) × SitsAt ws k o.place × (view_o
 abbrev pub AreFirstOwners : ClockBoard → List OwnerSeat → Type 0
 AreFirstOwners board os = AreOwners board.words.items os
 
--- the word is what the seat owns, if it owns the word, and the seat found no more
+-- the word is the value that the seat owns, if it owns the word, and the seat found no more
 abbrev pub FitsAt : List ℕ → ℕ → WordSeat → Type 0
 FitsAt ns k p = Fits (slice_index ns k) (view_of p)
 
 abbrev pub FitAll : List ℕ → List WordSeat → Type 0
 FitAll ns ps = Each (FitsAt ns) ps
 
--- the seat found n at the word k, which is no less than it had found there, and looked once
--- more; it is as it was but for that
+-- the seat found n at the word k, no less than it had found there, and looked once more; nothing
+-- else of it changed
 abbrev pub FindsAt : List WordSeat → ℕ → ℕ → List WordSeat → Type 0
 FindsAt ps k n qs =
     (v : View) × (get_elem? (map view_of ps) k ≡ some v)
@@ -81,7 +81,7 @@ FindsAt ps k n qs =
 abbrev pub LooksAt : Seat → ℕ → ℕ → Seat → Type 0
 LooksAt s k n t = FindsAt s.places.items k n t.places.items
 
--- what the seat found last at the word k
+-- the seat found this last at the word k
 abbrev pub FoundAt : Seat → ℕ → ℕ → Type 0
 FoundAt s k n = (v : View) × (get_elem? (map view_of s.places.items) k ≡ some v) × (v.found ≡ n)
 
@@ -89,6 +89,6 @@ FoundAt s k n = (v : View) × (get_elem? (map view_of s.places.items) k ≡ some
 abbrev pub ClocksAre : List ℕ → List OwnerSeat → Type 0
 ClocksAre ns os = Each (λ _ o. slice_index ns o.word ≡ raised_to o) os
 
--- no seat ever found more than a word is
+-- no seat ever found more than a word has
 abbrev pub NoneFoundMore : List ℕ → List Seat → Type 0
 NoneFoundMore ns ss = Each (λ _ s. FitAll ns s.places.items) ss

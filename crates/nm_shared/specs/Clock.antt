@@ -4,7 +4,7 @@ use mathlib.Core.Option.{some}
 use lib.ListN.{get_elem?}
 use Rattle.nm_shared.specs.declared.word.View.{View}
 
--- the one that owns the word, with its value; and one that only looks
+-- the view that owns the word, with its value; and one that only looks
 abbrev pub owner : View
 owner = record { owned = 0 ∷ []; found = 0; looks = 0 }
 
@@ -33,11 +33,11 @@ abbrev pub AllAre : ℕ → List ℕ → Type 0
 AllAre n [] = Unit {0}
 AllAre n (x ∷ xs) = (x ≡ n) × AllAre n xs
 
--- the word n is what the view owns, if it owns the word, and the view found no more
+-- the word n is the value that the view owns, if it owns the word, and the view found no more
 abbrev pub Fits : ℕ → View → Type 0
 Fits n v = AllAre n v.owned × (v.found ≤ n)
 
--- The rule. A word is what the view that owns it has, at most one view owns it, and no view
+-- The rule: a word is the value of the view that owns it, at most one view owns it, and no view
 -- found more
 abbrev pub EachFits : ℕ → List View → Type 0
 EachFits n views = (j : ℕ) (v : View) → get_elem? views j ≡ some v → Fits n v

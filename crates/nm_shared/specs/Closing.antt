@@ -1,4 +1,4 @@
--- The seats that came back to a board, where they did.
+-- The seats that came back to a board.
 use Rattle.std.specs.Prelude.{◌≡◌, ℕ, ◌≤◌, List, length, Option, IfSome}
 use mathlib.Core.Option.{some}
 use lib.ListN.{get_elem?}
@@ -16,7 +16,7 @@ From {A} P m xs = (w : ℕ) (a : A) → m ≤ w → get_elem? xs w ≡ some a �
 abbrev pub SitIf : List Word → List (Option WordSeat) → Type 0
 SitIf ws cs = (length cs ≡ length ws) × Each (λ k c. IfSome c (SitsAt ws k)) cs
 
--- each word is what the seat there owns, if there is one and it owns the word, and it found no more
+-- each word is the value that the seat there owns, if one does, and that seat found no more
 abbrev pub FitIf : List ℕ → List (Option WordSeat) → Type 0
 FitIf ns cs = Each (λ k c. IfSome c (FitsAt ns k)) cs
 

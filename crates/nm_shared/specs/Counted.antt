@@ -6,7 +6,7 @@ use Rattle.nm_book.specs.Book.{BookValue, knowledge}
 use Rattle.nm_shared.specs.Known.{Grows, HasAllChannels, messages_known}
 use Rattle.nm_shared.specs.Home.{Home, home_of}
 
--- n is added to a; where counts aren't exact, only if the sum fits 64 bits
+-- n is added to a; if counts aren't exact, only while the sum fits 64 bits
 abbrev pub Rises : Bool → ℕ → ℕ → ℕ → Type 0
 Rises exact a n b = (exact ≡ false → a + n < 2 ^ 64) → b ≡ a + n
 
@@ -19,13 +19,12 @@ pub record PassCounts : Type 0 where
   pub messages : ℕ
   pub events : ℕ
 
--- what its share says of that
+-- the same, by its share
 abbrev pub counts_of : {S : Type 0} → (messages events : S → ℕ) → S → PassCounts
 counts_of messages events share = record { messages = messages share; events = events share }
 
--- An act took the book b to c in one go, by a pass that had counted so much before and so much
--- after it. The book had at least what the pass had counted, and the pass then counts what was
--- added.
+-- One act took the book b to c, by a pass that had counted `before`, and `after` once it was done.
+-- The book had no less than the pass had counted, and the pass then counts what was added.
 pub record Meets (exact : Bool) (own : Home) (before after : PassCounts) (b c : BookValue)
     : Type 0 where
   pub home : exact ≡ true → home_of b ≡ own
@@ -37,7 +36,7 @@ pub record Meets (exact : Bool) (own : Home) (before after : PassCounts) (b c : 
   pub messages : Rises exact before.messages (messages_known c - messages_known b) after.messages
   pub events : Rises exact before.events (c.events - b.events) after.events
 
--- a blank, of this name and cut into so many parts, is that of a ledger, and is cut into all parts
+-- a blank, of this name and cut into so many parts, is that of a ledger, and is cut into 2 ^ 32
 abbrev pub IsBlankOf : (own own_parts name parts : ℕ) → Type 0
 IsBlankOf own own_parts name parts = (name ≡ own) × (parts ≡ own_parts) × (parts ≡ 2 ^ 32)
 

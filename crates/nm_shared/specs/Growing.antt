@@ -1,4 +1,4 @@
--- Why a book only grows, whatever a call of it answers.
+-- Why a book only grows, whatever a call answers.
 use Rattle.std.specs.Prelude.{◌≡◌, ℕ, zero, suc, ◌+◌, ◌≤◌, Bool, true, false, if◌then◌else◌, List, [], ◌∷◌, ◌++◌, length, slice_index_or, slice_set, Option, Some, None, Result, Ok, Err, refl}
 use Rattle.std.proofs.Common.{⊎_elim, ◌<◌, leb, sym, subst, ap, arith, length-append}
 use Rattle.std.proofs.lemmas.Bool.{cases_lt, leb-true}
@@ -126,7 +126,7 @@ taken_rises ks (Data d) =
     data_rises _ (slice_index_or ks d.channel nothing_known) d.number (d.time, d.packet)
 taken_rises ks (Null n) = null_rises _ (slice_index_or ks n.channel nothing_known) n.count n.clock
 
--- what a book may know after it was told of channel c
+-- what a book may know after a message or null message of channel c
 abbrev Learned : List (Know (List ℕ)) → List (Know (List ℕ)) → Type 0
 Learned ks js = (length js ≡ length ks) × ((n : ℕ) → count_at ks n ≤ count_at js n)
 

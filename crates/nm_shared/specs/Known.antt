@@ -1,4 +1,4 @@
--- How much a book knows and did, which is what its passes count.
+-- How much a book knows and did: its passes count that.
 use Rattle.std.specs.Prelude.{◌≡◌, ℕ, zero, suc, ◌+◌, ◌≤◌, if◌then◌else◌, List, length, slice_index_or, Option, Some, None, Result, Ok, Err}
 use Rattle.nm_topology.specs.Topology.{receiving_iface}
 use Rattle.nm_topology.specs.TopologyValue.{TopologyValue}
@@ -30,7 +30,7 @@ module _ (t : TopologyValue) (p : ℕ) (knows : List (Know (List ℕ))) where
 abbrev pub messages_known : BookValue → ℕ
 messages_known b = messages_below b.topology b.partition b.knows (length b.topology.receivers)
 
--- it has a place for each channel
+-- the book has a place for each channel
 abbrev pub HasAllChannels : BookValue → Type 0
 HasAllChannels b = length b.knows ≡ length b.topology.receivers
 
@@ -41,20 +41,19 @@ pub record Grows (b c : BookValue) : Type 0 where
   pub messages : messages_known b ≤ messages_known c
   pub events : b.events ≤ c.events
 
--- a book that had a place for each channel learned as many messages as its answer tells, where
--- it tells
+-- a book with a place for each channel learned as many messages as its answer has, if it has that
 abbrev pub TellsNews : BookValue → Option ℕ → BookValue → Type 0
 TellsNews b None c = Unit {0}
 TellsNews b (Some n) c = HasAllChannels b → messages_known c ≡ messages_known b + n
 
--- how many messages an answer says were new
+-- how many messages were new, by an answer
 abbrev pub news : Result Accepted AcceptFault → ℕ
 news (Ok New) = 1
 news (Ok Known) = 0
 news (Ok Raised) = 0
 news (Err f) = 0
 
--- how many events a run says it did
+-- how many events a run did, by its answer
 abbrev pub ran : Ran → ℕ
 ran (All n) = n
 ran (Limit n) = n

@@ -1,4 +1,4 @@
--- What a pool answers of its jobs.
+-- The answers of a pool to its jobs.
 use Rattle.std.specs.Prelude.{◌≡◌, ℕ, List, [], ◌∷◌, ◌++◌, Option, Some, Result, Ok, Err}
 use Rattle.std.specs.Prelude.{slice_get, slice_index, slice_set}
 use Rattle.std.specs.declared.vec.Vec.{Vec}
@@ -6,7 +6,7 @@ use Rattle.nm_book.specs.Book.{BookValue}
 use Rattle.nm_book.specs.Running.{Runs}
 use Rattle.nm_book.specs.declared.running.Ran.{Ran}
 
--- a book that was asked for at most so many events ran, and answered so
+-- a book ran for at most so many events, and answered so
 abbrev pub IsRunAnswer : ℕ → Ran → Type 0
 IsRunAnswer limit answer = ∥ ((b : BookValue) × (c : BookValue) × Runs b c limit answer) ∥₁
 
@@ -16,7 +16,7 @@ put_in_places place_of slots [] = slots
 put_in_places place_of slots (report ∷ more) =
     put_in_places place_of (slice_set slots (place_of report) (Some report)) more
 
--- what threads did, one behind another: nothing of one that was refused memory
+-- what threads did, one behind another; nothing of a thread that was refused memory
 unfoldable pub done_by : {A Y E : Type 0} → List (Result (Vec A Y) E) → List A
 done_by [] = []
 done_by (Ok done ∷ more) = done.items ++ done_by more

@@ -1,5 +1,5 @@
-//! A board of clocks: for each channel and replica the greatest clock that was told of. Raising and
-//! looking wait for nobody and take no memory.
+//! A board of clocks: for each channel and replica the greatest clock of its null messages so far.
+//! Raising and looking never wait and take no memory.
 
 ghost use Rattle.std.specs.Prelude.{◌≡◌, ◌+◌, ◌*◌, ◌/◌, ◌%◌, ◌<◌, ◌≤◌, [], length, max};
 ghost use Rattle.std.specs.Prelude.{vec_capacity, vec_len};
@@ -12,7 +12,7 @@ use nm_base::ChanNo;
 use nm_book::message::Null;
 use std::sync::Mutex;
 
-/// How many seats that look a board has.
+/// How many looking seats a board has.
 pub const SEATS: usize = 64;
 
 /// How many words a board has at most: one for each of 512 channels and two replicas.
@@ -41,7 +41,7 @@ pub struct Seat {
     places: Vec<WordSeat>,
 }
 
-// Room for a seat at each word, which `close` fills.
+// Room for a seat at each word; `close` fills it.
 #[derive(Drop)]
 struct Closers {
     places: Vec<Option<WordSeat>>,
@@ -49,13 +49,14 @@ struct Closers {
     ghost room: { 1024 ≤ vec_capacity places },
 }
 
-/// The clocks that were told of, by channel and replica. Word 2c + r is that of channel c, told of
-/// by replica r of the partition that sends on it. Each word is in a table of its own, and the only
+/// The greatest clocks so far, by channel and replica. Word 2c + r is that of channel c, raised by
+/// replica r of the partition that sends on it. Each word is in a table of its own, and the only
 /// steps on it are those of its rule (`word::Clock`).
 #[derive(Drop)]
 pub struct ClockBoard {
     words: Vec<Word>,
-    // What `close` needs, so that it takes no memory. Nobody waits for the lock: `close` opens it.
+    // What `close` needs, so that it takes no memory. No thread ever waits for the lock: `close`
+    // opens it.
     clocks: Vec<u64>,
     closers: Mutex<Closers>,
     ghost clocks_are: { vec_len clocks ≡ vec_len words },
@@ -98,8 +99,8 @@ impl ClockBoard {
         self.words.len()
     }
 
-    /// Makes a null message of the owner's channel seen: by one step its word becomes the clock, in
-    /// nanoseconds, unless it is later already.
+    /// Publishes a null message of the owner's channel: one step raises the word to its clock, in
+    /// nanoseconds, unless the word is greater already.
     #[tactic(auto, using(crate::proofs::Boards::raises_clock, crate::proofs::Boards::owns_some))]
     pub fn raise(&self, owner: &mut OwnerSeat, null: &Null)
         requires owner { IsOwnerOf self.now owner.old }
@@ -111,8 +112,7 @@ impl ClockBoard {
         self.words[owner.word].raise(&mut owner.place, null.clock.nanoseconds());
     }
 
-    /// Looks at a word, by one step. What it finds, in nanoseconds, is no less than this seat found
-    /// there before.
+    /// Reads a word, in nanoseconds, by one step. It is no less than this seat found there before.
     pub fn look(&self, seat: &mut Seat, word: usize) -> u64
         requires word { word < word_count self.now }
         requires seat { IsSeatOf self.now seat.old }

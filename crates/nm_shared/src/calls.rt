@@ -1,4 +1,4 @@
-//! The calls of a shared book that a pass counts, and what it counts of them.
+//! The calls of a shared book that a pass counts.
 
 ghost use Rattle.std.specs.Prelude.{◌≡◌, ◌+◌, ◌≤◌, IfOk, true};
 ghost use Rattle.nm_book.specs.Book.{BookValue, message_channel};
@@ -19,7 +19,7 @@ use nm_knowledge::Accepted;
 use std::alloc::{AllocError, Global};
 use std::sync::Wait;
 
-/// What the book of this replica answered to a merge: only `SharedBook::merge` makes it.
+/// The answer of this replica's book to a merge: only `SharedBook::merge` makes it.
 #[derive(Drop)]
 pub struct MergeAnswer {
     /// The replica's partition, and 0 or 1.
@@ -52,8 +52,8 @@ fn count_of(answer: &Ran) -> u64
 }
 
 impl<C: Counts> SharedBook<C> {
-    /// Takes in a message or a null message, as `Book::accept` does. The pass counts one message
-    /// where the answer is `New`, and else nothing.
+    /// Takes in a message or a null message, as `Book::accept` does. The pass counts one message if
+    /// the answer is `New`, and else nothing.
     ///
     /// # Errors
     ///
@@ -118,8 +118,8 @@ impl<C: Counts> SharedBook<C> {
         })
     }
 
-    /// Takes in what another replica of the partition knows, as `Book::merge` does. What it learned
-    /// of that the pass counts.
+    /// Takes in what another replica of the partition knows, as `Book::merge` does. The pass counts
+    /// the messages learned.
     pub fn merge<R: Wait>(
         &self,
         rt: &R,

@@ -1,17 +1,17 @@
-//! Who counts what was added to a shared book: totals under its lock, and amounts in each pass.
+//! How additions to a shared book are counted: totals under its lock, and amounts in each pass.
 
 ghost use Rattle.std.specs.Prelude.{◌≡◌, ℕ, ◌+◌, ◌^◌, ◌<◌, ◌≤◌, Bool, true};
 ghost use Rattle.nm_shared.specs.Counted.{Rises};
 ghost use Rattle.nm_shared.specs.Home.{Home};
 
-/// Into how many parts the right to count is cut. Each pass has one.
+/// Into how many parts the right to count is cut. Each pass has one of them.
 pub const PARTS: u64 = 1 << 32;
 
 /// The totals of a book. A `Share` has the amounts of a pass.
 pub trait Counts: Drop + Send {
     type Share: Drop + Send;
 
-    /// Which replica the book is, where the counts are exact.
+    /// Which replica the book is, if the counts are exact.
     ghost home: { Home };
 
     /// Whether totals and amounts are tied, so that a whole share has the totals.
@@ -47,7 +47,7 @@ pub trait Counts: Drop + Send {
         ensures events_of { Rises exact (events_of share.old) new_events (events_of share.new) }
         ensures parts { parts share.new ≡ parts share.old };
 
-    /// Changes nothing, and tells how the share's amounts stand to the totals.
+    /// Changes nothing, and shows how the share's amounts relate to the totals.
     fn audit(&mut self, share: &mut Self::Share)
         ensures same { (messages self.new ≡ messages self.old)
             × (events self.new ≡ events self.old) }

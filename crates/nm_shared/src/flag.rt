@@ -33,7 +33,7 @@ impl Flag {
         self.0.load(Ordering::SeqCst)
     }
 
-    /// Whether it was set. It is not set any more.
+    /// Clears it. Answers whether it was set.
     pub(crate) fn take(&self) -> bool {
         self.0.swap(false, Ordering::SeqCst)
     }

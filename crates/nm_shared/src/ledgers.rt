@@ -7,7 +7,7 @@ use crate::counts::Counts;
 use std::marker::Brand;
 use std::sync::ledger::{Blank, Book as Account, Ledger, Share};
 
-/// Names one book: its ledger of messages, and which replica it is. A pass of another book is of
+/// Names one book: its ledger of messages, and which replica it is. Passes of another book have
 /// another type.
 pub trait Naming: Ledger {
     ghost use Rattle.nm_shared.specs.Home.{Home};

@@ -1,14 +1,15 @@
-//! Who runs a book that has a pool beside its replica's own thread.
+//! Which thread runs a book: a pool's, or its replica's own.
 
 ghost use Rattle.std.specs.Prelude.{◌≡◌, IfSome, IsErr, None, false, is_some, true};
 
 use crate::flag::{Flag, WasSet};
 use std::marker::Model;
 
-/// Says who runs a book: a pool, to which it is lent, or its replica's own thread, after each of
-/// its polls. It is lent at first, and again where its own thread left events to do; what is short
-/// stays on its thread and wakes nobody. What a book does is the same, whoever runs it, since each
-/// has its lock. A book that nobody runs waits for ever. A clause sees whether there is a pool.
+/// Who runs a book: a pool, to which it is lent, or its replica's own thread, after each of its
+/// polls. The book is lent at first, and again whenever its own thread leaves events to do; short
+/// work stays on that thread and wakes nobody. What the book does is the same, whoever runs it,
+/// since it is locked meanwhile. A book that nobody runs waits for ever. A clause sees whether
+/// there is a pool.
 #[derive(Drop)]
 pub struct Lending {
     /// Without a pool the replica's own thread always runs the book.
@@ -23,15 +24,15 @@ impl Model for Lending {
     ghost view = { λ l. is_some l.loan };
 }
 
-/// What a pool and a replica's own thread know of a book that is lent at times.
+/// What a pool and a replica's own thread share about a book.
 #[derive(Drop)]
 struct Loan {
     is_lent: Flag,
-    /// The pool may do more than when it looked last.
+    /// The pool may have more to do than when it looked last.
     has_news: Flag,
 }
 
-/// A book was lent to its pool, which is told so: only `Lending::lend` makes it.
+/// A book was lent to its pool, and the pool was notified: only `Lending::lend` makes it.
 #[derive(Clone, Copy)]
 pub struct Lent {
     lent: WasSet,
@@ -45,21 +46,22 @@ pub struct GivenBack {
     lent: Option<WasSet>,
 }
 
-/// A pool, if there is one, was told that it may do more: only `Lending::note` makes it.
+/// A pool, if there is one, was notified that it may have more to do: only `Lending::note` makes
+/// it.
 #[derive(Clone, Copy)]
 pub struct Notified {
     told: Option<WasSet>,
 }
 
-/// A book was not lent when it was asked for that: only `Lending::not_lent` makes it.
+/// A book was found not to be lent: only `Lending::not_lent` makes it.
 #[derive(Clone, Copy)]
 pub struct NotLent(());
 
-/// The pool may do more than when this was taken last. It cannot be let go but by `pass_on`.
+/// The pool may have more to do than when this was taken last. Only `pass_on` can spend it.
 pub struct TakenNews(());
 
 impl TakenNews {
-    /// The pool was told.
+    /// The pool was notified.
     pub fn pass_on(self) {
         let TakenNews(()) = self;
     }
@@ -106,7 +108,7 @@ impl Lending {
         }
     }
 
-    /// That the book is not lent, if it is not.
+    /// A witness that the book is not lent, if it is not.
     fn not_lent(&self) -> Option<NotLent>
         ensures { self.now ≡ false → is_some result ≡ true }
     {
@@ -117,8 +119,7 @@ impl Lending {
         }
     }
 
-    /// The replica's own thread left events to do: the book is lent to its pool, if there is one,
-    /// which is to do them now.
+    /// The replica's own thread left events to do: the book is lent to its pool, if there is one.
     pub fn lend(&self) -> Option<Lent>
         ensures pool { is_some result ≡ self.now }
         ensures lent { IfSome result (λ l. (l.lent.value ≡ true) × (l.told.value ≡ true)) }
@@ -129,7 +130,7 @@ impl Lending {
         }
     }
 
-    /// The pool left none: the replica's own thread goes on.
+    /// The pool left no events to do: the replica's own thread goes on.
     pub fn give_back(&self) -> GivenBack
         ensures pool { is_some result.lent ≡ self.now }
         ensures back { IfSome result.lent (λ l. l.value ≡ false) }
@@ -142,7 +143,7 @@ impl Lending {
         }
     }
 
-    /// The pool may do more than when it looked last: the book is lent, or keeps fewer records.
+    /// Notifies the pool that it may have more to do: the book is lent, or keeps fewer records.
     pub fn note(&self) -> Notified
         ensures pool { is_some result.told ≡ self.now }
         ensures told { IfSome result.told (λ t. t.value ≡ true) }
@@ -155,7 +156,7 @@ impl Lending {
         }
     }
 
-    /// The same where the book is lent, and else nothing: its own thread knows.
+    /// The same if the book is lent; else nothing is needed, since its own thread runs it.
     pub fn note_if_lent(&self) -> Result<Notified, NotLent>
         ensures { self.now ≡ false → IsErr result }
     {
@@ -165,7 +166,7 @@ impl Lending {
         }
     }
 
-    /// That the pool may do more than when this was asked last, if it may.
+    /// A witness that the pool may have more to do than when this was asked last, if it may.
     pub fn take_news(&self) -> Option<TakenNews>
         ensures { self.now ≡ false → result ≡ None }
     {

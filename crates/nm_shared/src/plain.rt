@@ -1,4 +1,4 @@
-//! Counts for lists of books, of one type for all of them: nothing ties their amounts to totals.
+//! Counts of one type for all books of a list: nothing ties their amounts to totals.
 
 ghost use Rattle.std.specs.Prelude.{◌≡◌, ◌^◌, false};
 ghost use Rattle.nm_shared.specs.Counted.{nowhere};

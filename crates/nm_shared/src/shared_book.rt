@@ -26,12 +26,12 @@ pub struct Pass<C: Counts> {
     /// Which replica the book is: its partition, and 0 or 1.
     pub partition: PartNo,
     pub replica: u8,
-    /// What it counted.
+    /// Its share of the counts.
     pub share: C::Share,
     ghost part: { C.parts share ≡ 1 },
 }
 
-/// What lies under the lock: a book, its totals, and the parts that no pass has.
+/// What the lock protects: a book, its totals, and the parts that no pass has.
 #[derive(Drop)]
 pub struct Locked<C: Counts> {
     book: Book,
@@ -50,8 +50,8 @@ pub struct Locked<C: Counts> {
     ghost idle: { (C.messages_of rest ≡ 0) × (C.events_of rest ≡ 0) },
 }
 
-/// A book under a lock, with the totals of messages known and events done. All that a caller does
-/// with it is one act, in one go.
+/// A book under a lock, with the totals of messages known and events done. Each call of it is one
+/// act.
 #[derive(Drop)]
 pub struct SharedBook<C: Counts> {
     /// Which replica it is, which no act changes: its partition, and 0 or 1.
@@ -62,7 +62,7 @@ pub struct SharedBook<C: Counts> {
         → (C.home.partition ≡ partition) × (C.home.replica ≡ replica) },
 }
 
-/// A book that no thread shares any more, with its totals.
+/// A book that threads no longer share, with its totals.
 #[derive(Drop)]
 pub struct Closed {
     pub book: Book,
@@ -72,7 +72,7 @@ pub struct Closed {
     pub ghost events_are: { events ≡ book.events },
 }
 
-/// Some pass is missing. All comes back: the book opens again by `SharedBook::again`.
+/// A pass is missing. All comes back: `SharedBook::again` opens the book again.
 #[derive(Drop)]
 pub struct PassesOut<C: Counts> {
     pub held: Locked<C>,
@@ -80,14 +80,14 @@ pub struct PassesOut<C: Counts> {
 }
 
 impl<C: Counts> Locked<C> {
-    /// The book of what came back, whatever passes are missing.
+    /// The book, whatever passes are missing.
     pub fn into_book(self) -> Book
         ensures { C.exact ≡ true → home_of result ≡ C.home }
     {
         self.book
     }
 
-    /// One more pass, of the book of this replica.
+    /// One more pass of the book of this replica.
     fn pass(&mut self, partition: PartNo, replica: u8) -> Result<Pass<C>, AllocError>
         ensures fresh { IfOk result
             (λ p. (C.messages_of p.share ≡ 0) × (C.events_of p.share ≡ 0)) }
@@ -123,7 +123,7 @@ impl<C: Counts> Locked<C> {
         answer
     }
 
-    /// The book and its totals, where no pass is missing.
+    /// The book and its totals, if no pass is missing.
     fn close(self, passes: Vec<Pass<C>>) -> Result<Closed, PassesOut<C>>
         requires { C.cut true }
         ensures book { IfOk result (λ r. r.book ≡ self.book) }
@@ -150,8 +150,7 @@ impl<C: Counts> Locked<C> {
     }
 }
 
-/// How many messages a book knows that knew so many before, and learned so many, or an unknown
-/// number.
+/// How many messages a book knows, if it knew `before` and learned `learned`, or an unknown number.
 fn known_after(book: &Book, before: u64, learned: Option<u64>) -> u64
     requires { IfSome learned (λ n. messages_known book.now ≡ before + n) }
     ensures { result ≡ messages_known book.now }
@@ -210,7 +209,7 @@ impl<C: Counts> SharedBook<C> {
         counts: C,
         whole: C::Share,
     ) -> Result<SharedBook<C>, BookFault>
-        // The counts are of this replica, at nothing, and the whole of them is given.
+        // The counts are of this replica, at 0, and the share is the whole one.
         requires home { C.exact ≡ true → C.home ≡ record {
           topology = arc_value topology;
           partition = partition;
@@ -220,7 +219,7 @@ impl<C: Counts> SharedBook<C> {
         requires whole { (C.parts whole ≡ 2 ^ 32) × (C.messages_of whole ≡ 0)
             × (C.events_of whole ≡ 0) }
 
-        // There is a book where the partition has such a replica, and only there.
+        // There is a book exactly if the partition has such a replica.
         ensures there { IfOk result
             (λ _. is_replica (arc_value topology) partition replica ≡ true) }
         ensures no_such { result ≡ Err (Refused NoSuch)
@@ -244,7 +243,7 @@ impl<C: Counts> SharedBook<C> {
         })
     }
 
-    /// Shares again what came back.
+    /// Shares a book again that came back.
     pub fn again(held: Locked<C>) -> SharedBook<C> {
         SharedBook {
             partition: held.book.partition(),
@@ -268,7 +267,7 @@ impl<C: Counts> SharedBook<C> {
         held.pass(self.partition, self.replica)
     }
 
-    /// Acts once on the locked book, which has at least what the pass counted. The pass then counts
+    /// Acts once on the locked book, which has no less than the pass counted. The pass then counts
     /// what was added.
     pub fn act<A: Act, R: Wait>(&self, rt: &R, pass: &mut Pass<C>, act: A) -> A::Out
         ensures { (b : BookValue) × (c : BookValue) × A.does act b result c
@@ -279,11 +278,11 @@ impl<C: Counts> SharedBook<C> {
         held.act(pass, act)
     }
 
-    /// The book and its totals, which are the sums over all passes. It waits for nobody.
+    /// The book and its totals, which are the sums over all passes. It never waits.
     ///
     /// # Errors
     ///
-    /// Where a pass is missing: fewer are given than were made.
+    /// If a pass is missing: fewer are given than were made.
     pub fn close(self, passes: Vec<Pass<C>>) -> Result<Closed, PassesOut<C>>
         requires { C.cut true }
         ensures home { C.exact ≡ true → IfOk result (λ r. home_of r.book ≡ C.home) }

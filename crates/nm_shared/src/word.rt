@@ -7,8 +7,8 @@ use atomic_table::{Join, Play, Split, Table, TableRule};
 use std::alloc::{AllocError, Global};
 use std::collections::LinkedList;
 
-// What a seat knows: the value that it owns, if it owns the word, the value that it found last,
-// and how often it looked. No value of it is made.
+// What a seat knows: the value that it owns, if it owns the word, the value that it found last, and
+// how often it looked. It exists in clauses alone.
 pub struct View {
     pub owned: LinkedList<u64>,
     pub found: u64,
@@ -37,7 +37,7 @@ impl Play<u64, View> for Raise {
         × (after.1 ≡ before.1) };
 }
 
-/// A seat looks, by one load: what it found last becomes the word, and its looks rise by one.
+/// A seat looks, by one load: its last found value becomes the word's, and its looks rise by one.
 pub struct Look;
 
 impl Play<u64, View> for Look {
@@ -47,7 +47,7 @@ impl Play<u64, View> for Look {
         × (after.1 ≡ before.1) };
 }
 
-/// A new seat is split off, which found and owns nothing.
+/// A new seat is split off. It found and owns nothing.
 pub struct Newcomer;
 
 impl Split<View> for Newcomer {
@@ -58,8 +58,8 @@ impl Split<View> for Newcomer {
     ghost right = { λ v. looker };
 }
 
-/// Two seats become one: it owns the word if either did, found the greater, and looked as often as
-/// both. The other is spent.
+/// Two seats become one: it owns the word if either did, found the greater value, and looked as
+/// often as both. The other one is spent.
 pub struct Together;
 
 impl Join<View> for Together {
@@ -118,7 +118,7 @@ impl Word {
         self.table.shared.load::<Look>(&mut place.seat, 0)
     }
 
-    /// One more seat at the word, which found nothing yet.
+    /// One more seat at the word. It has found nothing.
     pub(crate) fn split(&self, place: &mut WordSeat) -> WordSeat
         requires { place.old.seat.table_id ≡ self.now.table.shared.table_id }
         ensures same { (place.new.seat.table_id ≡ place.old.seat.table_id)
@@ -143,7 +143,7 @@ impl Word {
             .join_seat::<Together>(&mut place.seat, seat);
     }
 
-    /// The word in the end, by the seat that took in the others.
+    /// The final word, by the seat that took in the others.
     pub(crate) fn close(self, place: WordSeat) -> u64
         requires { place.seat.table_id ≡ self.table.shared.table_id }
         ensures { Fits result place.seat.me.0 }
@@ -156,7 +156,7 @@ impl Word {
         clock
     }
 
-    /// The word in the end, where no seat came back.
+    /// The final word, if no seat came back.
     pub(crate) fn close_alone(self) -> u64 {
         let Word { table } = self;
         let closed = table.close();

@@ -32,12 +32,12 @@ pub struct Job {
     pub limit: u64,
 }
 
-/// A worker has begun the job at this place of the list. It cannot be let go but by `Gate::leave`.
+/// A worker has begun the job at this place of the list. Only `Gate::leave` can spend it.
 pub struct Entered {
     pub job: usize,
 }
 
-/// What is told, and asked, while threads run.
+/// What is called while threads run.
 pub trait Gate {
     /// A worker begins the job at this place of the list.
     fn enter(&self, job: usize) -> Entered
@@ -46,12 +46,12 @@ pub trait Gate {
     /// It has ended it.
     fn leave(&self, entered: Entered);
 
-    /// Whether a thread of input and output goes on, whose wires took and gave so many octets so
-    /// far. A pool never asks.
+    /// Whether an I/O thread goes on; its wires have moved `moved` octets so far. A pool never
+    /// calls it.
     fn poll(&self, moved: u64) -> bool;
 }
 
-/// A gate that lets all go on.
+/// A gate at which everything goes on.
 pub struct OpenGate;
 
 impl Gate for OpenGate {
@@ -84,8 +84,8 @@ pub struct PoolReport<C: Counts> {
     pub passes: Vec<BookPass<C>>,
 }
 
-/// A pool for jobs that types name. The workers are what the system may refuse a thread for: they
-/// do their jobs in this one then, once the queue is fed, which waits for none of them.
+/// A pool for jobs that types name. If the system refuses a thread to a worker, its jobs are done
+/// in this one, once the queue is fed; feeding waits for no worker.
 fn pool_of<C: Counts, J: Jobs + Send + Sync, G: Gate + Sync, R: Threads + Wait + Sync>(
     rt: &R,
     alloc: Global,
@@ -98,12 +98,12 @@ fn pool_of<C: Counts, J: Jobs + Send + Sync, G: Gate + Sync, R: Threads + Wait +
     requires workers { (1 ≤ workers) × (workers ≤ 64) }
     requires named { All (λ j. j.book < length books.now) jobs.now }
 
-    // The jobs that they take turns at are these.
+    // The workers do these jobs.
     requires length { length jobs.now ≡ length J.books }
     requires books { J.books ≡ map (λ j. j.book) jobs.now }
     requires limits { J.limits ≡ map (λ j. j.limit) jobs.now }
 
-    // Each job has its pass, whose share counts the events that were done.
+    // Each job has its pass, and the pass's share counts the events that were done.
     ensures books { IfOk result
         (λ r. map (λ p. p.book) r.passes.items ≡ map (λ j. j.book) jobs.now) }
     ensures counted { IfOk result (λ r. map (λ p. C.events_of p.pass.share) r.passes.items
@@ -147,13 +147,12 @@ fn pool_of<C: Counts, J: Jobs + Send + Sync, G: Gate + Sync, R: Threads + Wait +
     report_of::<C, J, G, R>(rt, alloc, books, jobs, slots, gate)
 }
 
-/// Does the jobs, by so many threads: one answer for each job, in their order, as a book gives it
-/// that is asked for at most as many events; and a pass for each, of the job's book, which has
-/// counted what the answer says.
+/// Does the jobs on so many threads. Answers, in the order of the jobs, what each run answered, and
+/// a pass of the job's book, which has counted the events of that answer.
 ///
 /// # Errors
 ///
-/// Where memory was refused. A pass may be lost then, and its book does not close.
+/// If memory was refused. A pass may be lost then, and its book does not close.
 pub fn pool<C: Counts, G: Gate + Sync, R: Threads + Wait + Sync>(
     rt: &R,
     alloc: Global,
@@ -166,7 +165,7 @@ pub fn pool<C: Counts, G: Gate + Sync, R: Threads + Wait + Sync>(
     requires workers { (1 ≤ workers) × (workers ≤ 64) }
     requires named { All (λ j. j.book < length books.now) jobs.now }
 
-    // Each job has its pass, whose share counts the events that were done.
+    // Each job has its pass, and the pass's share counts the events that were done.
     ensures books { IfOk result
         (λ r. map (λ p. p.book) r.passes.items ≡ map (λ j. j.book) jobs.now) }
     ensures counted { IfOk result (λ r. map (λ p. C.events_of p.pass.share) r.passes.items

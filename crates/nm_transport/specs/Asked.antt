@@ -1,4 +1,4 @@
--- How often a transport was asked for what.
+-- How often each function of a transport was called.
 use Rattle.std.specs.Prelude.{ℕ, ◌+◌}
 
 pub record Asked : Type 0 where
@@ -6,7 +6,7 @@ pub record Asked : Type 0 where
   pub calls : ℕ
   -- for a connection that somebody began
   pub accepts : ℕ
-  -- to watch a connection, and to watch one no more
+  -- to watch a connection, and to end a watch
   pub watches : ℕ
   pub unwatches : ℕ
   -- to wait
@@ -15,7 +15,7 @@ pub record Asked : Type 0 where
 abbrev pub nothing_asked : Asked
 nothing_asked = record { calls = 0; accepts = 0; watches = 0; unwatches = 0; waits = 0 }
 
--- once it was asked for this, too
+-- after one more call
 abbrev pub after_call : Asked → Asked
 after_call a = record a { calls = a.calls + 1 }
 

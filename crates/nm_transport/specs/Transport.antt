@@ -11,16 +11,16 @@ use Rattle.nm_transport.specs.declared.tcp_wire.Called.{Called}
 use Rattle.nm_transport.specs.declared.transport.Waited.{Waited}
 use Rattle.nm_transport.specs.declared.transport.Waited.TheVariants.{Ready, RanOut, Fault}
 
--- what contracts see of a connection over TCP: what moved on it, and the peer to which it was begun,
--- with its address, if it was begun here
+-- what contracts see of a connection over TCP: what moved on it, and the peer to which it was
+-- begun, with its address, if it was begun here
 pub record TcpSeen : Type 0 where
   pub wire : WireSeen
   pub called : Option Called
 
--- What contracts see of a transport over TCP: where it listens, and its peers, by their numbers; whether
--- somebody may have called; whether the system had too little for one more connection when it was
--- asked last; whether the last wait was asked to wait; what it reported; how many waits ran out; and
--- what was asked of it.
+-- What contracts see of a transport over TCP: where it listens, and its peers, by their numbers;
+-- whether somebody may have called; whether the system lacked resources for one more connection
+-- when it was asked last; whether the last wait was asked to wait; what it reported; how many waits
+-- ran out; and how often it was called.
 pub record TcpTransportSeen : Type 0 where
   pub at : SocketAddr
   pub peers : List SocketAddr
@@ -35,7 +35,7 @@ pub record TcpTransportSeen : Type 0 where
 abbrev pub token_of : Event → ℕ
 token_of event = (event_token event).0
 
--- it is the listener: its token is the greatest
+-- a report of the listener, which has the greatest token
 abbrev pub is_listener : Event → Bool
 is_listener event = token_of event == 2 ^ 64 - 1
 
@@ -44,14 +44,14 @@ abbrev pub IsCallTo : (peers : List SocketAddr) → (peer : ℕ) → Called → 
 IsCallTo peers peer called =
     (called.peer ≡ peer) × (slice_get peers peer ≡ Some called.address)
 
--- a connection has the address that was called at its own end, too
+-- a connection's own end has the address that was called
 abbrev pub MeetsItself : (called : Option Called) → (own : Option SocketAddr) → Type 0
 MeetsItself None own = ⊥
 MeetsItself (Some called) None = ⊥
 MeetsItself (Some called) (Some own) = called.address ≡ own
 
--- an error of this kind says that the call is to be made again once the connection is ready: it
--- would block, was interrupted, or the connection is not made yet
+-- after an error of this kind the call is made again once the connection is ready: it would block,
+-- was interrupted, or the connection is not established yet
 abbrev pub IsToWait : ErrorKind → Type 0
 IsToWait kind = (kind ≡ WouldBlock) ⊎ (kind ≡ Interrupted) ⊎ (kind ≡ NotConnected)
 
@@ -66,12 +66,12 @@ has_run_out Ready = false
 has_run_out RanOut = true
 has_run_out Fault = true
 
--- what a wait came to, by whether a period was over and whether it could wait
+-- the answer of a wait, by whether a period was over and whether it could wait
 abbrev pub waited_as : (is_over has_waited : Bool) → Waited
 waited_as true has_waited = RanOut
 waited_as false true = Ready
 waited_as false false = Fault
 
--- how many waits have ended so, after one more, which did or did not
+-- how many waits have run out, after one more; `ran_out`: it did, too
 abbrev pub elapsed_after : (before : ℕ) → (ran_out : Bool) → ℕ
 elapsed_after before ran_out = if ran_out then before + 1 else before

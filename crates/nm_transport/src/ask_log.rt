@@ -1,4 +1,4 @@
-//! What was asked of a transport: for contracts alone.
+//! The calls of a transport, counted for contracts alone.
 
 ghost use Rattle.std.specs.Prelude.{◌≡◌};
 ghost use Rattle.nm_transport.specs.Asked.{after_accept, after_call, after_unwatch, after_wait};
@@ -9,7 +9,7 @@ use nm_base::failures::FailureCount as Count;
 use std::marker::Model;
 use std::time::Duration;
 
-/// How often a transport was asked for what, as contracts see it. It takes no memory.
+/// How often each function of a transport was called, as contracts see it. It takes no memory.
 #[derive(Drop)]
 pub struct AskLog {
     calls: Count,
@@ -33,11 +33,12 @@ impl Model for AskLog {
     } };
 }
 
-/// A wait was asked for, which is made once: it cannot be let go otherwise.
+/// A wait that was asked for. It can only be spent by one wait.
 pub struct AskedToWait(());
 
 impl AskedToWait {
-    /// Waits until something is ready on a poll, or for so long: whether it could wait.
+    /// Waits until something is ready on a poll, at most for `limit`. Answers whether it could
+    /// wait.
     pub(crate) fn poll(self, poll: &mut Poll, events: &mut Events, limit: Duration) -> bool {
         let AskedToWait(()) = self;
         poll.poll(events, Some(limit)).is_ok()
@@ -50,7 +51,7 @@ impl AskedToWait {
 }
 
 impl AskLog {
-    /// Nothing was asked so far.
+    /// Nothing was asked for so far.
     pub fn new() -> Self
         ensures { result ≡ nothing_asked }
     {
@@ -84,14 +85,14 @@ impl AskLog {
         self.watches.rise();
     }
 
-    /// A connection is to be watched no more.
+    /// A connection is no longer to be watched.
     pub fn note_unwatch(&mut self)
         ensures { self.new ≡ after_unwatch self.old }
     {
         self.unwatches.rise();
     }
 
-    /// A wait is made, once.
+    /// One wait is to be made.
     pub fn note_wait(&mut self) -> AskedToWait
         ensures { self.new ≡ after_wait self.old }
     {

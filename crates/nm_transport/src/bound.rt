@@ -8,21 +8,22 @@ use std::io;
 use std::marker::Model;
 use std::net::{Net, SocketAddr};
 
-/// A socket that listens, and where the system says that it does. A clause sees that address.
+/// A socket that listens, and its address as the system reports it. A clause sees that address.
 #[derive(Drop)]
 pub struct Bound {
     socket: TcpListener,
     at: LocalAddress,
 }
 
-/// Where the system says that a socket listens: only `LocalAddress::of` makes it.
+/// The address at which a socket listens, as the system reports it: only `LocalAddress::of` makes
+/// it.
 #[derive(Clone, Copy)]
 struct LocalAddress {
     address: SocketAddr,
 }
 
 impl LocalAddress {
-    /// Of this socket.
+    /// The address of this socket.
     fn of(socket: &TcpListener) -> io::Result<Self> {
         Ok(LocalAddress {
             address: socket.local_addr()?,
@@ -39,32 +40,32 @@ impl Model for Bound {
 }
 
 impl Bound {
-    /// Listens at this address; at a free port, which the system chooses, where its port is 0.
+    /// Listens at this address. If its port is 0, the system chooses a free one.
     ///
     /// # Errors
     ///
-    /// Where the system does not let it.
+    /// If the system refuses.
     pub fn listen<R: Net>(net: &R, address: SocketAddr) -> io::Result<Self> {
         let socket = TcpListener::bind(net, address)?;
         let at = LocalAddress::of(&socket)?;
         Ok(Bound { socket, at })
     }
 
-    /// Where the system says that it listens.
+    /// The address at which it listens.
     pub fn at(&self) -> SocketAddr
         ensures { result ≡ self.now }
     {
         self.at.address
     }
 
-    /// Has a poll report under this token that somebody may have called.
+    /// Makes a poll report under this token that somebody may have called.
     pub(crate) fn register(&mut self, registry: &Registry, token: Token) -> io::Result<()>
         ensures { self.new ≡ self.old }
     {
         registry.register(&mut self.socket, token, Interest::READABLE)
     }
 
-    /// The next connection that somebody began, as the system answers.
+    /// The next connection that somebody began, or the system's error.
     pub(crate) fn accept(&self) -> io::Result<(TcpStream, SocketAddr)> {
         self.socket.accept()
     }

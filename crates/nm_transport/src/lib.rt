@@ -1,5 +1,5 @@
-//! What carries the octets of a replica: connections and a wait for them, over TCP or as a test
-//! likes. Time passes here in periods.
+//! What carries the octets of a replica: connections and a wait for them, over TCP or scripted by a
+//! test. Time is counted in periods.
 #![tactic(auto)]
 
 pub mod ask_log;

@@ -11,13 +11,13 @@ use crate::limits::PERIOD_MILLISECONDS;
 use crate::reading::Reading;
 use std::time::{Clock, Duration, Instant};
 
-/// A period, and when it began, where the clock could be read then.
+/// A period, and when it began, if the clock could be read then.
 #[derive(Clone, Copy, Drop)]
 pub(crate) struct Period {
     begun: Option<Instant>,
 }
 
-/// How much is left of a period that began then.
+/// How much is left at `now` of a period that began at `begun`.
 fn left_of(begun: Instant, now: Instant) -> Duration
     ensures { as_nanos result ≡ nanoseconds_left begun now }
 {
@@ -25,21 +25,21 @@ fn left_of(begun: Instant, now: Instant) -> Duration
 }
 
 impl Period {
-    /// One begins now.
+    /// A period that begins now.
     pub(crate) fn begin(clock: &impl Clock) -> Self {
         Period {
             begun: Reading::of(clock).instant(),
         }
     }
 
-    /// How much of it is left, and all of it where the clock can't be read.
+    /// How much of it is left: all of it if the clock can't be read.
     pub(crate) fn left(&self, clock: &impl Clock) -> Duration
         ensures { (now : Option InstantValue) × (as_nanos result ≡ left_by self.now.begun now) }
     {
         self.left_at(Reading::of(clock))
     }
 
-    /// The same, where the clock says this now.
+    /// The same, by this reading of the clock.
     fn left_at(&self, now: Reading) -> Duration
         ensures { as_nanos result ≡ left_by self.now.begun (result_ok now.answer) }
     {
@@ -49,15 +49,15 @@ impl Period {
         }
     }
 
-    /// Whether it is over, and the next one begins now. Where the clock can't be read it is over
-    /// once a wait for the rest of it found nothing.
+    /// Whether it is over, and the next one begins now. If the clock can't be read, it is over once
+    /// a wait for the rest of it found nothing.
     pub(crate) fn ends(&mut self, clock: &impl Clock, was_waited_for: bool) -> bool
         ensures { ReadsClock self.old.begun was_waited_for self.new.begun result }
     {
         self.ends_at(Reading::of(clock), was_waited_for)
     }
 
-    /// The same, where the clock says this now.
+    /// The same, by this reading of the clock.
     fn ends_at(&mut self, now: Reading, was_waited_for: bool) -> bool
         ensures ends { result ≡ is_over self.old.begun (result_ok now.answer) was_waited_for }
         ensures begun { self.new.begun ≡ begun_after self.old.begun (result_ok now.answer) result }

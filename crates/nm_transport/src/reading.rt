@@ -1,4 +1,4 @@
-//! What a clock says.
+//! Readings of a clock.
 
 ghost use Rattle.std.specs.Prelude.{◌≡◌};
 ghost use Rattle.std.specs.Result.{result_ok};
@@ -6,21 +6,21 @@ ghost use Rattle.std.specs.Result.{result_ok};
 use std::io;
 use std::time::{Clock, Instant};
 
-/// What a clock said, or why it could not be read. Only a clock that is asked makes one.
+/// A reading of a clock, or why it could not be read. Only `Reading::of` makes one.
 #[derive(Drop)]
 pub(crate) struct Reading {
     answer: io::Result<Instant>,
 }
 
 impl Reading {
-    /// What the clock says now.
+    /// Reads the clock.
     pub(crate) fn of(clock: &impl Clock) -> Self {
         Reading {
             answer: Instant::now(clock),
         }
     }
 
-    /// When that was, where the clock could be read.
+    /// The time that was read, if the clock could be read.
     pub(crate) fn instant(&self) -> Option<Instant>
         ensures { result ≡ result_ok self.now.answer }
     {

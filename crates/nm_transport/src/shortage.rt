@@ -14,14 +14,14 @@ const EMFILE: i32 = 24;
 /// No room for buffers.
 const ENOBUFS: i32 = 105;
 
-/// Whether this number of the system says that it has too little for one more connection.
+/// Whether this error number says that the system lacks resources for one more connection.
 fn is_of_shortage(code: i32) -> bool
     ensures { IsTrue result ↔ IsShortage code }
 {
     code == ENOMEM || code == ENFILE || code == EMFILE || code == ENOBUFS
 }
 
-/// Whether the system refused a connection because it has too little for one more, so that no peer
+/// Whether the system refused a connection because it lacks resources for one more, so that no peer
 /// is to blame.
 pub(crate) fn is_shortage(error: &io::Error) -> bool
     ensures { IsTrue result ↔ IsOfShortage error.now }

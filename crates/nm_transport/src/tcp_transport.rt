@@ -29,10 +29,10 @@ use std::time::{Clock, Duration};
 /// The token of the listener. Connections have their keys, and wakers the tokens next below.
 const LISTENER: Token = Token(usize::MAX);
 
-/// A listener, the addresses of the peers to connect to, and a poll. A clause sees where it listens
-/// and those addresses, whether somebody may have called, whether the system has too little for one
+/// A listener, the addresses of the peers to call, and a poll. A clause sees where it listens and
+/// those addresses, whether somebody may have called, whether the system lacks resources for one
 /// more connection, whether the last wait was asked to wait, what it reported, how many waits ran
-/// out, and what was asked.
+/// out, and how often it was called.
 #[derive(Drop)]
 pub struct TcpTransport<R> {
     net: R,
@@ -42,11 +42,11 @@ pub struct TcpTransport<R> {
     peers: Vec<SocketAddr>,
     /// Somebody may have called.
     is_called: bool,
-    /// The system has too little for one more connection, as it said last.
+    /// The system lacked resources for one more connection, when it was asked last.
     is_short: bool,
-    /// The last wait was asked to wait, and not only to look.
+    /// The last wait was asked to wait, not only to look.
     was_to_wait: bool,
-    /// The period that goes on.
+    /// The current period.
     period: Period,
     idle: FailureCount,
     log: AskLog,
@@ -70,14 +70,14 @@ impl<R> Model for TcpTransport<R> {
     } };
 }
 
-/// How long a wait may last: so long as is left of the period, or it only looks.
+/// How long a wait may last: what is left of the period, or 0 if it only looks.
 fn wait_limit(may_wait: bool, left: Duration) -> Duration
     ensures { as_nanos result ≡ (if may_wait then as_nanos left else 0) }
 {
     if may_wait { left } else { Duration::ZERO }
 }
 
-/// What a wait came to, at which a period was over or not, if it could wait.
+/// The answer of a wait, by whether a period was over and whether it could wait.
 fn waited_as(is_over: bool, has_waited: bool) -> Waited
     ensures { result ≡ waited_as is_over has_waited }
 {
@@ -88,15 +88,15 @@ fn waited_as(is_over: bool, has_waited: bool) -> Waited
     }
 }
 
-/// Whether somebody may have called after a wait: that was so before, the listener was reported, or
-/// nobody knows. Whatever was reported, it is asked once a period is over.
+/// Whether somebody may have called after a wait: it was so before, the listener was reported, or a
+/// period is over, after which the listener is asked whatever was reported.
 fn may_be_called(was_called: bool, waited: Waited, has_call: bool) -> bool
     ensures { result ≡ (was_called || has_run_out waited || has_call) }
 {
     was_called || waited.has_run_out() || has_call
 }
 
-/// A connection that the poll reports under this key, as the system answered.
+/// The connection, if the system registered it with the poll under this key.
 fn if_registered(connection: TcpWire, registered: &Registered, key: usize) -> Option<TcpWire>
     requires { registered.now.key ≡ key }
     ensures { result ≡ (if is_ok registered.now.answer then Some connection else None) }
@@ -116,12 +116,12 @@ fn has_call(events: &Events) -> bool
 }
 
 impl<R: Net + Clock> TcpTransport<R> {
-    /// Listens on this listener, and connects to the peers with these addresses. Who has a waker of
-    /// the poll ends a wait by it.
+    /// A transport over this listener, to peers with these addresses. A waker of the poll ends a
+    /// wait.
     ///
     /// # Errors
     ///
-    /// Where memory was refused, or the system does not watch the listener. Nothing is left then.
+    /// If memory was refused, or the system does not watch the listener. Nothing is left then.
     pub fn new(
         net: R,
         alloc: Global,
@@ -174,8 +174,8 @@ impl<R: Net + Clock> TcpTransport<R> {
         wire.unless_from(own)
     }
 
-    /// What the listener answered: a connection that somebody began, or that the system refused one
-    /// or has none.
+    /// Takes the listener's answer: a connection that somebody began, or an error if the system
+    /// refused one or has none.
     fn take_call(&mut self, answer: io::Result<(TcpStream, SocketAddr)>) -> Option<TcpWire>
         ensures call { IfOk answer (λ a. IsSome result × (self.new ≡ record self.old {
           is_short = false;
@@ -200,7 +200,7 @@ impl<R: Net + Clock> TcpTransport<R> {
 
     /// The next connection that somebody began, if there is one.
     fn next_call(&mut self) -> Option<TcpWire>
-        // The system is asked where somebody may have called, until it has no more.
+        // The system is asked if somebody may have called, until it has no more.
         ensures quiet { self.old.is_called ≡ false → (result ≡ None)
             × (self.new ≡ record self.old { asked = after_accept self.old.asked }) }
         ensures asked { self.new.asked ≡ after_accept self.old.asked }
@@ -222,8 +222,8 @@ impl<R: Net + Clock> TcpTransport<R> {
         ensures waits { self.new.was_to_wait ≡ may_wait }
         ensures asked { self.new.asked ≡ after_wait self.old.asked }
 
-        // Somebody may have called where that was so before, where a period was over,
-        // or the listener was reported.
+        // Somebody may have called if that was so before, a period was over, or the listener was
+        // reported.
         ensures called { self.new.is_called ≡ (self.old.is_called || has_run_out result
             || list_any is_listener self.new.reported) }
     {

@@ -1,4 +1,4 @@
-//! A wire over a TCP connection that does not wait.
+//! A wire over a non-blocking TCP connection.
 
 ghost use Rattle.std.specs.Prelude.{◌≡◌, ◌↔◌, IfSome, IsTrue, None, Some, [], is_ok, true};
 ghost use Rattle.std.specs.IoError.{error_kind};
@@ -22,7 +22,7 @@ pub struct Called {
     pub address: SocketAddr,
 }
 
-/// A poll was to report a connection under this key, and the system answered so: only
+/// The system's answer to registering a connection with a poll under this key: only
 /// `TcpWire::register` makes it.
 #[derive(Drop)]
 pub struct Registered {
@@ -39,12 +39,12 @@ impl Registered {
     }
 }
 
-/// A TCP connection. A clause sees the octets that came and went, as the system answered, how often
-/// a read found the end, how often a call failed, and whom it calls, and where.
+/// A TCP connection. A clause sees the octets that were received and sent, by the system's answers,
+/// how often a read found the end, how often a call failed, and which peer it calls, and where.
 #[derive(Drop)]
 pub struct TcpWire {
     stream: TcpStream,
-    /// `None` where somebody else began it.
+    /// `None` if somebody else began it.
     called: Option<Called>,
     got: Octets,
     sent: Octets,
@@ -69,7 +69,7 @@ impl Model for TcpWire {
 }
 
 impl TcpWire {
-    /// Begins a connection to a peer at its address, if the system lets it.
+    /// Begins a connection to a peer at its address, unless the system refuses.
     pub fn call<R: Net>(net: &R, called: Called) -> Option<Self>
         ensures { IfSome result (λ w. w ≡ record {
           wire = record { given = []; taken = []; ends = 0; failures = 0 };
@@ -90,15 +90,15 @@ impl TcpWire {
         TcpWire::over(stream, None)
     }
 
-    /// The address of its own end, if the system says one.
+    /// The address of its own end, if the system knows it.
     pub fn own_address(&self) -> Option<SocketAddr> {
         self.stream.local_addr().ok()
     }
 
     /// The connection, unless it meets itself: its own end has the address to which it was begun.
-    /// Where nobody listens yet at a port from which the system takes the ports of callers, the two
-    /// may be one (RFC 9293, section 3.5: both ends open at once). That is no connection with a
-    /// peer, and it holds the port at which the peer is to listen.
+    /// That happens if nobody listens yet at a port from the system's range for callers (RFC 9293,
+    /// section 3.5: both ends open at once). It is no connection with a peer, and it holds the port
+    /// at which the peer is to listen.
     pub fn unless_from(self, own: Option<SocketAddr>) -> Option<Self>
         ensures kept { IfSome result (λ w. w ≡ self) }
         ensures none { (result ≡ None) ↔ MeetsItself self.called own }
@@ -112,7 +112,7 @@ impl TcpWire {
 
     /// A connection on which nothing has moved. What is written is sent at once: a conservative
     /// simulation is a chain of null messages, and all wait for one that the system holds back
-    /// until the last was acknowledged (RFC 896). A connection that cannot be told so is slower.
+    /// until the last was acknowledged (RFC 896). If that cannot be set, the connection is slower.
     fn over(stream: TcpStream, called: Option<Called>) -> Self
         ensures { result ≡ record {
           wire = record { given = []; taken = []; ends = 0; failures = 0 };
@@ -130,7 +130,7 @@ impl TcpWire {
         }
     }
 
-    /// Has a poll report the connection under this key.
+    /// Makes a poll report the connection under this key.
     pub fn register(&mut self, registry: &Registry, key: usize) -> Registered
         ensures same { self.new ≡ self.old }
         ensures key { result.key ≡ key }
@@ -183,7 +183,7 @@ impl Wire for TcpWire {
     }
 }
 
-/// Whether a connection has the address that was called at its own end, too.
+/// Whether a connection's own end has the address that was called.
 pub fn meets_itself(called: Option<Called>, own: Option<SocketAddr>) -> bool
     ensures { IsTrue result ↔ MeetsItself called own }
 {
@@ -193,7 +193,7 @@ pub fn meets_itself(called: Option<Called>, own: Option<SocketAddr>) -> bool
     }
 }
 
-/// What a connection is reported for: octets came, or can go.
+/// What a connection is reported for: it can be read or written.
 fn both_ways() -> Interest
     ensures { (is_readable result ≡ true) × (is_writable result ≡ true) }
 {

@@ -1,4 +1,4 @@
-//! What a board tells in the end.
+//! The final words of a board.
 
 ghost use Rattle.std.specs.Prelude.{◌≡◌, ◌+◌, ◌<◌, ◌≤◌, ℕ, List, IfSome, length, slice_index};
 ghost use Rattle.std.specs.Prelude.{vec_capacity, vec_len};
@@ -11,7 +11,7 @@ ghost use Rattle.nm_shared.specs.Closing.{FitIf, OwnersSit, SeatsSit, SitIf};
 use super::{ClockBoard, Closers, OwnerSeat, Seat};
 use crate::word::{Word, WordSeat};
 
-/// No seat came back yet to any of these words.
+/// No seat has come back to any of these words.
 fn none_yet(words: &Vec<Word>, closers: Closers) -> Vec<Option<WordSeat>>
     requires { vec_len words.now ≤ 1024 }
     ensures { SitIf words.now.items result.items }
@@ -23,7 +23,7 @@ fn none_yet(words: &Vec<Word>, closers: Closers) -> Vec<Option<WordSeat>>
     places
 }
 
-/// Two seats at one word become one, where there are two.
+/// Two seats at one word become one, if there are two.
 #[tactic(auto, using(crate::proofs::Closings::both_fit))]
 fn both(word: &Word, closer: Option<WordSeat>, place: WordSeat) -> WordSeat
     requires place { id_of place ≡ word_id word.now }
@@ -105,7 +105,7 @@ fn take_seats(words: &Vec<Word>, closers: &mut Vec<Option<WordSeat>>, seats: Vec
     }
 }
 
-/// A word in the end, by the seat that took in the others, if one came back.
+/// The final value of a word, by the seat that took in the others, if one came back.
 fn close_word(word: Word, closer: Option<WordSeat>) -> u64
     requires { IfSome closer (λ p. id_of p ≡ word_id word) }
     ensures { IfSome closer (λ p. Fits result (view_of p)) }
@@ -116,7 +116,7 @@ fn close_word(word: Word, closer: Option<WordSeat>) -> u64
     }
 }
 
-/// The words in the end.
+/// The final words.
 fn close_words(words: Vec<Word>, closers: Vec<Option<WordSeat>>, clocks: Vec<u64>) -> Vec<u64>
     requires sit { SitIf words.items closers.items }
     requires clocks { vec_len clocks ≡ vec_len words }
@@ -136,8 +136,8 @@ fn close_words(words: Vec<Word>, closers: Vec<Option<WordSeat>>, clocks: Vec<u64
 }
 
 impl ClockBoard {
-    /// The words in the end. Each given owner's is the greatest clock to which it was raised, and
-    /// no given seat ever found more than a word. It takes no memory, and waits for nobody.
+    /// The final words. Each given owner's word is the greatest clock to which it was raised, and
+    /// no given seat ever found more than a word. It takes no memory, and never waits.
     pub fn close(self, owners: Vec<OwnerSeat>, seats: Vec<Seat>) -> Vec<u64>
         requires owners { AreOwnersOf self owners.items }
         requires seats { AreSeatsOf self seats.items }

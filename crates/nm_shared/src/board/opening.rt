@@ -59,7 +59,7 @@ fn seat_of(alloc: Global, words: &Vec<Word>, places: &mut Vec<WordSeat>) -> Resu
     Ok(Seat { places: others })
 }
 
-/// All seats that look.
+/// All looking seats.
 fn seats_of(
     alloc: Global,
     words: &Vec<Word>,
@@ -79,7 +79,7 @@ fn seats_of(
     Ok(seats)
 }
 
-/// So many clocks at 0.
+/// `count` clocks at 0.
 fn clocks_of(alloc: Global, count: usize) -> Result<Vec<u64>, AllocError>
     ensures { IfOk result (λ v. vec_len v ≡ count) }
 {
@@ -92,11 +92,11 @@ fn clocks_of(alloc: Global, count: usize) -> Result<Vec<u64>, AllocError>
 
 impl ClockBoard {
     /// A board with a word at 0 for each channel and replica, an owner's seat for each word in
-    /// order, and the seats that look. It alone takes memory, and it alone splits seats.
+    /// order, and the looking seats. Only this takes memory, and only this splits seats.
     ///
     /// # Errors
     ///
-    /// Where memory was refused.
+    /// If memory was refused.
     pub fn new(
         alloc: Global,
         topology: &Topology,
@@ -110,7 +110,7 @@ impl ClockBoard {
         ClockBoard::of_words(alloc, 2 * topology.receivers().len())
     }
 
-    /// A board of so many words at 0, an owner's seat for each in order, and the seats that look.
+    /// A board of so many words at 0, an owner's seat for each in order, and the looking seats.
     fn of_words(
         alloc: Global,
         count: usize,

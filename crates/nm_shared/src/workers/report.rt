@@ -1,4 +1,4 @@
-//! What a pool answers.
+//! The answers of a pool.
 
 ghost use Rattle.std.specs.Prelude.{◌≡◌, ℕ, ◌<◌, ◌≤◌, length, map, slice_index, vec_len, IfOk, All};
 ghost use Rattle.std.specs.Prelude.{◌++◌, IfSome, Ok, Some, slice_get, slice_set};
@@ -46,8 +46,8 @@ fn put_all<C: Counts, J: Jobs>(slots: &mut Vec<Option<Done<C, J>>>, all: Vec<Don
     }
 }
 
-/// The jobs that were done, in their places: those of the threads, and those that came back as they
-/// were queued.
+/// The jobs that were done, in their places: those of the threads, and those that did not fit into
+/// the queue.
 pub(super) fn gathered<C: Counts, J: Jobs>(
     slots: Vec<Option<Done<C, J>>>,
     results: Vec<Result<Vec<Done<C, J>>, AllocError>>,
@@ -82,7 +82,7 @@ fn done_at<C: Counts, J: Jobs, G: Gate, R: Wait>(
     requires limits { J.limits ≡ map (λ j. j.limit) jobs.now }
     ensures place { IfOk result (λ d. d.place ≡ place) }
 
-    // What was done stays as it is.
+    // A job that was done stays as it is.
     ensures kept { IfSome slot (λ d. d.place ≡ place → result ≡ Ok d) }
 {
     match slot {

@@ -1,4 +1,4 @@
-//! The side of a queue at which jobs come in.
+//! The sending end of a queue.
 
 ghost use Rattle.std.specs.Prelude.{◌≡◌, IfSome};
 
@@ -6,7 +6,7 @@ use super::work::{Jobs, Queued};
 use crossbeam_channel::Sender;
 use std::sync::Wait;
 
-/// The side of a queue at which jobs come in. It ends the queue once it is gone.
+/// The sending end of a queue. The queue ends when it is dropped.
 #[derive(Drop)]
 pub(super) struct TrySender<J: Jobs> {
     sender: Sender<Queued<J>>,
@@ -17,7 +17,7 @@ impl<J: Jobs> TrySender<J> {
         TrySender { sender }
     }
 
-    /// Queues a job, and waits for nobody: a job for which there is no room comes back.
+    /// Queues a job, and never waits: if there is no room the job comes back.
     pub(super) fn try_send<R: Wait>(&self, rt: &R, queued: Queued<J>) -> Option<Queued<J>>
         ensures { IfSome result (λ back. back ≡ queued) }
     {

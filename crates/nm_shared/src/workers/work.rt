@@ -30,7 +30,7 @@ impl Jobs for Brand {
     ghost limits = { [] };
 }
 
-/// What the queue carries: the place of a job.
+/// An entry of the queue: the place of a job.
 #[derive(Drop)]
 pub(super) struct Queued<J: Jobs> {
     pub(super) place: usize,
@@ -105,8 +105,8 @@ pub(super) fn run_one<C: Counts, J: Jobs, G: Gate, R: Wait>(
     })
 }
 
-/// Queues each job, and does it where it comes back, since the queue is full. It waits for no other
-/// thread: those that do the jobs may begin only when it has ended. The queue ends with its sender.
+/// Queues each job, or does it if the queue is full. It waits for no other thread: the workers may
+/// begin only when it has ended. The queue ends with its sender.
 pub(super) fn feed<C: Counts, J: Jobs, G: Gate, R: Wait>(
     rt: &R,
     alloc: Global,
