@@ -1,4 +1,4 @@
--- What contracts see of a wire whose octets are counted.
+-- What contracts see of a wire that counts its octets.
 use Rattle.std.specs.Prelude.{ℕ, ◌+◌, Bool, true, false}
 use Rattle.nm_base.specs.Count.{saturated}
 use Rattle.nm_base.specs.declared.wire.Read.{Read}

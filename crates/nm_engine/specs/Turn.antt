@@ -18,7 +18,7 @@ use Rattle.nm_engine.specs.Passes.{ByPass, LinkState, at}
 use Rattle.nm_engine.specs.Reading.{ShowsFault}
 use Rattle.nm_engine.specs.Taking.{BookRefuses, RunsShort, SessionRefuses}
 
--- how many faults of the wire a cause stands for
+-- how many faults of the wire a cause means
 abbrev pub faults_of : Cause → ℕ
 faults_of End = 0
 faults_of Fault = 1

@@ -12,7 +12,7 @@ use std::alloc::Global;
 use std::marker::Model;
 use std::sync::Arc;
 
-/// A replica to which peers connect, and which learns from their first frame who they are.
+/// A replica to which peers connect. Their first frames name them.
 #[derive(Drop)]
 pub struct Acceptor {
     topology: Arc<Topology>,

@@ -36,8 +36,9 @@ module _ {P N : Type 0} (net : Net P N) (i : ℕ) where
   AreDone time (s ∷ l) = (s.0 + net.tx i s.1 ≤ time) × AreDone time l
 
   module _ (stop now : ℕ) where
-    -- The counts of these transmissions: the time that all but the last take, with that of the last
-    -- before `stop`; the latter alone; and the starts of the first and of the last.
+    -- The counts of these transmissions, the last of which started by now: `busy` is the time that
+    -- all but the last take, with what of the last is before `stop`; `last_busy` the latter alone;
+    -- `span` the starts of the first and of the last.
     pub record AreCounted (front : List (ℕ × P)) (last : ℕ × P) (busy last_busy : ℕ)
         (span : Option (ℕ × ℕ)) : Type 0 where
       pub all : busy ≡ all_take front + part_before net i stop last

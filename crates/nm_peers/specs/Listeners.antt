@@ -19,7 +19,8 @@ listener_words a =
 abbrev pub listener_line : Listener → List ℕ
 listener_line a = listener_words a ++ codes "\n"
 
--- The numbers of a listener are in range. Four octets are below 256, and a port is below 2 ^ 16.
+-- The numbers of a listener are in range: its partition and replica are the network's, each of its
+-- four octets is below 256, and its port is below 2 ^ 16.
 pub record Fits (partitions : ℕ) (a : Listener) : Type 0 where
   pub partition : a.partition < partitions
   pub replica : a.replica ≤ 1

@@ -41,13 +41,13 @@ abbrev pub rest_after : (before : ℕ) → (ran_out : Bool) → ℕ
 rest_after before ran_out = if ran_out then before - 1 else before
 
 -- How often a link has ended after one of its connections broke. `has_greeted`: the peer sent
--- Hello. `was_there`: somebody was at the other end; the connection took octets or was ended from
--- there, and may have been cut before the peer's Hello came.
+-- Hello. `was_there`: somebody was at the other end, since the connection took octets or was ended
+-- from there; it may have been cut before the peer's Hello came.
 abbrev pub after_break : Ends → (has_greeted was_there : Bool) → Ends
 after_break ends has_greeted was_there =
     if has_greeted || was_there then ends else after_nobody ends
 
--- a caller whose link has not ended
+-- a caller with a link that has not ended
 abbrev pub new_caller : ReplicaName → Caller
 new_caller name = record { name = name; ends = Open }
 

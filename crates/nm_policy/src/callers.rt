@@ -24,7 +24,7 @@ pub struct Callers {
 }
 
 impl Caller {
-    /// One whose link has not ended.
+    /// A caller with a link that has not ended.
     fn new(name: &ReplicaName) -> Caller
         ensures { result ≡ new_caller name.now }
     {

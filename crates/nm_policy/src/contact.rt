@@ -11,7 +11,8 @@ use crate::limits::{GREETING_PERIODS, HELLO_PERIODS, SILENCE_PERIODS};
 use crate::names::{are_same, copy_of};
 use nm_frames::ReplicaName;
 
-/// A connection: who began it, who is at its other end, and for how long that was not known.
+/// A connection: who began it, who is at its other end, and for how long it has existed and been
+/// silent.
 #[derive(Clone, Copy, Drop)]
 pub struct Contact {
     /// The peer to which it was begun. `None` if somebody else began it.

@@ -131,7 +131,7 @@ impl Contacts {
         })
     }
 
-    /// An event came. A connection has a key below `key_count`.
+    /// Takes in an event. A connection has a key below `key_count`.
     pub fn take(&mut self, event: ContactEvent)
         ensures { self.new ≡ after self.old event }
     {

@@ -50,7 +50,7 @@ fn is_guest(slot: &Option<Contact>) -> bool
     }
 }
 
-/// How many connections are of such callers.
+/// How many connections are of callers that sent Hello and have begun no other since.
 fn count_guests(connections: &[Option<Contact>]) -> usize
     ensures { result ≡ count_by (is_slot is_guest) connections.now }
 {
@@ -98,7 +98,7 @@ fn first_up_to(connections: &[Option<Contact>], key: usize, first: Option<usize>
     }
 }
 
-/// The key of the stranger that came first, if there is one.
+/// The key of the oldest stranger, if there is one.
 fn first_of(connections: &[Option<Contact>]) -> Option<usize>
     ensures { IsFirstStranger connections.now result }
 {
@@ -223,7 +223,7 @@ impl Contacts {
         self.contact(key)?.peer
     }
 
-    /// The stranger that came first, if there is one.
+    /// The oldest stranger, if there is one.
     pub fn first_stranger(&self) -> Option<usize>
         ensures { IsFirstStranger self.now.connections result }
     {

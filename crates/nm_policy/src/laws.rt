@@ -23,7 +23,7 @@ pub fn limits_are_these()
         × (limits.LINGER_PERIODS ≡ 40) × (limits.QUIET_POLLS ≡ 4) }
 {}
 
-/// Nobody is called who is connected.
+/// No peer is called while it is connected.
 pub fn nobody_is_called_twice()
     ensures { (peers : ℕ) (callers : List ReplicaName) (events : List ContactEvent)
         → MayAllCome (at_first peers callers) events → (key peer : ℕ)

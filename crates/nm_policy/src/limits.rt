@@ -1,8 +1,8 @@
 //! The timeouts and limits of a replica, each stated once. Periods are those of a transport
 //! (`nm_transport::limits`).
 
-/// After so many periods a connection is begun again that broke within a period after the peer's
-/// Hello.
+/// After so many periods a connection is begun again that broke before a period was over since the
+/// peer's Hello.
 pub const REST_PERIODS: u32 = 1;
 
 /// After so many periods, a second, a peer is called again although its link's end is sure: it may
@@ -10,7 +10,7 @@ pub const REST_PERIODS: u32 = 1;
 pub const RECALL_PERIODS: u32 = 20;
 
 /// After so many periods, five seconds, a connection without a Hello is closed: a stranger's, or a
-/// call that nobody answers, as if it is held or dropped on its way.
+/// call that nobody answers because it is held or dropped on its way.
 pub const HELLO_PERIODS: u64 = 100;
 
 /// For so many periods, a second, after its Hello the octets of a connection do not count: each

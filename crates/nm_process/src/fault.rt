@@ -13,7 +13,8 @@ use thiserror::Error;
 /// Why the replica of a process is not done.
 #[derive(Clone, Copy, Debug, PartialEq, Eq, Error)]
 pub enum ProcessCause {
-    /// It cannot listen at its address, or a peer broke the rules.
+    /// It cannot listen at its address, a peer broke the rules, or the system refuses connections
+    /// or waits.
     #[error("the network failed")]
     Net,
     /// Nothing moved for a minute, and events are left to do: a peer is missing, or stopped.

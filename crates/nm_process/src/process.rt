@@ -269,9 +269,10 @@ fn run_named<M: Naming + Send + Sync, E: Ledger + Send + Sync, R: Net + Wait + C
 ///
 /// # Errors
 ///
-/// If the replica is not done: `Net` if it cannot listen at its address, or a peer broke the rules
-/// or sent what cannot be; `Stalled` if nothing moved for so long; `Memory` if memory was refused.
-/// The book is dropped then. `Stalled` is never answered for a replica that was done.
+/// If the replica is not done: `Net` if it cannot listen at its address, a peer broke the rules or
+/// sent what cannot be, or the system refuses connections or waits; `Stalled` if nothing moved for
+/// so long; `Memory` if memory was refused. The book is dropped then. `Stalled` is never answered
+/// for a replica that was done.
 pub fn run_process<R: Net + Wait + Clock + Drop + Copy>(
     rt: &R,
     alloc: Global,

@@ -36,7 +36,7 @@ was_there why connection = has_written connection || is_end why
 
 -- What is counted of a connection as its turns end: the octets that moved since they were counted
 -- last, and whether some were received. Before the peer's Hello none is reported to the gate, and
--- none is activity. After it those are reported, and are never activity. All that moved is noted.
+-- none is activity. After it they are reported, but are never activity. All that moved is noted.
 pub record CountsMoves {W : Type 0} (counts : Bool) (old new : Connection W) (m : Moves) : Type 0 where
   pub moved : m.moved
       ≡ (if has_greeted new.link.session then moved_on new.link.wire - old.told else 0)

@@ -27,7 +27,7 @@ TakesOut b before c after =
 abbrev pub AreAllOut : (room : ℕ) → BookValue → List (Record (List ℕ)) → Type 0
 AreAllOut room c after = IsEmptied c ⊎ (room ≤ length after) ⊎ (MAX_HANDED ≤ length after)
 
--- and a trace file can say the times of its records
+-- the same, and a trace file can hold the times of the records
 pub record HandsOut (b : BookValue) (before : List (Record (List ℕ))) (room : ℕ) (c : BookValue)
     (after : List (Record (List ℕ))) : Type 0 where
   pub takes : TakesOut b before c after

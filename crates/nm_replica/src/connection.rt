@@ -43,8 +43,8 @@ impl<W> Connection<W> {
     }
 
     /// How many octets moved since they were counted last. Before the peer's Hello they may be a
-    /// stranger's: none is reported, and none is activity. After the Hello those are reported, and
-    /// are never activity, as are octets that move while `counts` is false.
+    /// stranger's: none is reported, and none is activity. After the Hello they are reported, but
+    /// are never activity, nor are octets that move while `counts` is false.
     pub(crate) fn count_moved(&mut self, counts: bool) -> MovedCounts
         ensures all { result.all ≡ (if has_greeted self.old.link.session
             then moved_on self.old.link.wire - self.old.told else 0) }

@@ -210,8 +210,8 @@ pub fn poll_replica<C: Counts, S: Sink, T: Transport, R: Wait>(
 /// `holdings`. Meanwhile the trace files take the records that the book hands out, each those at
 /// its interface.
 ///
-/// The end that began a connection begins it again if it breaks. A wrong octet or Hello closes a
-/// connection without a Hello; after the Hello it ends the replica. Before a poll ends, the board
+/// The end that began a connection begins it again if it breaks. A wrong octet or Hello of a
+/// stranger closes its connection; on any other it ends the replica. Before a poll ends, the board
 /// has the promise of each outgoing channel. Before each poll the gate is called, with how many
 /// octets have moved with peers, whether they count as activity or not.
 ///

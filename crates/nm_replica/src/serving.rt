@@ -270,7 +270,7 @@ fn failed_waits(before: u32, waited: Waited) -> Result<u32, Served>
     }
 }
 
-/// Waits, or only looks if more is left to do. Answers what the wait answered.
+/// Waits, or only looks if more is left to do. Returns the answer of the wait.
 fn wait_once<T: Transport, C: Counts>(
     service: &Service<'_, C>,
     transport: &mut T,

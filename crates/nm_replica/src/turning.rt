@@ -97,7 +97,7 @@ fn turn_of<W: Wire, C: Counts, R: Wait>(
     }
 }
 
-/// Gives a link its turns. Answers the answer of the last one.
+/// Gives a link its turns. Returns the answer of the last one.
 #[tactic(auto, using(crate::proofs::Turns::has_had_all))]
 fn turns_of<W: Wire, C: Counts, R: Wait>(
     rt: &R,

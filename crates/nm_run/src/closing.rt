@@ -173,7 +173,7 @@ fn close_books(
     Ok(closed)
 }
 
-/// The books and the trace files of a run that is over, whose dispatcher had these passes.
+/// The books and the trace files of a run that is over; its dispatcher had these passes.
 pub(crate) fn close_run<S: Sink + Drop>(
     alloc: Global,
     plan: &RunPlan<'_>,

@@ -93,7 +93,7 @@ fn note<'a, G>(
     })
 }
 
-/// Notes the answers of jobs. Answers how many events they did.
+/// Notes the answers of jobs. Returns how many events they did.
 fn note_all<G>(
     threaded: &Threaded<'_, G>,
     dispatcher: &mut Dispatcher<'_>,

@@ -94,7 +94,7 @@ impl<C: Counts> SharedBook<C> {
     ///
     /// # Errors
     ///
-    /// Where 2^32 passes were made already. No event was done then.
+    /// If 2^32 passes were made already. No event was done then.
     pub fn run_anew<R: Wait>(
         &self,
         rt: &R,

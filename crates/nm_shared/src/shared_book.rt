@@ -256,7 +256,7 @@ impl<C: Counts> SharedBook<C> {
     ///
     /// # Errors
     ///
-    /// Where 2^32 passes were made already.
+    /// If 2^32 passes were made already.
     pub fn pass<R: Wait>(&self, rt: &R) -> Result<Pass<C>, AllocError>
         ensures fresh { IfOk result
             (λ p. (C.messages_of p.share ≡ 0) × (C.events_of p.share ≡ 0)) }
