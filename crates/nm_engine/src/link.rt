@@ -181,7 +181,7 @@ impl<W> Link<CountingWire<W>> {
 impl<W: Wire> Link<W> {
     /// The first half of a turn: reads at most 65,536 octets once and takes the frames that are
     /// whole. Nothing is given or written, so that the book may first run with them, and more be
-    /// owed.
+    /// owed. `turn` begins alike: with one function and a flag both contracts would be cases.
     pub fn hear<C: Counts, R: Wait>(
         &mut self,
         rt: &R,

@@ -391,7 +391,8 @@ impl<W> Connections<W> {
         }
     }
 
-    /// Whether the peer sends no more on the connection with this key, or has begun another.
+    /// Whether the peer sends no more on the connection with this key, or has begun another. Such a
+    /// connection is closed after its next turn, and not at once: a Bye on it may not be read yet.
     fn is_abandoned(&self, key: usize) -> bool
         ensures { result ≡ is_abandoned (contact_at self.now.contacts.connections key)
             (get self.now.open key) }

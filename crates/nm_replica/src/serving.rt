@@ -192,7 +192,7 @@ fn serve_all<T: Transport, C: Counts, R: Wait>(
 }
 
 /// Notes which connections are to be read: those that the wait reported, or all if a period was
-/// over.
+/// over, so that a report that the system did not make costs a period at most.
 fn note_reports<T: Transport>(
     transport: &T,
     connections: &mut Connections<T::Connection>,

@@ -41,7 +41,8 @@ pub struct Seat {
     places: Vec<WordSeat>,
 }
 
-// Room for a seat at each word; `close` fills it.
+// Room for a seat at each word; `close` fills it. It lies behind a lock that is never taken, so
+// that the board can be shared and `close` needs no memory.
 #[derive(Drop)]
 struct Closers {
     places: Vec<Option<WordSeat>>,

@@ -19,7 +19,8 @@ use nm_knowledge::Accepted;
 use std::alloc::{AllocError, Global};
 use std::sync::Wait;
 
-/// The answer of this replica's book to a merge: only `SharedBook::merge` makes it.
+/// The answer of this replica's book to a merge: only `SharedBook::merge` makes it. A contract
+/// cannot say that a call was made which may change nothing; a value that no other call makes can.
 #[derive(Drop)]
 pub struct MergeAnswer {
     /// The replica's partition, and 0 or 1.
