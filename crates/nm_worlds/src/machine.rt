@@ -116,6 +116,7 @@ impl<'x> Machine<'x> {
 
     /// The pass of its book.
     pub(crate) fn into_pass(self) -> Pass<Plain> {
-        self.holdings.pass
+        let Machine { holdings, .. } = self;
+        holdings.pass
     }
 }
