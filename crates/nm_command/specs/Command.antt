@@ -252,5 +252,5 @@ files_or (word ∷ topology ∷ folder ∷ ifaces) other =
     else (if bytes_eq word (codes "verify") then Some (Verify topology folder ifaces) else other)
 files_or words other = other
 
-abbrev pub command_of : List (List ℕ) → Option CommandValue
+unfoldable pub command_of : List (List ℕ) → Option CommandValue
 command_of words = files_or words (certify_or words (of_number words))

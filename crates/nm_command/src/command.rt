@@ -434,6 +434,7 @@ impl<'a> Command<'a> {
     /// WORKERS REPLICAS` or `node TOPO DIR PARTITION REPLICA ADDRESSES` with or without `keep`
     /// behind it, or `certify TOPO WORKERS` with one folder or more behind it. No words are `onehex
     /// -`. `None` if the words are no command: of two words the second may ask for help.
+    #[tactic(auto, unfolding(crate::specs::Command::command_of))]
     pub fn of(words: &'a [String]) -> Option<Command<'a>>
         ensures value { option_map command_value result
             ≡ command_of (map (λ w. string_bytes w) words.now) }

@@ -17,6 +17,7 @@ ghost use Rattle.nm_command.specs.declared.view.View.TheVariants as view;
 ghost use Rattle.nm_command.specs.declared.ways.Ways.TheVariants.{Both, Sent, Received};
 
 /// What the words of the program ask for, those with no number. No words are `onehex -`.
+#[tactic(auto, unfolding(crate::specs::Command::command_of))]
 pub fn words_of_the_program()
     ensures none { command_of [] ≡ Some (Trace Hexadecimal Both (codes "-") None) }
     ensures one { (t : List ℕ) → asks_help t ≡ false
@@ -57,6 +58,7 @@ pub fn words_of_the_program()
 {}
 
 /// The words with numbers, and from which number to which they may be.
+#[tactic(auto, unfolding(crate::specs::Command::command_of))]
 pub fn numbers_of_words()
     ensures rounds { (t n : List ℕ) → command_of (codes "rounds" ∷ t ∷ n ∷ [])
         ≡ option_map (λ n. Rounds t n) (asked_number 1 (10 ^ 9) n) }

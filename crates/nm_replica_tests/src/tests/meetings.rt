@@ -1,31 +1,42 @@
 //! Connections that meet themselves.
 
-use nm_transport::tcp_wire::meets_itself;
+use nm_transport::tcp_wire::{Called, meets_itself};
 use std::net::{Ipv4Addr, SocketAddr};
 use std::test::Fail;
 
 /// The two ends of a connection, each a host of 127.0.0.0/24 and a port, and whether it meets
-/// itself.
+/// itself. A connection that another replica began was called from nowhere here, and the system may
+/// not tell its own end.
 struct Ends {
-    own: (u8, u16),
-    peer: (u8, u16),
+    own: Option<(u8, u16)>,
+    called: Option<(u8, u16)>,
     meets: bool,
 }
 
 const ENDS: &[Ends] = &[
     Ends {
-        own: (1, 40_000),
-        peer: (1, 40_000),
+        own: Some((1, 40_000)),
+        called: Some((1, 40_000)),
         meets: true,
     },
     Ends {
-        own: (1, 40_000),
-        peer: (1, 40_001),
+        own: Some((1, 40_000)),
+        called: Some((1, 40_001)),
         meets: false,
     },
     Ends {
-        own: (1, 40_000),
-        peer: (2, 40_000),
+        own: Some((1, 40_000)),
+        called: Some((2, 40_000)),
+        meets: false,
+    },
+    Ends {
+        own: Some((1, 40_000)),
+        called: None,
+        meets: false,
+    },
+    Ends {
+        own: None,
+        called: Some((1, 40_000)),
         meets: false,
     },
 ];
@@ -36,11 +47,19 @@ fn address(end: (u8, u16)) -> SocketAddr {
     SocketAddr::from((Ipv4Addr::new(127, 0, 0, host), port))
 }
 
+/// The call of an end.
+fn call(end: (u8, u16)) -> Called {
+    Called {
+        peer: 0,
+        address: address(end),
+    }
+}
+
 /// A connection meets itself if both ends are one address and one port.
 #[test]
 fn one_address_and_port_meet_themselves(rt: HostRuntime) -> Result<(), Fail> {
     for ends in ENDS {
-        assert!(rt; meets_itself(address(ends.own), address(ends.peer)) == ends.meets);
+        assert!(rt; meets_itself(ends.called.map(call), ends.own.map(address)) == ends.meets);
     }
     Ok(())
 }
