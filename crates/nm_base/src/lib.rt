@@ -18,6 +18,7 @@ pub mod sink;
 pub mod std_sink;
 pub mod text;
 pub mod time;
+pub mod units;
 pub mod wanted;
 pub mod wire;
 
@@ -35,5 +36,6 @@ pub use sink::{Sink, SinkFault};
 pub use std_sink::StdSink;
 pub use text::{number_of, push_number, push_text, split_once};
 pub use time::Time;
+pub use units::{push_rate, push_time};
 pub use wanted::Wanted;
 pub use wire::Wire;

@@ -1,8 +1,9 @@
 -- The first frame of a peer that connected names that peer and makes the session.
-use Rattle.std.specs.Prelude.{ℕ, ◌<◌, nat_lt, ◌&&◌, length, Option, Some, None, Result, Ok, Err, if◌then◌else◌}
+use Rattle.std.specs.Prelude.{ℕ, ◌<◌, nat_eq, nat_lt, ◌&&◌, length, pointwise, Option, Some, None, Result, Ok, Err, if◌then◌else◌}
 use Rattle.nm_topology.specs.TopologyValue.{TopologyValue}
 use Rattle.nm_frames.specs.declared.frame.Frame.{Frame}
 use Rattle.nm_frames.specs.declared.frame.Frame.TheVariants.{Hello, Have, Data, Null, Bye}
+use Rattle.nm_frames.specs.declared.replica_name.ReplicaName.{ReplicaName}
 use Rattle.nm_frames.specs.declared.session_fault.SessionFault.{SessionFault}
 use Rattle.nm_frames.specs.declared.session_fault.SessionFault.TheVariants.{Order, Peer}
 use Rattle.nm_frames.specs.Channels.{channels_between}
@@ -30,6 +31,16 @@ first_taken h (Have count) = Err Order
 first_taken h (Data message) = Err Order
 first_taken h (Null promise) = Err Order
 first_taken h Bye = Err Order
+
+-- the sender of a first frame that is a Hello of another topology
+abbrev pub differing_of : AcceptorValue → Frame → Option ReplicaName
+differing_of h (Hello hello) =
+    if pointwise nat_eq hello.digest h.topology.digest then None
+    else Some (record { partition = hello.partition; replica = hello.replica })
+differing_of h (Have count) = None
+differing_of h (Data message) = None
+differing_of h (Null promise) = None
+differing_of h Bye = None
 
 -- a first frame for which a session is made: a Hello of a partition below
 abbrev pub IsFromBelow : AcceptorValue → Frame → Type 0

@@ -2,11 +2,12 @@
 
 ghost use Rattle.std.specs.Prelude.{◌≡◌};
 ghost use Rattle.std.specs.Arc.{arc_value};
+ghost use Rattle.nm_engine.specs.Acceptor.{differing_of};
 ghost use Rattle.nm_engine.specs.Taking.{Greets};
 
 use crate::answer::Cause;
 use nm_base::PartNo;
-use nm_frames::{Frame, Session};
+use nm_frames::{Frame, ReplicaName, Session};
 use nm_topology::Topology;
 use std::alloc::Global;
 use std::marker::Model;
@@ -46,6 +47,19 @@ impl Acceptor {
             topology,
             me,
             replica,
+        }
+    }
+
+    /// Who sent this first frame, if it is a Hello of another topology.
+    pub(crate) fn differing(&self, frame: &Frame) -> Option<ReplicaName>
+        ensures { result ≡ differing_of self.now frame.now }
+    {
+        match frame {
+            Frame::Hello(hello) if hello.digest != self.topology.digest() => Some(ReplicaName {
+                partition: hello.partition,
+                replica: hello.replica,
+            }),
+            _ => None,
         }
     }
 

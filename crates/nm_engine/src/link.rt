@@ -84,6 +84,7 @@ impl<W> Link<W> {
         let party = Party {
             acceptor: None,
             session: Some(session),
+            differing: None,
         };
         begun(alloc, wire, party)
     }
@@ -102,6 +103,7 @@ impl<W> Link<W> {
         let party = Party {
             acceptor: Some(acceptor),
             session: None,
+            differing: None,
         };
         begun(alloc, wire, party)
     }
@@ -131,6 +133,12 @@ impl<W> Link<W> {
         ensures { self.new ≡ self.old }
     {
         self.parts.out.take_given()
+    }
+
+    /// Who sent a Hello of another topology as the first frame, if somebody did. The link broke
+    /// then.
+    pub fn differing(&self) -> Option<ReplicaName> {
+        self.parts.party.differing
     }
 
     /// Whether the peer's Hello was taken.

@@ -2,7 +2,7 @@
 
 use crate::acceptor::Acceptor;
 use crate::out::OutBuffer;
-use nm_frames::{Reader, Session};
+use nm_frames::{Reader, ReplicaName, Session};
 
 /// This end of a link: a session, or before it, if the peer connected, the acceptor that awaits
 /// one.
@@ -10,6 +10,8 @@ use nm_frames::{Reader, Session};
 pub(crate) struct Party {
     pub(crate) acceptor: Option<Acceptor>,
     pub(crate) session: Option<Session>,
+    /// Who sent a first frame that is a Hello of another topology, if somebody did.
+    pub(crate) differing: Option<ReplicaName>,
 }
 
 /// What a turn works on.

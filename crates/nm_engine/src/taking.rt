@@ -74,6 +74,7 @@ fn take_one<C: Counts, R: Wait>(
     let Some(acceptor) = &party.acceptor else {
         return Err(Cause::Session);
     };
+    party.differing = acceptor.differing(&frame);
     party.session = Some(acceptor.greet(alloc, frame)?);
     Ok(())
 }

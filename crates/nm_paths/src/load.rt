@@ -2,7 +2,7 @@
 
 use crate::demand::{end_of, rate_of};
 use crate::ways::Way;
-use nm_base::{Remarks, Time};
+use nm_base::{Remarks, Time, push_rate, push_text, push_time};
 use nm_topology::Topology;
 use nm_topology::traffic::Flow;
 use std::alloc::{AllocError, Global};
@@ -172,12 +172,16 @@ fn push_peak(
     if rate <= capacity {
         return Ok(());
     }
-    let number = sweep.iface;
-    let name = iface.name();
-    let until = until.unwrap_or(topology.stop().nanoseconds());
-    let asked = format!(in alloc; "sources ask for {rate} bit/s from {from} to {until} ns")?;
-    let remark = format!(in alloc;
-        "iface {number} (\"{name}\"): {asked}, its link has {capacity}"
-    )?;
-    remarks.add(remark.as_bytes())
+    let (number, name) = (sweep.iface, iface.name());
+    let mut remark = Vec::new(alloc);
+    let begin = format!(in alloc; "iface {number} (\"{name}\"): sources ask for ")?;
+    push_text(&mut remark, begin.as_bytes())?;
+    push_rate(&mut remark, rate)?;
+    push_text(&mut remark, b" from ")?;
+    push_time(&mut remark, from)?;
+    push_text(&mut remark, b" to ")?;
+    push_time(&mut remark, until.unwrap_or(topology.stop().nanoseconds()))?;
+    push_text(&mut remark, b", its link has ")?;
+    push_rate(&mut remark, capacity)?;
+    remarks.add(remark.as_slice())
 }

@@ -107,7 +107,7 @@ fn see_drop(
     let number = handed.number;
     let name = topology.node_name(node);
     let what = format!(in alloc; "packet {number}: \"{name}\" drops it: {reason}")?;
-    remark(alloc, topology, handed.sender, what.as_str(), remarks)
+    remark(alloc, topology, handed.sender, what.as_bytes(), remarks)
 }
 
 /// Remarks on what becomes of a packet that arrived at the node of its destination.
@@ -126,7 +126,7 @@ fn see_payload(
             let what = format!(in alloc;
                 "packet {number}: UDP port {port} of \"{name}\" is not open"
             )?;
-            remark(alloc, topology, handed.sender, what.as_str(), remarks)
+            remark(alloc, topology, handed.sender, what.as_bytes(), remarks)
         }
         Payload::BadDatagram(fault) => {
             let reason = format!(in alloc; "UDP: {fault}")?;

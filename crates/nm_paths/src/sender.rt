@@ -3,7 +3,7 @@
 use crate::ending::{Aim, ending_text};
 use crate::turn::WalkEnd;
 use crate::ways::Way;
-use nm_base::{NodeNo, Remarks, Time};
+use nm_base::{NodeNo, Remarks, Time, push_number, push_text, push_time};
 use nm_topology::Topology;
 use std::alloc::{AllocError, Global};
 
@@ -37,12 +37,34 @@ pub fn remark(
     alloc: Global,
     topology: &Topology,
     sender: &Sender,
-    what: &str,
+    what: &[u8],
     remarks: &mut Remarks,
 ) -> Result<(), AllocError> {
-    let source = sender_text(alloc, topology, sender)?;
-    let remark = format!(in alloc; "{source}: {what}")?;
-    remarks.add(remark.as_bytes())
+    let mut remark = Vec::new(alloc);
+    push_text(
+        &mut remark,
+        sender_text(alloc, topology, sender)?.as_bytes(),
+    )?;
+    push_text(&mut remark, b": ")?;
+    push_text(&mut remark, what)?;
+    remarks.add(remark.as_slice())
+}
+
+/// What is to be said of a source of whose packets not all come before the end.
+fn times_text(alloc: Global, sending: &Sending, stop: Time) -> Result<Vec<u8>, AllocError> {
+    let mut text = Vec::new(alloc);
+    if sending.sent == 0 {
+        push_text(&mut text, b"it begins at ")?;
+        push_time(&mut text, sending.start.nanoseconds())?;
+        push_text(&mut text, b", and the simulation ends at ")?;
+    } else {
+        push_number(&mut text, sending.sent)?;
+        push_text(&mut text, b" of its ")?;
+        push_number(&mut text, sending.count)?;
+        push_text(&mut text, b" packets come before the end, ")?;
+    }
+    push_time(&mut text, stop.nanoseconds())?;
+    Ok(text)
 }
 
 /// Remarks on when a source sends.
@@ -53,18 +75,11 @@ pub fn see_times(
     sending: &Sending,
     remarks: &mut Remarks,
 ) -> Result<(), AllocError> {
-    let (sent, count) = (sending.sent, sending.count);
-    if sent >= count {
+    if sending.sent >= sending.count {
         return Ok(());
     }
-    let start = sending.start.nanoseconds();
-    let stop = topology.stop().nanoseconds();
-    let what = if sent == 0 {
-        format!(in alloc; "it begins at {start} ns, and the simulation ends at {stop} ns")?
-    } else {
-        format!(in alloc; "{sent} of its {count} packets come before the end, {stop} ns")?
-    };
-    remark(alloc, topology, sender, what.as_str(), remarks)
+    let what = times_text(alloc, sending, topology.stop())?;
+    remark(alloc, topology, sender, what.as_slice(), remarks)
 }
 
 /// A way to a packet's destination.
@@ -91,5 +106,5 @@ pub fn see_end(
     let to = aim.to;
     let ending = ending_text(alloc, topology, aim, way)?;
     let what = format!(in alloc; "{which} to {to}: {ending}")?;
-    remark(alloc, topology, sender, what.as_str(), remarks)
+    remark(alloc, topology, sender, what.as_bytes(), remarks)
 }

@@ -15,7 +15,7 @@ use crate::sender::{Sender, Sending, Walked, remark, see_end, see_times};
 use crate::tables::Tables;
 use crate::turn::WalkEnd;
 use crate::ways::{Way, walk};
-use nm_base::{IfaceNo, NodeNo, Remarks, Time};
+use nm_base::{IfaceNo, NodeNo, Remarks, Time, push_text, push_time};
 use nm_packet::Address;
 use nm_topology::Topology;
 use nm_topology::traffic::{Flow, Traffic};
@@ -65,12 +65,12 @@ fn see_arrived(
     let (sender, to) = (&asking.sender, asking.demand.to);
     if way.hops.is_empty() {
         let what = format!(in alloc; "{to} is an address of its own node, and nothing is sent")?;
-        return remark(alloc, topology, sender, what.as_str(), remarks);
+        return remark(alloc, topology, sender, what.as_bytes(), remarks);
     }
     match asking.demand.port {
         Some(port) if !listens(topology, node, port) => {
             let what = format!(in alloc; "UDP port {port} of \"{name}\" is not open")?;
-            remark(alloc, topology, sender, what.as_str(), remarks)
+            remark(alloc, topology, sender, what.as_bytes(), remarks)
         }
         _ => Ok(()),
     }
@@ -242,11 +242,14 @@ fn see_windows(
     if windows <= events {
         return Ok(());
     }
-    let what = format!(in alloc; "makes {windows} windows for some {events} events")?;
-    let remark = format!(in alloc;
-        "the least lookahead, {lookahead} ns, {what}: fewer partitions may be faster"
+    let mut remark = Vec::new(alloc);
+    push_text(&mut remark, b"the least lookahead, ")?;
+    push_time(&mut remark, lookahead)?;
+    let what = format!(in alloc;
+        ", makes {windows} windows for some {events} events: fewer partitions may be faster"
     )?;
-    remarks.add(remark.as_bytes())
+    push_text(&mut remark, what.as_bytes())?;
+    remarks.add(remark.as_slice())
 }
 
 /// What is known of a network's traffic before it is simulated: at most 20 remarks, a line each,

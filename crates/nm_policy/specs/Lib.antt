@@ -1,3 +1,4 @@
+pub mod Awaited
 pub mod Contact
 pub mod Contacts
 pub mod Decisions

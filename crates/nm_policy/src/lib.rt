@@ -3,6 +3,7 @@
 //! here.
 #![tactic(auto)]
 
+mod awaited;
 pub mod callers;
 pub mod contact;
 pub mod contact_event;

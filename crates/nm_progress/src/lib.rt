@@ -3,10 +3,12 @@
 
 pub mod figures;
 pub mod line;
+pub mod peers;
 pub mod progress;
 pub mod table;
 
 pub use figures::{Figure, Figures, ReplicaFigures};
 pub use line::push_line;
+pub use peers::PeerName;
 pub use progress::{Progress, Seen};
 pub use table::{push_state, push_table};

@@ -1,6 +1,7 @@
 //! How far a run is.
 
 use crate::figures::Figures;
+use crate::peers::{PeerName, SharedPeer};
 use nm_base::{PartNo, Time};
 use std::alloc::{AllocError, Global};
 use std::sync::atomic::{AtomicU64, Ordering};
@@ -24,6 +25,11 @@ pub struct Progress {
     records: AtomicU64,
     /// The number of the partition that is furthest behind.
     last: AtomicU64,
+    /// For whom a node waits, whose Hello was of another topology, and who ended a connection
+    /// before its own Hello.
+    awaited: SharedPeer,
+    differing: SharedPeer,
+    closing: SharedPeer,
     /// What each replica does, if that is asked for.
     figures: Option<Figures>,
 }
@@ -63,6 +69,9 @@ impl Progress {
             time: AtomicU64::new(0),
             records: AtomicU64::new(0),
             last: AtomicU64::new(NOBODY),
+            awaited: SharedPeer::new(),
+            differing: SharedPeer::new(),
+            closing: SharedPeer::new(),
             figures,
         }
     }
@@ -95,6 +104,36 @@ impl Progress {
     pub fn note_last(&self, partition: PartNo) {
         self.last
             .store(u64::from(partition.number()), Ordering::SeqCst);
+    }
+
+    /// A node waits for this peer first, or for none.
+    pub fn note_awaited(&self, peer: Option<PeerName>) {
+        self.awaited.note(peer);
+    }
+
+    /// The first peer for which a node waits, when that was last noted.
+    pub fn awaited(&self) -> Option<PeerName> {
+        self.awaited.look()
+    }
+
+    /// This peer of a node sent a Hello of another topology.
+    pub fn note_differing(&self, peer: PeerName) {
+        self.differing.note(Some(peer));
+    }
+
+    /// The last peer of a node that sent a Hello of another topology.
+    pub fn differing(&self) -> Option<PeerName> {
+        self.differing.look()
+    }
+
+    /// This peer of a node ended a connection and had not sent its Hello.
+    pub fn note_closing(&self, peer: PeerName) {
+        self.closing.note(Some(peer));
+    }
+
+    /// The last peer of a node that did.
+    pub fn closing(&self) -> Option<PeerName> {
+        self.closing.look()
     }
 
     /// How far the run is. If it goes on meanwhile, the numbers may be of different moments.

@@ -1,10 +1,12 @@
 //! The figures of a replica, if they are asked for.
 
 use crate::acts::{HeldBack, Standing};
+use crate::connections::Connections;
 use crate::replica::Service;
 use crate::serving::Serving;
-use nm_engine::GivenCounts;
-use nm_progress::{Figure, ReplicaFigures};
+use nm_engine::{Cause, GivenCounts, Turn};
+use nm_policy::Contacts;
+use nm_progress::{Figure, PeerName, Progress, ReplicaFigures};
 use nm_shared::{Counts, Pass};
 use std::sync::Wait;
 
@@ -29,9 +31,67 @@ pub(crate) fn note_loan<C: Counts>(service: &Service<'_, C>, is_lent: bool) {
     }
 }
 
+/// Where the replica of a node notes how far it is, which nobody else does.
+fn node_progress<'a, C: Counts>(service: &Service<'a, C>) -> Option<&'a Progress> {
+    if service.notes_progress {
+        service.progress
+    } else {
+        None
+    }
+}
+
+/// The first peer for which a replica waits, if it waits for one.
+fn awaited_of(contacts: &Contacts) -> Option<PeerName> {
+    if let Some(number) = contacts.first_awaited() {
+        return Some(PeerName::Called(u32::try_from(number).ok()?));
+    }
+    let caller = contacts.first_awaited_caller()?;
+    Some(PeerName::Caller {
+        partition: caller.name.partition,
+        replica: caller.name.replica,
+    })
+}
+
+/// Notes for which peer a node waits. That is looked for once a period.
+pub(crate) fn note_awaited<C: Counts>(
+    service: &Service<'_, C>,
+    contacts: &Contacts,
+    ran_out: bool,
+) {
+    if let (true, Some(progress)) = (ran_out, node_progress(service)) {
+        progress.note_awaited(awaited_of(contacts));
+    }
+}
+
+/// Notes which peer of a node has another topology, or ended the connection with this key before
+/// its Hello, since it may have another one.
+pub(crate) fn note_differing<C: Counts, W>(
+    service: &Service<'_, C>,
+    connections: &Connections<W>,
+    key: usize,
+    turn: Turn,
+) {
+    let (Some(progress), Some(connection)) = (node_progress(service), connections.open.get(key))
+    else {
+        return;
+    };
+    if let (Turn::Broken(Cause::Session), Some(name)) = (turn, connection.link.differing()) {
+        progress.note_differing(PeerName::Caller {
+            partition: name.partition,
+            replica: name.replica,
+        });
+    }
+    let has_ended = connection.link.wire().has_ended() && !connection.link.has_greeted();
+    if let (true, Some(peer)) = (has_ended, connections.contacts.peer_at(key)) {
+        if let Ok(number) = u32::try_from(peer) {
+            progress.note_closing(PeerName::Called(number));
+        }
+    }
+}
+
 /// Notes the progress of its book, if nobody else does.
 pub(crate) fn note_progress<C: Counts>(service: &Service<'_, C>, standing: &Standing) {
-    if let (true, Some(progress)) = (service.notes_progress, service.progress) {
+    if let Some(progress) = node_progress(service) {
         progress.note(standing.safe, standing.records);
     }
 }

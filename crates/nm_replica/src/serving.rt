@@ -24,7 +24,7 @@ ghost use Rattle.nm_transport.specs.Transport.{elapsed_after, has_run_out};
 
 use crate::acts::Standing;
 use crate::connections::Connections;
-use crate::figuring::{note_figures, note_hold, note_wait};
+use crate::figuring::{note_awaited, note_differing, note_figures, note_hold, note_wait};
 use crate::limits::{MAX_FAILED_WAITS, SCARCE_PERIODS, SHORT_PERIODS};
 use crate::own_part::act_alone;
 use crate::recording::write_records;
@@ -181,6 +181,7 @@ fn serve_all<T: Transport, C: Counts, R: Wait>(
             &mut serving.buffer,
             key,
         );
+        note_differing(service, &serving.connections, key, turn);
         serving
             .connections
             .settle(transport, key, turn, moves.has_heard)?;
@@ -575,6 +576,7 @@ pub(crate) fn poll<C: Counts, S: Sink, T: Transport, R: Wait>(
     serving.was_done = standing.is_done;
     serving.is_busy = recorded.has_more || moves.has_more;
     note_figures(service, serving, &standing, was_run, moves.given);
+    note_awaited(service, &serving.connections.contacts, ran_out);
     let is_held = !serving.is_busy && !standing.is_done;
     note_hold(rt, service, &mut holdings.pass, is_held);
     Ok(Polled {

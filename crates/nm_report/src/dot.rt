@@ -3,8 +3,7 @@
 ghost use Rattle.std.specs.Prelude.{IfOk};
 ghost use Rattle.nm_measure.specs.Lines.{EndsLine};
 
-use crate::units::{push_rate, push_time};
-use nm_base::{IfaceNo, push_number, push_text};
+use nm_base::{IfaceNo, push_number, push_rate, push_text, push_time};
 use nm_measure::{Appended, end_line};
 use nm_topology::parts::Link;
 use nm_topology::{NodeKind, Topology};

@@ -3,9 +3,9 @@
 ghost use Rattle.std.specs.Prelude.{◌≡◌, ◌∷◌, []};
 
 use crate::table::{Table, push_left_out};
-use crate::units::{PERCENTILES, push_address, push_time};
+use crate::units::{PERCENTILES, push_address};
 use crate::whole::Whole;
-use nm_base::{SourceNo, push_text};
+use nm_base::{SourceNo, push_text, push_time};
 use nm_measure::{Appended, Delays, FlowCounts, FlowTimes, Measured};
 use nm_topology::Topology;
 use nm_topology::traffic::{Source, Traffic};

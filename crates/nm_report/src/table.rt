@@ -1,7 +1,6 @@
 //! Tables with aligned columns.
 
-use crate::units::{push_rate, push_time};
-use nm_base::{push_number, push_text};
+use nm_base::{push_number, push_rate, push_text, push_time};
 use nm_measure::{Appended, end_line};
 use std::alloc::{AllocError, Global};
 

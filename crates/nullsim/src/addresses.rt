@@ -1,7 +1,7 @@
 //! The list of addresses of `node`, read again for further lines: its first wrong line, and with
 //! whom a replica speaks.
 
-use crate::differing::read_network;
+use crate::rereading::{read_again, read_network};
 use nm_base::{PartNo, number_of};
 use nm_command::NodeArguments;
 use nm_frames::channels::channels_between;
@@ -9,16 +9,8 @@ use nm_peers::peers::own_address;
 use nm_peers::{Listener, peers_of, read_listeners};
 use nm_topology::Topology;
 use std::alloc::{AllocError, Global};
-use std::fs;
-use std::io::{self, Read};
+use std::io;
 use std::net::{Net, TcpListener};
-
-/// The octets of a file.
-fn read_file(rt: &HostRuntime, name: &str) -> io::Result<Vec<u8>> {
-    let mut text = Vec::new(rt.alloc());
-    fs::open(rt, name)?.read_to_end(&mut text)?;
-    Ok(text)
-}
 
 /// The partition and the replica that the first two words of a line name.
 fn replica_of(line: &[u8]) -> Option<(u32, u8)> {
@@ -52,7 +44,7 @@ pub fn address_fault(
     words: &NodeArguments<'_>,
 ) -> io::Result<String> {
     let (alloc, name) = (rt.alloc(), words.addresses);
-    let text = read_file(rt, name)?;
+    let text = read_again(rt, name)?;
     let mut seen: Vec<(PartNo, u8)> = Vec::new(alloc);
     for (number, line) in text.split_inclusive(|octet| *octet == b'\n').enumerate() {
         let place = number.saturating_add(1);
@@ -98,13 +90,17 @@ fn neighbours_among(
 }
 
 /// The topology and the listeners of a node, read again.
-fn read_node(
+///
+/// # Errors
+///
+/// If an input cannot be read again, or memory was refused.
+pub fn read_node(
     rt: &HostRuntime,
     words: &NodeArguments<'_>,
 ) -> io::Result<Option<(Topology, Vec<Listener>)>> {
     let alloc = rt.alloc();
     let topology = read_network(rt, words.topology)?;
-    let text = read_file(rt, words.addresses)?;
+    let text = read_again(rt, words.addresses)?;
     let count = topology.partitions();
     let read = read_listeners(
         alloc,

@@ -1,6 +1,7 @@
 //! What is at the place where a trace file differs, for a terminal: the record of its trace, and
 //! the octets of the file.
 
+use crate::rereading::read_network;
 use nm_base::sink::write_all;
 use nm_base::{IfaceNo, Record, Sink, Wanted};
 use nm_pcap::format::{FILE_HEADER_OCTETS, RECORD_HEADER_OCTETS};
@@ -9,7 +10,7 @@ use nm_sim::Tracer;
 use nm_topology::Topology;
 use std::alloc::{AllocError, Global};
 use std::fs::{self, File};
-use std::io::{self, ErrorKind, Read, Seek, SeekFrom};
+use std::io::{self, Read, Seek, SeekFrom};
 
 /// How many octets of a file are shown at most.
 const SHOWN_OCTETS: u64 = 16;
@@ -72,16 +73,6 @@ fn place_of(
         end = after;
     }
     Ok(Place::Behind)
-}
-
-/// The network of the text of a file.
-pub fn read_network(rt: &HostRuntime, name: &str) -> io::Result<Topology> {
-    let mut text = Vec::new(rt.alloc());
-    fs::open(rt, name)?.read_to_end(&mut text)?;
-    match Topology::read(rt.alloc(), text.as_slice()) {
-        Ok(network) => Ok(network),
-        Err(_) => Err(io::Error::from(ErrorKind::InvalidData)),
-    }
 }
 
 /// The octets of a file from this one on, in hexadecimal, sixteen at most.

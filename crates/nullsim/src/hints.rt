@@ -7,6 +7,7 @@ use nm_base::Sink;
 use nm_base::sink::write_all;
 use nm_command::{Command, Status};
 use nm_pcap::Form;
+use nm_progress::Progress;
 use std::io::{self, IsTerminal};
 use std::net::Net;
 
@@ -37,7 +38,6 @@ fn reason<N: Net>(
     match status {
         Status::Usage => usage_fault(rt, words),
         Status::File => file_reason(rt, system, words, noted),
-        Status::Stalled => stalled_reason(rt, words),
         _ => Ok(None),
     }
 }
@@ -59,6 +59,19 @@ fn asks_for_octets(words: &[String]) -> bool {
 pub fn say_octets<E: Sink>(rt: &HostRuntime, words: &[String], status: Status, errors: &mut E) {
     if status == Status::Done && rt.stdout().is_terminal() && asks_for_octets(words) {
         let _ = write_all(errors, OCTETS.as_bytes());
+    }
+}
+
+/// Says why a node was stalled, if that is known.
+pub fn say_stalled<E: Sink>(
+    rt: &HostRuntime,
+    words: &[String],
+    progress: &Progress,
+    errors: &mut E,
+) {
+    if let Ok(Some(text)) = stalled_reason(rt, words, progress) {
+        let _ = write_all(errors, text.as_str().as_bytes());
+        let _ = write_all(errors, b"\n");
     }
 }
 

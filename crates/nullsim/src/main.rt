@@ -10,9 +10,11 @@ mod addresses;
 mod differing;
 mod help;
 mod hints;
+mod meetings;
 mod noted;
 mod parts;
 mod reasons;
+mod rereading;
 mod stats;
 mod system;
 mod uncertified;
@@ -22,7 +24,7 @@ mod watching;
 use addresses::absent_of;
 use differing::say_difference;
 use help::{HELP, asked};
-use hints::{say_more, say_octets};
+use hints::{say_more, say_octets, say_stalled};
 use nm_base::sink::write_all;
 use nm_base::{MemSink, Sink, StdSink};
 use nm_command::{Command, Status};
@@ -40,7 +42,7 @@ use std::time::Clock;
 use std::{env, io, net, thread};
 use system::{SystemInputs, SystemOutputs};
 use uncertified::say_fault;
-use watching::{Over, watch};
+use watching::{Over, Watched, watch};
 
 /// The most octets of the lines on errors.
 const MAX_ERROR_OCTETS: usize = 8_192;
@@ -122,6 +124,9 @@ fn with_hint<N: Runtime, E: Sink>(
     }
     let status = over_system(rt, system, words, errors, progress, &noted);
     if explains {
+        if status == Status::Stalled {
+            say_stalled(rt, words, progress, errors);
+        }
         say_more(rt, system, words, status, &noted, errors);
         say_where(rt, words, status, &noted, errors);
         say_octets(rt, words, status, errors);
@@ -165,7 +170,7 @@ fn over_system<N: Runtime, E: Sink>(
     conclude(status, out.flush().is_ok(), errors)
 }
 
-/// The same, with a line on the terminal that shows how far it is.
+/// The same; meanwhile whom a node has met is said, and on a terminal a line shows how far it is.
 fn with_line<N: Runtime>(
     rt: &HostRuntime,
     system: &N,
@@ -173,9 +178,14 @@ fn with_line<N: Runtime>(
     said: &mut MemSink,
 ) -> Ended {
     let (progress, over) = (Progress::new(), Over::new());
+    let watched = Watched {
+        progress: &progress,
+        over: &over,
+        has_line: rt.stderr().is_terminal(),
+    };
     let (_, ended) = thread::join(
         system,
-        || watch(system, rt.alloc(), &progress, &over, &mut rt.stderr()),
+        || watch(system, rt, words, watched, &mut rt.stderr()),
         || {
             let ended = with_hint(rt, system, words, said, &progress);
             over.tell(system);
@@ -201,14 +211,7 @@ fn with_stats<N: Runtime>(
     let over = Over::new();
     let (_, ended) = thread::join(
         system,
-        || tell_figures(
-            system,
-            rt.alloc(),
-            &progress,
-            words,
-            &over,
-            &mut rt.stderr(),
-        ),
+        || tell_figures(system, rt, &progress, words, &over, &mut rt.stderr()),
         || {
             let ended = with_hint(rt, system, words, said, &progress);
             over.tell(system);
@@ -231,7 +234,7 @@ fn unless_closed<N: Runtime>(
     let words = words.as_slice();
     let ended = if tells {
         with_stats(rt, system, words, said)
-    } else if rt.stderr().is_terminal() {
+    } else if explains(rt) {
         with_line(rt, system, words, said)
     } else {
         with_hint(rt, system, words, said, &Progress::new())

@@ -1,9 +1,11 @@
 //! Why a file, a folder, an input or an address failed, for further lines.
 
 use crate::addresses::{listening_fault, neighbours_of};
+use crate::meetings::Meetings;
 use crate::noted::Noted;
 use nm_base::limits::MAX_INPUT_OCTETS;
 use nm_command::{Command, NodeArguments};
+use nm_progress::Progress;
 use std::alloc::{AllocError, Global};
 use std::net::Net;
 use std::sync::atomic::Ordering;
@@ -117,12 +119,20 @@ pub fn file_reason<N: Net>(
     }
 }
 
-/// What a run waited for that was stalled, if that is known.
+/// Why a node was stalled, if that is known.
 ///
 /// # Errors
 ///
 /// If an input cannot be read again, or memory was refused.
-pub fn stalled_reason(rt: &HostRuntime, words: &[String]) -> io::Result<Option<String>> {
+pub fn stalled_reason(
+    rt: &HostRuntime,
+    words: &[String],
+    progress: &Progress,
+) -> io::Result<Option<String>> {
+    let found = Meetings::new(rt, words).stalled(progress)?;
+    if found.is_some() {
+        return Ok(found);
+    }
     match node_of(words) {
         Some(words) => neighbours_of(rt, &words),
         None => Ok(None),

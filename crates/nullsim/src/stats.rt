@@ -1,6 +1,7 @@
 //! What a run or a node does, on standard error if the words ask for it.
 
-use crate::watching::Over;
+use crate::meetings::Meetings;
+use crate::watching::{Over, say_news};
 use nm_command::Command;
 use nm_progress::{Figures, Progress, ReplicaFigures, push_state, push_table};
 use std::alloc::{AllocError, Global};
@@ -73,7 +74,7 @@ fn tell<W: Write>(errors: &mut W, text: Result<Vec<u8>, AllocError>) {
 /// all did, if it has begun.
 pub fn tell_figures<R: Wait + Clock, W: Write>(
     rt: &R,
-    alloc: Global,
+    host: &HostRuntime,
     progress: &Progress,
     words: &[String],
     over: &Over,
@@ -82,7 +83,8 @@ pub fn tell_figures<R: Wait + Clock, W: Write>(
     let Some(figures) = progress.figures() else {
         return;
     };
-    let node = node_of(figures, words);
+    let (alloc, node) = (host.alloc(), node_of(figures, words));
+    let mut meetings = Meetings::new(host, words);
     for looks in 1..u64::MAX {
         if over.wait(rt, MILLISECONDS_A_LOOK) {
             break;
@@ -90,6 +92,7 @@ pub fn tell_figures<R: Wait + Clock, W: Write>(
         figures.look();
         if let Some(node) = &node {
             if looks % LOOKS_A_LINE == 0 {
+                say_news(&mut meetings, progress, false, errors);
                 tell(errors, line_of(alloc, node));
             }
         }

@@ -1,6 +1,6 @@
 //! What the certificate found, for a terminal: in words, and between which partitions.
 
-use crate::differing::read_network;
+use crate::rereading::read_network;
 use nm_base::sink::write_all;
 use nm_base::{ChanNo, Sink};
 use nm_book::channels::{receiver_of, sender_of};

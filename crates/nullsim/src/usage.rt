@@ -2,8 +2,8 @@
 //! lines.
 
 use crate::addresses::address_fault;
-use crate::differing::read_network;
 use crate::help::form_of;
+use crate::rereading::read_network;
 use nm_base::limits::{
     MAX_PARTITION, MAX_REPLICA, MAX_REPLICAS, MAX_ROUNDS, MAX_SOURCE, MAX_TIME, MAX_WORKERS,
 };

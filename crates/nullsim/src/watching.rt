@@ -1,5 +1,7 @@
-//! A line on a terminal that shows how far a run is.
+//! What is said while a run goes on: a line on a terminal that shows how far it is, and whom a node
+//! has met.
 
+use crate::meetings::Meetings;
 use nm_base::push_text;
 use nm_progress::{Progress, push_line};
 use std::alloc::{AllocError, Global};
@@ -49,35 +51,72 @@ impl Over {
     }
 }
 
+/// What is watched, and whether a line shows how far it is.
+#[derive(Clone, Copy)]
+pub struct Watched<'a> {
+    pub progress: &'a Progress,
+    pub over: &'a Over,
+    pub has_line: bool,
+}
+
 /// The line of a run that was begun so many milliseconds ago.
-fn line_of(alloc: Global, progress: &Progress, milliseconds: u64) -> Result<Vec<u8>, AllocError> {
+fn line_of(
+    alloc: Global,
+    progress: &Progress,
+    milliseconds: u64,
+    meetings: &mut Meetings<'_>,
+) -> Result<Vec<u8>, AllocError> {
     let mut text = Vec::new(alloc);
     push_text(&mut text, WIPE)?;
     push_line(&mut text, &progress.look(), milliseconds)?;
+    if let Some(awaited) = meetings.awaited(progress)? {
+        push_text(&mut text, awaited.as_bytes())?;
+    }
     push_text(&mut text, RETURN)?;
     Ok(text)
 }
 
-/// Renews the line once a second, and wipes it when the run is over. Errors of the terminal are
-/// ignored.
+/// Says what is new of a node's peers, in the place of the line, if there is one. Errors of the
+/// output are ignored.
+pub fn say_news<W: Write>(
+    meetings: &mut Meetings<'_>,
+    progress: &Progress,
+    has_line: bool,
+    errors: &mut W,
+) {
+    if let Ok(Some(text)) = meetings.news(progress) {
+        if has_line {
+            let _ = errors.write_all(WIPE);
+        }
+        let _ = errors.write_all(text.as_bytes());
+    }
+}
+
+/// Once a second says what is new of a node's peers, and renews the line, which it wipes when the
+/// run is over. Errors of the output are ignored.
 pub fn watch<R: Wait + Clock, W: Write>(
     rt: &R,
-    alloc: Global,
-    progress: &Progress,
-    over: &Over,
-    terminal: &mut W,
+    host: &HostRuntime,
+    words: &[String],
+    watched: Watched<'_>,
+    errors: &mut W,
 ) {
+    let mut meetings = Meetings::new(host, words);
     let mut milliseconds = 0u64;
     for _ in 0..u64::MAX {
-        if over.wait(rt, MILLISECONDS_A_LINE) {
+        if watched.over.wait(rt, MILLISECONDS_A_LINE) {
             break;
         }
         milliseconds = milliseconds.saturating_add(MILLISECONDS_A_LINE);
-        if progress.look().stop > 0 {
-            if let Ok(text) = line_of(alloc, progress, milliseconds) {
-                let _ = terminal.write_all(text.as_slice());
+        say_news(&mut meetings, watched.progress, watched.has_line, errors);
+        if watched.has_line && watched.progress.look().stop > 0 {
+            let line = line_of(host.alloc(), watched.progress, milliseconds, &mut meetings);
+            if let Ok(text) = line {
+                let _ = errors.write_all(text.as_slice());
             }
         }
     }
-    let _ = terminal.write_all(WIPE);
+    if watched.has_line {
+        let _ = errors.write_all(WIPE);
+    }
 }
