@@ -206,6 +206,7 @@ class SourceStep:
     octets: int
     mean_delay_nanoseconds: int
     greatest_delay_nanoseconds: int
+    jitter_nanoseconds: int
 
 
 @dataclass(frozen=True, slots=True)

@@ -75,6 +75,13 @@ impl Delays {
         self.total
     }
 
+    /// The sum of the absolute differences of the delays of successive arrivals.
+    pub fn differences(&self) -> u128
+        ensures { result ≡ self.now.differences }
+    {
+        self.differences
+    }
+
     /// The greatest since this was called last; 0 if there was none.
     pub(crate) fn take_recent(&mut self) -> u64
         ensures { result ≡ self.old.recent }

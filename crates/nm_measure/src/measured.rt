@@ -185,9 +185,13 @@ impl Measured {
     /// What became of the packets of a source so far.
     pub fn flow_totals(&self, source: SourceNo) -> FlowTotals {
         let counts = self.flow(source).unwrap_or(FlowCounts::NONE);
-        let (octets, delayed) = match self.times(source) {
-            Some(times) => (times.octets(), times.delays.total()),
-            None => (0, 0),
+        let (octets, delayed, differences) = match self.times(source) {
+            Some(times) => (
+                times.octets(),
+                times.delays.total(),
+                times.delays.differences(),
+            ),
+            None => (0, 0, 0),
         };
         FlowTotals {
             sent: counts.sent,
@@ -195,6 +199,7 @@ impl Measured {
             lost: counts.refused + counts.dropped + counts.discarded,
             octets,
             delayed,
+            differences,
         }
     }
 

@@ -26,4 +26,6 @@ pub struct FlowTotals {
     pub octets: u64,
     /// The sum of the delays of those that were delivered, in nanoseconds.
     pub delayed: u128,
+    /// The sum of the absolute differences of the delays of successive arrivals, in nanoseconds.
+    pub differences: u128,
 }

@@ -18,7 +18,7 @@ abbrev pub columns_of : Subject → List ℕ
 columns_of Interfaces =
     codes "from_nanoseconds,interface,packets_in,octets_in,packets_out,octets_out,dropped,longest_queue,mean_queue_thousandths,longest_queue_octets,mean_queue_octets,busy_thousandths\n"
 columns_of Sources =
-    codes "from_nanoseconds,source,sent,delivered,lost,octets,mean_delay_nanoseconds,greatest_delay_nanoseconds\n"
+    codes "from_nanoseconds,source,sent,delivered,lost,octets,mean_delay_nanoseconds,greatest_delay_nanoseconds,jitter_nanoseconds\n"
 
 -- the text of a step: the rows of interfaces, or whole lines of sources
 abbrev pub IsStepOf : Subject → TopologyValue → (from until : ℕ) → List ℕ → Type 0

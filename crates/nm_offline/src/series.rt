@@ -38,7 +38,7 @@ longest_queue,mean_queue_thousandths,longest_queue_octets,mean_queue_octets,busy
         }
         Subject::Sources => {
             b"from_nanoseconds,source,sent,delivered,lost,octets,mean_delay_nanoseconds,\
-greatest_delay_nanoseconds\n"
+greatest_delay_nanoseconds,jitter_nanoseconds\n"
         }
     }
 }

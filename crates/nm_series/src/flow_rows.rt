@@ -11,14 +11,28 @@ use nm_measure::{FlowTotals, Measured, end_line};
 use nm_topology::Topology;
 use std::alloc::{AllocError, Global};
 
-/// The mean delay of what was delivered between, in nanoseconds, rounded down; 0 if nothing was.
-fn mean_delay(before: &FlowTotals, after: &FlowTotals) -> u64 {
-    let count = after.delivered.saturating_sub(before.delivered);
+/// The mean of so many values, rounded down, by their sum before and after them; 0 if there are
+/// none.
+fn mean_between(before: u128, after: u128, count: u64) -> u64 {
     if count == 0 {
         return 0;
     }
-    let delayed = after.delayed.saturating_sub(before.delayed);
-    u64::try_from(delayed / u128::from(count)).unwrap_or(u64::MAX)
+    let sum = after.saturating_sub(before);
+    u64::try_from(sum / u128::from(count)).unwrap_or(u64::MAX)
+}
+
+/// The mean delay of what was delivered between, in nanoseconds, rounded down; 0 if nothing was.
+fn mean_delay(before: &FlowTotals, after: &FlowTotals) -> u64 {
+    let count = after.delivered.saturating_sub(before.delivered);
+    mean_between(before.delayed, after.delayed, count)
+}
+
+/// The mean absolute difference of the delay of each packet that was delivered between and of the
+/// one delivered before it, in nanoseconds, rounded down (RFC 3393); 0 if there is no such pair.
+fn jitter(before: &FlowTotals, after: &FlowTotals) -> u64 {
+    // The first packet that was delivered has none before it.
+    let count = after.delivered.saturating_sub(before.delivered.max(1));
+    mean_between(before.differences, after.differences, count)
 }
 
 /// Appends the row of a source, which had this before a step and has that after it.
@@ -40,6 +54,7 @@ fn push_row(
     push_cell(text, after.octets.saturating_sub(before.octets))?;
     push_cell(text, mean_delay(before, after))?;
     push_cell(text, greatest)?;
+    push_cell(text, jitter(before, after))?;
     end_line(text)
 }
 
