@@ -9,6 +9,6 @@ pub mod table;
 
 pub use figures::{Figure, Figures, ReplicaFigures};
 pub use line::push_line;
-pub use peers::PeerName;
+pub use peers::{CallerName, PeerName};
 pub use progress::{Progress, Seen};
 pub use table::{push_state, push_table};

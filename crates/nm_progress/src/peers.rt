@@ -1,15 +1,34 @@
 //! The peers of a replica that runs as a process, as words that threads share.
 
+ghost use Rattle.std.specs.Prelude.{◌<◌, ◌^◌};
+
 use nm_base::PartNo;
 use std::sync::atomic::{AtomicU64, Ordering};
 
+/// A replica that calls.
+#[derive(Clone, Copy, PartialEq, Eq)]
+pub struct CallerName {
+    pub partition: PartNo,
+    /// 0 or 1.
+    pub replica: u8,
+}
+
+impl CallerName {
+    /// Its number among all replicas: two for each partition.
+    fn number(&self) -> u64
+        ensures { result < 2 ^ 34 }
+    {
+        u64::from(self.partition.number()) * 2 + u64::from(self.replica % 2)
+    }
+}
+
 /// A peer, as the replica knows it.
-#[derive(Clone, Copy, Debug, PartialEq, Eq)]
+#[derive(Clone, Copy, PartialEq, Eq)]
 pub enum PeerName {
     /// One that it calls, by its number among those.
     Called(u32),
     /// One that calls it.
-    Caller { partition: PartNo, replica: u8 },
+    Caller(CallerName),
 }
 
 /// A peer or none, which threads note and look at.
@@ -26,9 +45,7 @@ fn word_of(peer: Option<PeerName>) -> u64 {
     match peer {
         None => NOBODY,
         Some(PeerName::Called(number)) => u64::from(number) * 2 + 1,
-        Some(PeerName::Caller { partition, replica }) => {
-            (u64::from(partition.number()) * 2 + u64::from(replica) % 2) * 2 + 2
-        }
+        Some(PeerName::Caller(caller)) => caller.number() * 2 + 2,
     }
 }
 
@@ -41,10 +58,10 @@ fn peer_of(word: u64) -> Option<PeerName> {
     if word % 2 == 1 {
         return Some(PeerName::Called(u32::try_from(number).ok()?));
     }
-    Some(PeerName::Caller {
+    Some(PeerName::Caller(CallerName {
         partition: PartNo::new(u32::try_from(number / 2).ok()?),
         replica: if number % 2 == 1 { 1 } else { 0 },
-    })
+    }))
 }
 
 impl SharedPeer {

@@ -5,8 +5,9 @@ use crate::connections::Connections;
 use crate::replica::Service;
 use crate::serving::Serving;
 use nm_engine::{Cause, GivenCounts, Turn};
+use nm_frames::ReplicaName;
 use nm_policy::Contacts;
-use nm_progress::{Figure, PeerName, Progress, ReplicaFigures};
+use nm_progress::{CallerName, Figure, PeerName, Progress, ReplicaFigures};
 use nm_shared::{Counts, Pass};
 use std::sync::Wait;
 
@@ -40,16 +41,21 @@ fn node_progress<'a, C: Counts>(service: &Service<'a, C>) -> Option<&'a Progress
     }
 }
 
+/// A replica that calls.
+fn caller_of(name: &ReplicaName) -> PeerName {
+    PeerName::Caller(CallerName {
+        partition: name.partition,
+        replica: name.replica,
+    })
+}
+
 /// The first peer for which a replica waits, if it waits for one.
 fn awaited_of(contacts: &Contacts) -> Option<PeerName> {
     if let Some(number) = contacts.first_awaited() {
         return Some(PeerName::Called(u32::try_from(number).ok()?));
     }
     let caller = contacts.first_awaited_caller()?;
-    Some(PeerName::Caller {
-        partition: caller.name.partition,
-        replica: caller.name.replica,
-    })
+    Some(caller_of(&caller.name))
 }
 
 /// Notes for which peer a node waits. That is looked for once a period.
@@ -76,10 +82,7 @@ pub(crate) fn note_differing<C: Counts, W>(
         return;
     };
     if let (Turn::Broken(Cause::Session), Some(name)) = (turn, connection.link.differing()) {
-        progress.note_differing(PeerName::Caller {
-            partition: name.partition,
-            replica: name.replica,
-        });
+        progress.note_differing(caller_of(&name));
     }
     let has_ended = connection.link.wire().has_ended() && !connection.link.has_greeted();
     if let (true, Some(peer)) = (has_ended, connections.contacts.peer_at(key)) {

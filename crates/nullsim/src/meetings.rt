@@ -38,9 +38,9 @@ impl NodePeers {
                 let mut all = self.listeners.iter();
                 all.find(|one| SocketAddr::V4(one.address) == *address)
             }
-            PeerName::Caller { partition, replica } => {
+            PeerName::Caller(caller) => {
                 let mut all = self.listeners.iter();
-                all.find(|one| one.partition == partition && one.replica == replica)
+                all.find(|one| one.partition == caller.partition && one.replica == caller.replica)
             }
         }
     }
