@@ -1,9 +1,11 @@
+mod Added
 mod Advances
 mod Counting
 mod Lists
 mod Nodes
 mod Readings
 mod Rounding
+mod Rows
 mod Turns
 mod Turned
 mod Waitings

@@ -1,6 +1,7 @@
 pub mod Amounts
 pub mod Flows
 pub mod Delays
+pub mod Spread
 pub mod Measured
 pub mod Queues
 pub mod Busy

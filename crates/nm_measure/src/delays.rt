@@ -1,8 +1,8 @@
 //! How long packets took.
 
-ghost use Rattle.std.specs.Prelude.{◌≡◌, ◌+◌, min, max, OnOk};
+ghost use Rattle.std.specs.Prelude.{◌≡◌, ℕ, ◌+◌, ◌/◌, ◌<◌, ◌≤◌, ◌^◌, min, max, OnOk, List, [], ◌∷◌, ◌++◌, length};
 ghost use Rattle.nm_base.specs.Count.{saturated};
-ghost use Rattle.nm_measure.specs.Delays.{least_after};
+ghost use Rattle.nm_measure.specs.Delays.{AreAdded, IsKeptPercentile, jitter_of, least_after, mean_of};
 
 use crate::spread::{Bucket, Spread};
 use std::alloc::{AllocError, Global};
@@ -24,7 +24,9 @@ pub struct Delays {
 }
 
 /// The mean of `count` values, rounded down; 0 if there are none.
-fn mean_of(total: u128, count: u64) -> u64 {
+fn mean_of(total: u128, count: u64) -> u64
+    ensures { result ≡ saturated (total / count) }
+{
     if count == 0 {
         return 0;
     }
@@ -34,7 +36,8 @@ fn mean_of(total: u128, count: u64) -> u64 {
 impl Delays {
     /// The delays of no packets.
     pub(crate) fn new(alloc: Global) -> Self
-        ensures { result.spread.count ≡ 0 }
+        ensures count { result.spread.count ≡ 0 }
+        ensures none { AreAdded [] result }
     {
         Delays {
             spread: Spread::new(alloc),
@@ -99,25 +102,38 @@ impl Delays {
     }
 
     /// The mean, rounded down; 0 if there are no packets.
-    pub fn mean(&self) -> u64 {
+    pub fn mean(&self) -> u64
+        ensures { (ds : List ℕ) → AreAdded ds self.now → length ds < 2 ^ 64
+            → result ≡ mean_of ds }
+    {
         mean_of(self.total, self.spread.count())
     }
 
     /// The mean absolute difference of the delays of two successive arrivals, rounded down; 0 if
     /// there are fewer than two.
-    pub fn jitter(&self) -> u64 {
+    pub fn jitter(&self) -> u64
+        ensures { (ds : List ℕ) → AreAdded ds self.now → length ds < 2 ^ 64
+            → result ≡ jitter_of ds }
+    {
         mean_of(self.differences, self.spread.count().saturating_sub(1))
     }
 
     /// The least delay such that at least so many thousandths of all are at most it (nearest rank);
     /// 0 if there are no packets. If `is_rounded`, it may be less than that, by at most 1/128 of
     /// itself.
-    pub fn percentile(&self, thousandths: u64) -> u64 {
+    pub fn percentile(&self, thousandths: u64) -> u64
+        ensures none { AreAdded [] self.now → result ≡ 0 }
+        ensures some { (ds : List ℕ) → AreAdded ds self.now → length ds < 2 ^ 64
+            → 0 < length ds → thousandths ≤ 1000
+            → IsKeptPercentile ds self.now.spread.is_rounded thousandths result }
+    {
         self.spread.percentile(thousandths).max(self.least)
     }
 
     /// Whether percentiles are rounded down, since there were more than 1,024 different delays.
-    pub fn is_rounded(&self) -> bool {
+    pub fn is_rounded(&self) -> bool
+        ensures { result ≡ self.now.spread.is_rounded }
+    {
         self.spread.is_rounded()
     }
 
@@ -132,6 +148,8 @@ impl Delays {
         ensures least { OnOk result (self.new.least
             ≡ least_after self.old.spread.count self.old.least delay) }
         ensures greatest { OnOk result (self.new.greatest ≡ max self.old.greatest delay) }
+        ensures added { OnOk result ((ds : List ℕ) → AreAdded ds self.old
+            → AreAdded (ds ++ delay ∷ []) self.new) }
     {
         if self.spread.count() == 0 {
             self.least = delay;
