@@ -10,7 +10,7 @@ use Rattle.nm_measure.specs.declared.delays.Delays.{Delays}
 use Rattle.nm_measure.specs.declared.spread.Spread.{Spread}
 
 -- the first is no greater than the greatest
-first_most : (d : ℕ) (ds : List ℕ) → d ≤ fold max d ds
+pub first_most : (d : ℕ) (ds : List ℕ) → d ≤ fold max d ds
 first_most d [] = omega arith
 first_most d (e ∷ ds) = let h = first_most (max d e) ds in omega (arith, h)
 

@@ -34,11 +34,11 @@ pub spread_rounded : (ds : List ℕ) (old new : List Row) → IsSpread ds old fa
     → IsSpread ds new true
 spread_rounded ds old new h all = record { times = λ test. all test ∙ h.times (λ d. test (rounded_down d)) }
 
-count_all : (ds : List ℕ) → count_by (λ d. true) ds ≡ length ds
+pub count_all : (ds : List ℕ) → count_by (λ d. true) ds ≡ length ds
 count_all [] = refl
 count_all (d ∷ ds) = let e = sum_by-cons (λ (x : ℕ). cond true 1 0) d ds in let f = count_all ds in omega (arith, e, f)
 
-count_map : (test : ℕ → Bool) (f : ℕ → ℕ) (ds : List ℕ) → count_by test (map f ds) ≡ count_by (λ d. test (f d)) ds
+pub count_map : (test : ℕ → Bool) (f : ℕ → ℕ) (ds : List ℕ) → count_by test (map f ds) ≡ count_by (λ d. test (f d)) ds
 count_map test f [] = refl
 count_map test f (d ∷ ds) =
     sum_by-cons (λ x. cond (test x) 1 0) (f d) (map f ds) ∙ ap (λ n. cond (test (f d)) 1 0 + n) (count_map test f ds)

@@ -1,8 +1,8 @@
 -- What is known of delays that were added one after another.
-use Rattle.std.specs.Prelude.{◌≡◌, ℕ, suc, zero, ◌-◌, ◌/◌, ◌^◌, ◌<◌, min, max, Bool, List, [], ◌∷◌, length, fold, map, sum}
+use Rattle.std.specs.Prelude.{◌≡◌, ℕ, suc, zero, ◌-◌, ◌/◌, ◌^◌, ◌<◌, min, max, Bool, if◌then◌else◌, List, [], ◌∷◌, length, fold, sum}
 use Rattle.std.specs.Int.{abs_diff}
 use Rattle.nm_base.specs.Count.{saturated}
-use Rattle.nm_measure.specs.Spread.{IsPercentile, IsSpread, kept}
+use Rattle.nm_measure.specs.Spread.{IsPercentile, IsSpread, rounded_down}
 use Rattle.nm_measure.specs.declared.delays.Delays.{Delays}
 
 -- the least of so many delays, with one delay more
@@ -50,9 +50,9 @@ pub record AreAdded (ds : List ℕ) (d : Delays) : Type 0 where
   pub differences : d.differences ≡ sum_to (differences_of ds)
   pub spread : length ds < 2 ^ 64 → IsSpread ds d.spread.rows.items d.spread.is_rounded
 
--- The percentile of delays as they are kept; none is less than the least delay. It is exact if
--- they are not rounded.
+-- A percentile as it is shown: exact, or, of delays that are kept rounded, rounded down as they are
+-- and no less than the least of them.
 pub record IsKeptPercentile (ds : List ℕ) (is_rounded : Bool) (thousandths p : ℕ) : Type 0 where
-  pub by_rank : ℕ
-  pub is : IsPercentile (map (kept is_rounded) ds) thousandths by_rank
-  pub most : p ≡ max by_rank (least_of ds)
+  pub exact : ℕ
+  pub is : IsPercentile ds thousandths exact
+  pub shown : p ≡ (if is_rounded then max (rounded_down exact) (least_of ds) else exact)
