@@ -4,10 +4,11 @@ use Rattle.std.specs.Int.{abs_diff}
 use Rattle.std.proofs.Math.Nat.{div-le_of_le-mul, mul-le-mul_right}
 use Rattle.std.proofs.lemmas.List.Sums.{fold_push, sum_by-cons, sum_by_push}
 use Rattle.nm_base.specs.Count.{saturated}
-use Rattle.nm_measure.specs.Delays.{AreAdded, differences_of, greatest_of, jitter_of, last_of, least_after, least_of, mean_of, sum_to}
+use Rattle.nm_measure.specs.Added.{AreAdded}
 use Rattle.nm_measure.specs.Spread.{IsSpread}
-use Rattle.nm_measure.specs.declared.delays.Delays.{Delays}
+use Rattle.nm_measure.specs.Sums.{AreSums, differences_of, greatest_of, jitter_of, last_of, least_after, least_of, mean_of, sum_to}
 use Rattle.nm_measure.specs.declared.spread.Spread.{Spread}
+use Rattle.nm_measure.specs.declared.sums.Sums.{Sums}
 
 -- the first is no greater than the greatest
 pub first_most : (d : ℕ) (ds : List ℕ) → d ≤ fold max d ds
@@ -58,19 +59,21 @@ mean_is total count most few =
     ap (λ n. min (n / count) 18446744073709551615) all ∙ fits_once (total / count) within
 
 -- the means that are computed
-pub mean_added : (ds : List ℕ) (d : Delays) → AreAdded ds d → length ds < 2 ^ 64
-    → saturated (d.total / d.spread.count) ≡ mean_of ds
-mean_added ds d h few =
-    let count : d.spread.count ≡ length ds = let e = h.count in omega (arith, e, few) in
-    ap (λ n. saturated (n / d.spread.count)) h.total ∙ ap (λ n. saturated (sum_to ds / n)) count
+count_is : (count n : ℕ) → count ≡ saturated n → n < 2 ^ 64 → count ≡ n
+count_is count n e few = omega arith
+
+pub mean_added : (ds : List ℕ) (t : Sums) (count : ℕ) → count ≡ saturated (length ds) → AreSums ds t → length ds < 2 ^ 64
+    → saturated (t.total / count) ≡ mean_of ds
+mean_added ds t count is h few =
+    ap (λ n. saturated (n / count)) h.total ∙ ap (λ n. saturated (sum_to ds / n)) (count_is count (length ds) is few)
     ∙ mean_is (sum ds) (length ds) (sum_most 0 ds 18446744073709551615 (let f = h.fits in omega (arith, f))) few
 
-pub jitter_added : (ds : List ℕ) (d : Delays) → AreAdded ds d → length ds < 2 ^ 64
-    → saturated (d.differences / (d.spread.count - 1)) ≡ jitter_of ds
-jitter_added ds d h few =
-    let count : d.spread.count - 1 ≡ length (differences_of ds) =
-    let e = h.count in let f = differences_count ds in omega (arith, e, f, few) in
-    ap (λ n. saturated (n / (d.spread.count - 1))) h.differences ∙ ap (λ n. saturated (sum_to (differences_of ds) / n)) count
+pub jitter_added : (ds : List ℕ) (t : Sums) (count : ℕ) → count ≡ saturated (length ds) → AreSums ds t → length ds < 2 ^ 64
+    → saturated (t.differences / (count - 1)) ≡ jitter_of ds
+jitter_added ds t count is h few =
+    let less : count - 1 ≡ length (differences_of ds) =
+    ap (λ n. n - 1) (count_is count (length ds) is few) ∙ sym (differences_count ds) in
+    ap (λ n. saturated (n / (count - 1))) h.differences ∙ ap (λ n. saturated (sum_to (differences_of ds) / n)) less
     ∙ mean_is (sum (differences_of ds)) (length (differences_of ds)) (differences_most 0 ds 18446744073709551615 (let f = h.fits in omega (arith, f)))
     (let f = differences_count ds in omega (arith, f, few))
 
@@ -129,43 +132,59 @@ pub next_differences : (count differences last d : ℕ) → (count ≡ 0 → ⊥
 next_differences zero differences last d h = absurd (h refl)
 next_differences (suc count) differences last d h = refl
 
--- a delay was compared with the least one and the last one
-pub record IsCompared (old mid : Delays) (d : ℕ) : Type 0 where
-  pub spread : mid.spread ≡ old.spread
-  pub least : mid.least ≡ least_after old.spread.count old.least d
-  pub greatest : mid.greatest ≡ old.greatest
-  pub total : mid.total ≡ old.total
-  pub differences : mid.differences ≡ differences_after old.spread.count old.differences old.last d
-
 once_more : (n : ℕ) → saturated (saturated n + 1) ≡ saturated (n + 1)
 once_more n = omega arith
 
 below_both : (all a b most : ℕ) → all ≡ max a b → a < most → b < most → all < most
 below_both all a b most is l m = omega arith
 
--- what is kept with one delay more
-pub added : (ds : List ℕ) (old mid new : Delays) (d : ℕ) → d < 2 ^ 64 → IsCompared old mid d
-    → new.least ≡ mid.least → new.greatest ≡ max mid.greatest d → new.last ≡ d
+-- a delay was compared with the least one and the last one
+pub record IsCompared (count d : ℕ) (old mid : Sums) : Type 0 where
+  pub least : mid.least ≡ least_after count old.least d
+  pub greatest : mid.greatest ≡ old.greatest
+  pub total : mid.total ≡ old.total
+  pub differences : mid.differences ≡ differences_after count old.differences old.last d
+
+-- the sums with one delay more
+pub compared_added : (ds : List ℕ) (old mid new : Sums) (count d : ℕ) → d < 2 ^ 64 → count ≡ saturated (length ds) → AreSums ds old
+    → IsCompared count d old mid → new.least ≡ mid.least → new.greatest ≡ max mid.greatest d → new.last ≡ d
     → new.total ≡ min (mid.total + d) 340282366920938463463374607431768211455 → new.differences ≡ mid.differences
-    → new.spread.count ≡ saturated (mid.spread.count + 1)
-    → ((ds : List ℕ) → length ds + 1 < 2 ^ 64 → IsSpread ds mid.spread.rows.items mid.spread.is_rounded
-    → IsSpread (ds ++ d ∷ []) new.spread.rows.items new.spread.is_rounded)
-    → AreAdded ds old → AreAdded (ds ++ d ∷ []) new
-added ds old mid new d fits m least greatest last total differences count spread h = record {
-  count = count ∙ ap (λ n. saturated (n + 1)) (ap (λ (s : Spread). s.count) m.spread ∙ h.count) ∙ once_more (length ds) ∙ sym (ap saturated (length-append ds (d ∷ [])));
-  least = least ∙ m.least ∙ least_added ds old.spread.count old.least d h.count h.least;
+    → AreSums (ds ++ d ∷ []) new
+compared_added ds old mid new count d fits is h m least greatest last total differences = record {
+  least = least ∙ m.least ∙ least_added ds count old.least d is h.least;
   greatest = greatest ∙ ap (λ n. max n d) (m.greatest ∙ h.greatest) ∙ sym (fold_push max 0 ds d);
   fits = below_both (greatest_of (ds ++ d ∷ [])) (greatest_of ds) d (2 ^ 64) (fold_push max 0 ds d) h.fits fits;
   last = last ∙ sym (fold_push (λ before e. e) 0 ds d);
   total = total ∙ ap (λ n. min (n + d) 340282366920938463463374607431768211455) (m.total ∙ h.total)
       ∙ sum_after (sum ds) d (sum (ds ++ d ∷ [])) (sum_by_push (λ x. x) ds d);
-  differences = differences ∙ m.differences ∙ differences_added ds old.spread.count old.differences old.last d h.count h.differences h.last;
-  spread = λ few.
-      let more : length ds + 1 < 2 ^ 64 = subst (λ n. n < 2 ^ 64) (length-append ds (d ∷ [])) few in
-      spread ds more (subst (λ (s : Spread). IsSpread ds s.rows.items s.is_rounded) (sym m.spread) (h.spread (omega (arith, more))));
+  differences = differences ∙ m.differences ∙ differences_added ds count old.differences old.last d is h.differences h.last;
 }
 
--- the outcome of a call by two of its clauses
-pub both_ok : {T E P Q R : Type 0} (r : Result T E) → (P → Q → R) → OnOk r P → OnOk r Q → OnOk r R
-both_ok (Ok x) f p q = f p q
-both_ok (Err e) f p q = tt
+-- what is known with one delay more
+pub added : (ds : List ℕ) (old mid new : Spread) (before after : Sums) (count d : ℕ) → count ≡ old.count
+    → mid.count ≡ saturated (old.count + 1)
+    → ((ds : List ℕ) → length ds + 1 < 2 ^ 64 → IsSpread ds old.rows.items old.is_rounded → IsSpread (ds ++ d ∷ []) mid.rows.items mid.is_rounded)
+    → new.count ≡ mid.count → ((ds : List ℕ) → IsSpread ds mid.rows.items mid.is_rounded → IsSpread ds new.rows.items new.is_rounded)
+    → ((ds : List ℕ) → count ≡ saturated (length ds) → AreSums ds before → AreSums (ds ++ d ∷ []) after)
+    → AreAdded ds old before → AreAdded (ds ++ d ∷ []) new after
+added ds old mid new before after count d is count_mid spread_mid count_new spread_new sums h = record {
+  count = count_new ∙ count_mid ∙ ap (λ n. saturated (n + 1)) h.count ∙ once_more (length ds) ∙ sym (ap saturated (length-append ds (d ∷ [])));
+  sums = sums ds (is ∙ h.count) h.sums;
+  spread = λ few.
+      let more : length ds + 1 < 2 ^ 64 = subst (λ n. n < 2 ^ 64) (length-append ds (d ∷ [])) few in
+      spread_new (ds ++ d ∷ []) (spread_mid ds more (h.spread (omega (arith, more))));
+}
+
+-- the same delays, where the rows stay
+pub unchanged : (ds : List ℕ) (old new : Spread) (t : Sums) → new.rows.items ≡ old.rows.items → new.count ≡ old.count → new.is_rounded ≡ old.is_rounded
+    → AreAdded ds old t → AreAdded ds new t
+unchanged ds old new t rows count kind h = record {
+  count = count ∙ h.count;
+  sums = h.sums;
+  spread = λ few. subst (λ b. IsSpread ds new.rows.items b) (sym kind) (subst (λ l. IsSpread ds l old.is_rounded) (sym rows) (h.spread few));
+}
+
+-- what holds, whatever a call answers
+pub held : {T E P : Type 0} (r : Result T E) → P → OnOk r P
+held (Ok x) h = h
+held (Err e) h = tt

@@ -3,6 +3,7 @@ mod Advances
 mod Counting
 mod Lists
 mod Nodes
+mod Percentiles
 mod Readings
 mod Rounding
 mod Rows

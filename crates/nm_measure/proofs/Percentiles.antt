@@ -4,7 +4,8 @@ use Rattle.std.proofs.Math.Nat.{le_trans}
 use Rattle.std.proofs.lemmas.Bool.{cases_lt, le-leb, le-ltb, leb-true, lt-leb, lt-ltb, ltb-true}
 use Rattle.std.proofs.lemmas.List.{length-map}
 use Rattle.std.proofs.lemmas.List.Sums.{sum_by-cons}
-use Rattle.nm_measure.specs.Delays.{IsKeptPercentile, greatest_of, least_of}
+use Rattle.nm_measure.specs.Added.{IsKeptPercentile, ShowsPercentile}
+use Rattle.nm_measure.specs.Sums.{greatest_of, least_of}
 use Rattle.nm_measure.specs.Spread.{IsPercentile, kept, rank_of, rounded_down}
 use Rattle.nm_measure.proofs.Added.{first_most}
 use Rattle.nm_measure.proofs.Rounding.{rounded_rises}
@@ -165,3 +166,11 @@ shown_percentile ds is_rounded thousandths p fits some share h =
     by_kind : (b : Bool) (q : ℕ) → least_of ds ≤ q → max (kept b q) (least_of ds) ≡ cond b (max (rounded_down q) (least_of ds)) q
     by_kind true q l = refl
     by_kind false q l = omega arith
+
+pub shows_percentile : (ds : List ℕ) (is_rounded : Bool) (thousandths p least : ℕ) → least ≡ least_of ds → greatest_of ds < 2 ^ 64 → thousandths ≤ 1000
+    → (length ds ≡ 0 → p ≡ 0) → (0 < length ds → IsPercentile (map (kept is_rounded) ds) thousandths p)
+    → ShowsPercentile ds is_rounded thousandths (max p least)
+shows_percentile [] is_rounded thousandths p least is fits share none some = let zero_is = none refl in omega (arith, zero_is, is)
+shows_percentile (d ∷ ds) is_rounded thousandths p least is fits share none some =
+    subst (λ n. IsKeptPercentile (d ∷ ds) is_rounded thousandths (max p n)) (sym is)
+    (shown_percentile (d ∷ ds) is_rounded thousandths p fits (omega arith) share (some (omega arith)))

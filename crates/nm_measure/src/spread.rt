@@ -170,22 +170,40 @@ impl Spread {
     ///
     /// # Errors
     ///
-    /// If memory was refused. The delay may have been noted.
+    /// If memory was refused. Nothing has changed then.
     pub(crate) fn add(&mut self, delay: u64) -> Result<(), AllocError>
         ensures count { OnOk result (self.new.count ≡ saturated (self.old.count + 1)) }
         ensures added { OnOk result ((ds : List ℕ) → length ds + 1 < 2 ^ 64
             → IsSpread ds self.old.rows.items self.old.is_rounded
             → IsSpread (ds ++ delay ∷ []) self.new.rows.items self.new.is_rounded) }
+        ensures rows_stay { OnErr result (self.new.rows.items ≡ self.old.rows.items) }
+        ensures count_stays { OnErr result (self.new.count ≡ self.old.count) }
+        ensures kind_stays { OnErr result (self.new.is_rounded ≡ self.old.is_rounded) }
     {
         if self.count == u64::MAX {
             return Ok(());
         }
         note(&mut self.rows, kept(self.is_rounded, delay), 1)?;
         self.count += 1;
-        if !self.is_rounded && self.rows.len() > EXACT_ROWS {
-            self.rows = rounded_rows(self.alloc, self.rows.as_slice())?;
-            self.is_rounded = true;
+        Ok(())
+    }
+
+    /// Rounds all delays if there are too many different ones.
+    ///
+    /// # Errors
+    ///
+    /// If memory was refused. Nothing has changed then.
+    pub(crate) fn round_many(&mut self) -> Result<(), AllocError>
+        ensures count { self.new.count ≡ self.old.count }
+        ensures same { (ds : List ℕ) → IsSpread ds self.old.rows.items self.old.is_rounded
+            → IsSpread ds self.new.rows.items self.new.is_rounded }
+    {
+        if self.is_rounded || self.rows.len() <= EXACT_ROWS {
+            return Ok(());
         }
+        let _count = self.count; // no more than 2^64 - 1
+        self.rows = rounded_rows(self.alloc, self.rows.as_slice())?;
+        self.is_rounded = true;
         Ok(())
     }
 

@@ -1,10 +1,12 @@
-use Rattle.std.proofs.Common.{◌∙◌, ap, max, subst, sym}
-use Rattle.nm_measure.specs.Delays.{IsKeptPercentile}
-use Rattle.nm_measure.proofs.Percentiles.{shown_percentile}
+use Rattle.std.proofs.Common.{◌∙◌, ap, subst, sym}
+use Rattle.nm_base.specs.Count.{saturated}
+use Rattle.nm_measure.specs.Added.{ShowsPercentile}
+use Rattle.nm_measure.proofs.Percentiles.{shows_percentile}
 use Rattle.nm_measure.proofs.delays.Delays.percentile.Goals as goal
 
-pub returns-clause-some : goal.returns-clause-some
-returns-clause-some c ds h few some share =
+pub returns : goal.returns
+returns c ds h few share =
     let is_rounded = c.args.self.now.spread.is_rounded in
-    subst (IsKeptPercentile ds is_rounded c.args.thousandths) (sym (c.max.ensures ∙ ap (max c.percentile.result) h.least))
-    (shown_percentile ds is_rounded c.args.thousandths c.percentile.result h.fits some share (c.percentile.ensures.some ds (h.spread few) some share))
+    subst (ShowsPercentile ds is_rounded c.args.thousandths) (sym c.max.ensures)
+    (shows_percentile ds is_rounded c.args.thousandths c.percentile.result c.args.self.now.sums.least h.sums.least h.sums.fits share
+    (λ none. c.percentile.ensures.none (h.count ∙ ap saturated none)) (λ some. c.percentile.ensures.some ds (h.spread few) some share))
