@@ -64,9 +64,9 @@ impl Delays {
 
     /// The sum of the absolute differences of the delays of successive arrivals.
     pub fn differences(&self) -> u128
-        ensures { result ≡ self.now.differences }
+        ensures { result ≡ self.now.sums.differences }
     {
-        self.differences
+        self.sums.differences
     }
 
     /// The greatest since this was called last; 0 if there was none.

@@ -14,7 +14,7 @@ pub(crate) struct Sums {
     /// The one that was added last.
     last: u64,
     /// The sum of the differences of successive delays.
-    differences: u128,
+    pub differences: u128,
 }
 
 /// The mean of `count` values, rounded down; 0 if there are none.
