@@ -1,9 +1,12 @@
+mod Added
 mod Advances
 mod Counting
 mod Lists
 mod Nodes
+mod Percentiles
 mod Readings
 mod Rounding
+mod Rows
 mod Turns
 mod Turned
 mod Waitings

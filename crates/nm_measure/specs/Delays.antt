@@ -1,7 +1,8 @@
--- The least of delays that are added one after another.
-use Rattle.std.specs.Prelude.{ℕ, suc, zero, min}
+-- How long packets took.
+use Rattle.std.specs.Prelude.{ℕ, List}
+use Rattle.nm_measure.specs.Added.{AreAdded}
+use Rattle.nm_measure.specs.declared.delays.Delays.{Delays}
 
--- the least of so many delays, with one delay more
-abbrev pub least_after : ℕ → ℕ → ℕ → ℕ
-least_after zero least delay = delay
-least_after (suc n) least delay = min least delay
+-- these are the delays, in the order in which they were added
+abbrev pub AreDelays : List ℕ → Delays → Type 0
+AreDelays ds d = AreAdded ds d.spread d.sums

@@ -1,12 +1,16 @@
 pub mod Amounts
 pub mod Flows
+pub mod Added
 pub mod Delays
+pub mod Spread
+pub mod Sums
 pub mod Measured
 pub mod Queues
 pub mod Busy
 pub mod Usage
 pub mod Waited
 pub mod Waiting
+pub mod Rates
 pub mod Seen
 pub mod Interfaces
 pub mod Lines

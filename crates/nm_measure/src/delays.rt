@@ -1,48 +1,35 @@
 //! How long packets took.
 
-ghost use Rattle.std.specs.Prelude.{◌≡◌, ◌+◌, min, max, OnOk};
+ghost use Rattle.std.specs.Prelude.{◌≡◌, ℕ, ◌+◌, ◌<◌, ◌≤◌, ◌^◌, max, OnOk, List, [], ◌∷◌, ◌++◌, length};
 ghost use Rattle.nm_base.specs.Count.{saturated};
-ghost use Rattle.nm_measure.specs.Delays.{least_after};
+ghost use Rattle.nm_measure.specs.Added.{AreAdded, ShowsPercentile};
+ghost use Rattle.nm_measure.specs.Sums.{jitter_of, least_after, mean_of};
 
 use crate::spread::{Bucket, Spread};
+use crate::sums::Sums;
 use std::alloc::{AllocError, Global};
 
 /// How long packets took, in nanoseconds, added in the order in which they arrived.
 #[derive(Drop)]
 pub struct Delays {
     spread: Spread,
-    least: u64,
-    greatest: u64,
-    /// The sum of all.
-    total: u128,
-    /// The delay of the last packet.
-    last: u64,
-    /// The sum of the differences of successive delays.
-    differences: u128,
+    sums: Sums,
     /// The greatest since it was taken last.
     recent: u64,
-}
-
-/// The mean of `count` values, rounded down; 0 if there are none.
-fn mean_of(total: u128, count: u64) -> u64 {
-    if count == 0 {
-        return 0;
-    }
-    u64::try_from(total / u128::from(count)).unwrap_or(u64::MAX)
+    ghost added: { ∥ ((ds : List ℕ) × AreAdded ds spread sums) ∥₁ },
 }
 
 impl Delays {
+    ghost use Rattle.nm_measure.specs.Delays.{AreDelays};
+
     /// The delays of no packets.
     pub(crate) fn new(alloc: Global) -> Self
-        ensures { result.spread.count ≡ 0 }
+        ensures count { result.spread.count ≡ 0 }
+        ensures none { AreDelays [] result }
     {
         Delays {
             spread: Spread::new(alloc),
-            least: 0,
-            greatest: 0,
-            total: 0,
-            last: 0,
-            differences: 0,
+            sums: Sums::new(),
             recent: 0,
         }
     }
@@ -56,30 +43,30 @@ impl Delays {
 
     /// The least; 0 if there are no packets.
     pub fn least(&self) -> u64
-        ensures { result ≡ self.now.least }
+        ensures { result ≡ self.now.sums.least }
     {
-        self.least
+        self.sums.least
     }
 
     /// The greatest; 0 if there are no packets.
     pub fn greatest(&self) -> u64
-        ensures { result ≡ self.now.greatest }
+        ensures { result ≡ self.now.sums.greatest }
     {
-        self.greatest
+        self.sums.greatest
     }
 
     /// The sum of all.
     pub fn total(&self) -> u128
-        ensures { result ≡ self.now.total }
+        ensures { result ≡ self.now.sums.total }
     {
-        self.total
+        self.sums.total
     }
 
     /// The sum of the absolute differences of the delays of successive arrivals.
     pub fn differences(&self) -> u128
-        ensures { result ≡ self.now.differences }
+        ensures { result ≡ self.now.sums.differences }
     {
-        self.differences
+        self.sums.differences
     }
 
     /// The greatest since this was called last; 0 if there was none.
@@ -99,25 +86,37 @@ impl Delays {
     }
 
     /// The mean, rounded down; 0 if there are no packets.
-    pub fn mean(&self) -> u64 {
-        mean_of(self.total, self.spread.count())
+    pub fn mean(&self) -> u64
+        ensures { (ds : List ℕ) → AreDelays ds self.now → length ds < 2 ^ 64
+            → result ≡ mean_of ds }
+    {
+        self.sums.mean(self.spread.count())
     }
 
     /// The mean absolute difference of the delays of two successive arrivals, rounded down; 0 if
     /// there are fewer than two.
-    pub fn jitter(&self) -> u64 {
-        mean_of(self.differences, self.spread.count().saturating_sub(1))
+    pub fn jitter(&self) -> u64
+        ensures { (ds : List ℕ) → AreDelays ds self.now → length ds < 2 ^ 64
+            → result ≡ jitter_of ds }
+    {
+        self.sums.jitter(self.spread.count())
     }
 
     /// The least delay such that at least so many thousandths of all are at most it (nearest rank);
     /// 0 if there are no packets. If `is_rounded`, it may be less than that, by at most 1/128 of
     /// itself.
-    pub fn percentile(&self, thousandths: u64) -> u64 {
-        self.spread.percentile(thousandths).max(self.least)
+    pub fn percentile(&self, thousandths: u64) -> u64
+        ensures { (ds : List ℕ) → AreDelays ds self.now → length ds < 2 ^ 64
+            → thousandths ≤ 1000
+            → ShowsPercentile ds self.now.spread.is_rounded thousandths result }
+    {
+        self.spread.percentile(thousandths).max(self.sums.least)
     }
 
     /// Whether percentiles are rounded down, since there were more than 1,024 different delays.
-    pub fn is_rounded(&self) -> bool {
+    pub fn is_rounded(&self) -> bool
+        ensures { result ≡ self.now.spread.is_rounded }
+    {
         self.spread.is_rounded()
     }
 
@@ -125,26 +124,21 @@ impl Delays {
     ///
     /// # Errors
     ///
-    /// If memory was refused. The delay may have been noted in part.
+    /// If memory was refused. The delay may have been added.
     pub(crate) fn add(&mut self, delay: u64) -> Result<(), AllocError>
         ensures count { OnOk result (self.new.spread.count
             ≡ saturated (self.old.spread.count + 1)) }
-        ensures least { OnOk result (self.new.least
-            ≡ least_after self.old.spread.count self.old.least delay) }
-        ensures greatest { OnOk result (self.new.greatest ≡ max self.old.greatest delay) }
+        ensures least { OnOk result (self.new.sums.least
+            ≡ least_after self.old.spread.count self.old.sums.least delay) }
+        ensures greatest { OnOk result (self.new.sums.greatest
+            ≡ max self.old.sums.greatest delay) }
+        ensures added { OnOk result ((ds : List ℕ) → AreDelays ds self.old
+            → AreDelays (ds ++ delay ∷ []) self.new) }
     {
-        if self.spread.count() == 0 {
-            self.least = delay;
-        } else {
-            self.least = delay.min(self.least);
-            self.differences = self
-                .differences
-                .saturating_add(u128::from(delay.abs_diff(self.last)));
-        }
-        self.greatest = self.greatest.max(delay);
+        let before = self.spread.count();
+        self.spread.add(delay)?;
+        self.sums.add(before, delay);
         self.recent = self.recent.max(delay);
-        self.total = self.total.saturating_add(u128::from(delay));
-        self.last = delay;
-        self.spread.add(delay)
+        self.spread.round_many()
     }
 }

@@ -1,7 +1,9 @@
 //! How much of what a source sent arrived, and how late.
 
-ghost use Rattle.std.specs.Prelude.{◌≡◌, ◌+◌, OnOk};
+ghost use Rattle.std.specs.Prelude.{◌≡◌, ℕ, ◌+◌, ◌-◌, OnOk, List, [], ◌∷◌, ◌++◌};
 ghost use Rattle.nm_base.specs.Count.{saturated};
+ghost use Rattle.nm_measure.specs.Delays.{AreDelays};
+ghost use Rattle.nm_measure.specs.Rates.{rate_between};
 
 use crate::delays::Delays;
 use nm_base::Time;
@@ -23,13 +25,17 @@ pub struct FlowTimes {
 }
 
 /// How many nanoseconds a later time is after an earlier one.
-fn nanoseconds_between(earlier: Time, later: Time) -> u64 {
+fn nanoseconds_between(earlier: Time, later: Time) -> u64
+    ensures { result ≡ later - earlier }
+{
     later.nanoseconds().saturating_sub(earlier.nanoseconds())
 }
 
 /// The rate of so many octets, in bits per second, from one time to another, rounded down; 0 where
 /// that is no time.
-pub fn rate_of(octets: u64, from: Option<Time>, until: Time) -> u64 {
+pub fn rate_of(octets: u64, from: Option<Time>, until: Time) -> u64
+    ensures { result ≡ rate_between octets from until }
+{
     let Some(from) = from else {
         return 0;
     };
@@ -43,7 +49,10 @@ pub fn rate_of(octets: u64, from: Option<Time>, until: Time) -> u64 {
 
 impl FlowTimes {
     /// Nothing was sent.
-    pub(crate) fn new(alloc: Global) -> Self {
+    pub(crate) fn new(alloc: Global) -> Self
+        ensures delays { AreDelays [] result.delays }
+        ensures trips { AreDelays [] result.round_trips }
+    {
         FlowTimes {
             octets: 0,
             begun: None,
@@ -76,13 +85,17 @@ impl FlowTimes {
 
     /// The rate of delivery, in bits per second, from the source's first event to the last arrival,
     /// rounded down; 0 if no time is between.
-    pub fn rate(&self) -> u64 {
+    pub fn rate(&self) -> u64
+        ensures { result ≡ rate_between self.now.octets self.now.begun self.now.ended }
+    {
         rate_of(self.octets, self.begun, self.ended)
     }
 
     /// The source had an event.
     pub(crate) fn begin(&mut self, now: Time)
-        ensures { self.new.octets ≡ self.old.octets }
+        ensures octets { self.new.octets ≡ self.old.octets }
+        ensures delays { self.new.delays ≡ self.old.delays }
+        ensures trips { self.new.round_trips ≡ self.old.round_trips }
     {
         if self.begun.is_none() {
             self.begun = Some(now);
@@ -98,6 +111,9 @@ impl FlowTimes {
         ensures octets { self.new.octets ≡ saturated (self.old.octets + octets) }
         ensures count { OnOk result (self.new.delays.spread.count
             ≡ saturated (self.old.delays.spread.count + 1)) }
+        ensures added { OnOk result ((ds : List ℕ) → AreDelays ds self.old.delays
+            → AreDelays (ds ++ (now - sent) ∷ []) self.new.delays) }
+        ensures trips { self.new.round_trips ≡ self.old.round_trips }
     {
         self.octets = self.octets.saturating_add(octets);
         self.ended = now;
@@ -113,6 +129,9 @@ impl FlowTimes {
         ensures octets { self.new.octets ≡ self.old.octets }
         ensures count { OnOk result (self.new.round_trips.spread.count
             ≡ saturated (self.old.round_trips.spread.count + 1)) }
+        ensures added { OnOk result ((ds : List ℕ) → AreDelays ds self.old.round_trips
+            → AreDelays (ds ++ (now - sent) ∷ []) self.new.round_trips) }
+        ensures delays { self.new.delays ≡ self.old.delays }
     {
         self.round_trips.add(nanoseconds_between(sent, now))
     }

@@ -20,6 +20,7 @@ pub mod queue;
 pub mod seen;
 pub mod share;
 pub mod spread;
+mod sums;
 mod tag;
 pub mod totals;
 pub mod usage;

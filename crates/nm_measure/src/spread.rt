@@ -1,7 +1,10 @@
 //! How often each delay occurred.
 
-ghost use Rattle.std.specs.Prelude.{◌≡◌, ◌≤◌, ◌<◌, ◌+◌, ◌-◌, ◌*◌, ◌^◌, OnOk, OnErr, IfOk, sum_by};
+ghost use Rattle.std.specs.Prelude.{◌≡◌, ℕ, ◌≤◌, ◌<◌, ◌+◌, ◌-◌, ◌*◌, ◌^◌, Bool, true, if◌then◌else◌};
+ghost use Rattle.std.specs.Prelude.{OnOk, OnErr, IfOk, List, [], ◌∷◌, ◌++◌, length, map};
+ghost use Rattle.std.specs.List.Sorted.{IsNonDecreasingBy};
 ghost use Rattle.nm_base.specs.Count.{saturated};
+ghost use Rattle.nm_measure.specs.Spread.{IsPercentile, IsSpread, kept, rank_of, rounded_down, times_of};
 
 use std::alloc::{AllocError, Global};
 
@@ -41,11 +44,13 @@ pub(crate) struct Spread {
     /// How many delays were added, up to 2^64 - 1.
     count: u64,
     is_rounded: bool,
-    ghost all: { sum_by (λ r. r.times) rows.items ≡ count },
+    ghost all: { times_of (λ _. true) rows.items ≡ count },
+    ghost rise: { IsNonDecreasingBy (λ r. r.delay) rows.items },
 }
 
 /// A delay, rounded down to its eight highest bits: by at most 1/128 of the result.
 fn rounded(delay: u64) -> u64
+    ensures exact { result ≡ rounded_down delay }
     ensures most { result ≤ delay }
     ensures near { 128 * (delay - result) ≤ result }
 {
@@ -55,6 +60,13 @@ fn rounded(delay: u64) -> u64
     }
     let step = 1u64 << (bits - KEPT_BITS);
     delay - delay % step
+}
+
+/// A delay as it is kept.
+fn kept(is_rounded: bool, delay: u64) -> u64
+    ensures { result ≡ kept is_rounded delay }
+{
+    if is_rounded { rounded(delay) } else { delay }
 }
 
 /// The greatest delay that is rounded down to this one.
@@ -71,9 +83,11 @@ fn greatest_of(rounded: u64) -> u64
 
 /// Notes that a delay occurred so many times more.
 fn note(rows: &mut Vec<Row>, delay: u64, times: u64) -> Result<(), AllocError>
-    requires { sum_by (λ r. r.times) rows.old.items + times < 2 ^ 64 }
-    ensures more { OnOk result (sum_by (λ r. r.times) rows.new.items
-        ≡ sum_by (λ r. r.times) rows.old.items + times) }
+    requires fits { times_of (λ _. true) rows.old.items + times < 2 ^ 64 }
+    requires rise { IsNonDecreasingBy (λ r. r.delay) rows.old.items }
+    ensures more { OnOk result ((test : ℕ → Bool) → times_of test rows.new.items
+        ≡ times_of test rows.old.items + (if test delay then times else 0)) }
+    ensures rise { OnOk result (IsNonDecreasingBy (λ r. r.delay) rows.new.items) }
     ensures same { OnErr result (rows.new.items ≡ rows.old.items) }
 {
     let place = rows.partition_point(|row| row.delay < delay);
@@ -87,9 +101,10 @@ fn note(rows: &mut Vec<Row>, delay: u64, times: u64) -> Result<(), AllocError>
 
 /// The rows with each delay rounded.
 fn rounded_rows(alloc: Global, rows: &[Row]) -> Result<Vec<Row>, AllocError>
-    requires { sum_by (λ r. r.times) rows.now < 2 ^ 64 }
-    ensures { IfOk result (λ all. sum_by (λ r. r.times) all.items
-        ≡ sum_by (λ r. r.times) rows.now) }
+    requires { times_of (λ _. true) rows.now < 2 ^ 64 }
+    ensures times { IfOk result (λ all. (test : ℕ → Bool)
+        → times_of test all.items ≡ times_of (λ d. test (rounded_down d)) rows.now) }
+    ensures rise { IfOk result (λ all. IsNonDecreasingBy (λ r. r.delay) all.items) }
 {
     let mut all = Vec::new(alloc);
     for row in rows {
@@ -100,7 +115,10 @@ fn rounded_rows(alloc: Global, rows: &[Row]) -> Result<Vec<Row>, AllocError>
 
 /// How many of `count` delays must be at most the percentile of so many thousandths: that share,
 /// rounded up, and one at least (nearest rank).
-fn rank_of(count: u64, thousandths: u64) -> u64 {
+fn rank_of(count: u64, thousandths: u64) -> u64
+    ensures exact { thousandths ≤ 1000 → result ≡ rank_of count thousandths }
+    ensures some { 1 ≤ result }
+{
     let asked = (u128::from(count) * u128::from(thousandths)).div_ceil(1_000);
     u64::try_from(asked).unwrap_or(u64::MAX).max(1)
 }
@@ -108,7 +126,8 @@ fn rank_of(count: u64, thousandths: u64) -> u64 {
 impl Spread {
     /// No delays.
     pub(crate) fn new(alloc: Global) -> Self
-        ensures { result.count ≡ 0 }
+        ensures count { result.count ≡ 0 }
+        ensures none { IsSpread [] result.rows.items result.is_rounded }
     {
         Spread {
             alloc,
@@ -126,7 +145,9 @@ impl Spread {
     }
 
     /// Whether delays were rounded.
-    pub(crate) fn is_rounded(&self) -> bool {
+    pub(crate) fn is_rounded(&self) -> bool
+        ensures { result ≡ self.now.is_rounded }
+    {
         self.is_rounded
     }
 
@@ -149,30 +170,51 @@ impl Spread {
     ///
     /// # Errors
     ///
-    /// If memory was refused. The delay may have been noted.
+    /// If memory was refused. Nothing has changed then.
     pub(crate) fn add(&mut self, delay: u64) -> Result<(), AllocError>
-        ensures { OnOk result (self.new.count ≡ saturated (self.old.count + 1)) }
+        ensures count { OnOk result (self.new.count ≡ saturated (self.old.count + 1)) }
+        ensures added { OnOk result ((ds : List ℕ) → length ds + 1 < 2 ^ 64
+            → IsSpread ds self.old.rows.items self.old.is_rounded
+            → IsSpread (ds ++ delay ∷ []) self.new.rows.items self.new.is_rounded) }
+        ensures rows_stay { OnErr result (self.new.rows.items ≡ self.old.rows.items) }
+        ensures count_stays { OnErr result (self.new.count ≡ self.old.count) }
+        ensures kind_stays { OnErr result (self.new.is_rounded ≡ self.old.is_rounded) }
     {
         if self.count == u64::MAX {
             return Ok(());
         }
-        let kept = if self.is_rounded {
-            rounded(delay)
-        } else {
-            delay
-        };
-        note(&mut self.rows, kept, 1)?;
+        note(&mut self.rows, kept(self.is_rounded, delay), 1)?;
         self.count += 1;
-        if !self.is_rounded && self.rows.len() > EXACT_ROWS {
-            self.rows = rounded_rows(self.alloc, self.rows.as_slice())?;
-            self.is_rounded = true;
+        Ok(())
+    }
+
+    /// Rounds all delays if there are too many different ones.
+    ///
+    /// # Errors
+    ///
+    /// If memory was refused. Nothing has changed then.
+    pub(crate) fn round_many(&mut self) -> Result<(), AllocError>
+        ensures count { self.new.count ≡ self.old.count }
+        ensures same { (ds : List ℕ) → IsSpread ds self.old.rows.items self.old.is_rounded
+            → IsSpread ds self.new.rows.items self.new.is_rounded }
+    {
+        if self.is_rounded || self.rows.len() <= EXACT_ROWS {
+            return Ok(());
         }
+        let _count = self.count; // no more than 2^64 - 1
+        self.rows = rounded_rows(self.alloc, self.rows.as_slice())?;
+        self.is_rounded = true;
         Ok(())
     }
 
     /// The least kept delay such that at least so many thousandths of all are at most it (nearest
     /// rank); 0 if there are none.
-    pub(crate) fn percentile(&self, thousandths: u64) -> u64 {
+    pub(crate) fn percentile(&self, thousandths: u64) -> u64
+        ensures none { self.now.count ≡ 0 → result ≡ 0 }
+        ensures some { (ds : List ℕ) → IsSpread ds self.now.rows.items self.now.is_rounded
+            → 0 < length ds → thousandths ≤ 1000
+            → IsPercentile (map (kept self.now.is_rounded) ds) thousandths result }
+    {
         let rank = rank_of(self.count, thousandths);
         let mut passed = 0u64;
         for row in &self.rows {

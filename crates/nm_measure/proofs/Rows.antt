@@ -1,0 +1,146 @@
+-- Rows of delays: how often each occurs, in rising order.
+use Rattle.std.proofs.Common.{◌≡◌, ℕ, zero, suc, ◌+◌, ◌*◌, ◌/◌, ◌%◌, ◌<◌, ◌≤◌, min, max, Bool, true, false, cond, leb, ltb, List, [], ◌∷◌, ◌++◌, length, get_or, take, map, insert, count_by, sum_by, refl, sym, ap, ◌∙◌, subst, arith, rules}
+use Rattle.std.specs.List.{AllWithin}
+use Rattle.std.specs.List.Sorted.{IsNonDecreasingBy, IsPartitionPoint}
+use Rattle.std.proofs.Math.Nat.{mul-le-mul_left}
+use Rattle.std.proofs.lemmas.Bool.{le-leb, le-ltb, ltb-false, ltb-true}
+use Rattle.std.proofs.lemmas.List.{get_or_default, length-map, take_all}
+use Rattle.std.proofs.lemmas.List.Sorted.{IsNonDecreasingBy-insert}
+use Rattle.std.proofs.lemmas.List.Sums.{count_by-le-length, sum_by-cons, sum_by_more, sum_by_push}
+use Rattle.nm_measure.specs.declared.spread.Row.{Row}
+use Rattle.nm_measure.specs.Spread.{IsPercentile, IsSpread, kept, rank_of, rounded_down, times_of}
+
+-- a row is put behind those of less delay
+pub inserted_rises : (rows : List Row) (i : ℕ) (row : Row) → IsNonDecreasingBy (λ (r : Row). r.delay) rows → i ≤ length rows
+    → IsPartitionPoint (λ (r : Row). ltb r.delay row.delay ≡ true) (λ (r : Row). ltb r.delay row.delay ≡ false) rows i
+    → IsNonDecreasingBy (λ (r : Row). r.delay) (insert rows i row)
+inserted_rises rows i row rise low h = IsNonDecreasingBy-insert (λ (r : Row). r.delay) rows i row rise low
+    (λ k d l. let m = ltb-true (get_or rows k d).delay row.delay (h.0 k d (omega arith) l) in omega (arith, m))
+    (λ k d l m. ltb-false (get_or rows k d).delay row.delay (h.1 k d l m))
+
+-- one delay more
+pub spread_added : (ds : List ℕ) (old new : List Row) (d k : ℕ) (is_rounded : Bool) → IsSpread ds old is_rounded → k ≡ kept is_rounded d
+    → ((test : ℕ → Bool) → times_of test new ≡ times_of test old + cond (test k) 1 0)
+    → IsSpread (ds ++ d ∷ []) new is_rounded
+spread_added ds old new d k is_rounded h is more = record {
+  times = λ test. more test ∙ ap (λ n. n + cond (test k) 1 0) (h.times test)
+      ∙ ap (λ n. count_by (λ x. test (kept is_rounded x)) ds + cond (test n) 1 0) is
+      ∙ sym (sum_by_push (λ x. cond (test (kept is_rounded x)) 1 0) ds d);
+}
+
+-- all are rounded
+pub spread_rounded : (ds : List ℕ) (old new : List Row) → IsSpread ds old false
+    → ((test : ℕ → Bool) → times_of test new ≡ times_of (λ d. test (rounded_down d)) old)
+    → IsSpread ds new true
+spread_rounded ds old new h all = record { times = λ test. all test ∙ h.times (λ d. test (rounded_down d)) }
+
+pub count_all : (ds : List ℕ) → count_by (λ d. true) ds ≡ length ds
+count_all [] = refl
+count_all (d ∷ ds) = let e = sum_by-cons (λ (x : ℕ). cond true 1 0) d ds in let f = count_all ds in omega (arith, e, f)
+
+pub count_map : (test : ℕ → Bool) (f : ℕ → ℕ) (ds : List ℕ) → count_by test (map f ds) ≡ count_by (λ d. test (f d)) ds
+count_map test f [] = refl
+count_map test f (d ∷ ds) =
+    sum_by-cons (λ x. cond (test x) 1 0) (f d) (map f ds) ∙ ap (λ n. cond (test (f d)) 1 0 + n) (count_map test f ds)
+    ∙ sym (sum_by-cons (λ x. cond (test (f x)) 1 0) d ds)
+
+-- rows count as many delays as there are
+pub spread_count : (ds : List ℕ) (rows : List Row) (is_rounded : Bool) → IsSpread ds rows is_rounded
+    → times_of (λ d. true) rows ≡ length ds
+spread_count ds rows is_rounded h = h.times (λ d. true) ∙ count_all ds
+
+-- the first rows count no more than those that pass, if each of them passes
+pub upto : (test : ℕ → Bool) (rows : List Row) (k : ℕ)
+    → ((j : ℕ) (r : Row) → j < k → j < length rows → test (get_or rows j r).delay ≡ true)
+    → times_of (λ d. true) (take k rows) ≤ times_of test rows
+upto test [] zero h = omega arith
+upto test [] (suc k) h = omega arith
+upto test (r ∷ rows) zero h = omega arith
+upto test (r ∷ rows) (suc k) h =
+    let here : test r.delay ≡ true = h 0 r (omega arith) (omega arith) in
+    let more : times_of (λ d. true) (take k rows) ≤ times_of test rows =
+    upto test rows k (λ j d l m. h (suc j) d (omega (arith, l)) (omega (arith, m))) in
+    let left : times_of (λ d. true) (r ∷ take k rows) ≡ r.times + times_of (λ d. true) (take k rows) =
+    sum_by-cons (λ (x : Row). x.times) r (take k rows) in
+    let right : times_of test (r ∷ rows) ≡ cond (test r.delay) r.times 0 + times_of test rows =
+    sum_by-cons (λ (x : Row). cond (test x.delay) x.times 0) r rows in
+    let is : cond (test r.delay) r.times 0 ≡ r.times = ap (λ b. cond b r.times 0) here in
+    omega (arith, left, right, is, more)
+
+part_le : (b : Bool) (n : ℕ) → cond b n 0 ≤ n
+part_le true n = omega arith
+part_le false n = omega arith
+
+-- those that pass count no more than the first rows, if none of the others passes
+pub before : (test : ℕ → Bool) (rows : List Row) (k : ℕ)
+    → ((j : ℕ) (r : Row) → k ≤ j → j < length rows → test (get_or rows j r).delay ≡ false)
+    → times_of test rows ≤ times_of (λ d. true) (take k rows)
+before test [] k h = omega arith
+before test (r ∷ rows) zero h =
+    let here : test r.delay ≡ false = h 0 r (omega arith) (omega arith) in
+    let more : times_of test rows ≤ times_of (λ d. true) (take 0 rows) =
+    before test rows 0 (λ j d l m. h (suc j) d (omega arith) (omega (arith, m))) in
+    let right : times_of test (r ∷ rows) ≡ cond (test r.delay) r.times 0 + times_of test rows =
+    sum_by-cons (λ (x : Row). cond (test x.delay) x.times 0) r rows in
+    let is : cond (test r.delay) r.times 0 ≡ 0 = ap (λ b. cond b r.times 0) here in
+    omega (arith, right, is, more)
+before test (r ∷ rows) (suc k) h =
+    let more : times_of test rows ≤ times_of (λ d. true) (take k rows) =
+    before test rows k (λ j d l m. h (suc j) d (omega (arith, l)) (omega (arith, m))) in
+    let left : times_of (λ d. true) (r ∷ take k rows) ≡ r.times + times_of (λ d. true) (take k rows) =
+    sum_by-cons (λ (x : Row). x.times) r (take k rows) in
+    let right : times_of test (r ∷ rows) ≡ cond (test r.delay) r.times 0 + times_of test rows =
+    sum_by-cons (λ (x : Row). cond (test x.delay) x.times 0) r rows in
+    let part = part_le (test r.delay) r.times in
+    omega (arith, left, right, part, more)
+
+reaches : (rank' rank first all count : ℕ) → rank' ≡ rank → rank ≤ first → first ≤ all → count ≡ all → rank' ≤ count
+reaches rank' rank first all count e l m f = omega arith
+
+fewer : (rank' rank first all count : ℕ) → rank' ≡ rank → first < rank → all ≤ first → count ≡ all → count < rank'
+fewer rank' rank first all count e l m f = omega arith
+
+-- the delay of the row with which the rank is reached
+pub percentile_at : (ds : List ℕ) (rows : List Row) (is_rounded : Bool) (thousandths i : ℕ) (d : Row)
+    → IsSpread ds rows is_rounded → IsNonDecreasingBy (λ (r : Row). r.delay) rows → i < length rows
+    → times_of (λ d. true) (take i rows) < rank_of (length ds) thousandths
+    → rank_of (length ds) thousandths ≤ times_of (λ d. true) (take (i + 1) rows)
+    → IsPercentile (map (kept is_rounded) ds) thousandths (get_or rows i d).delay
+percentile_at ds rows is_rounded thousandths i d h rise low few reach =
+    let row = get_or rows i d in
+    let count : length (map (kept is_rounded) ds) ≡ length ds = length-map ds (kept is_rounded) in
+    let rank : rank_of (length (map (kept is_rounded) ds)) thousandths ≡ rank_of (length ds) thousandths =
+    ap (λ n. rank_of n thousandths) count in
+    let same : (r : Row) → row.delay ≡ (get_or rows i r).delay =
+    λ r. ap (λ (x : Row). x.delay) (get_or_default rows i d r low) in
+    let most : times_of (λ d. true) (take (i + 1) rows) ≤ times_of (λ d. leb d row.delay) rows =
+    upto (λ d. leb d row.delay) rows (i + 1)
+    (λ j r l m. le-leb (get_or rows j r).delay row.delay
+    (let e = rise j i r (omega (arith, l)) low in let f = same r in omega (arith, e, f))) in
+    let less : times_of (λ d. ltb d row.delay) rows ≤ times_of (λ d. true) (take i rows) =
+    before (λ d. ltb d row.delay) rows i
+    (λ j r l m. le-ltb (get_or rows j r).delay row.delay
+    (let e = rise i j r l m in let f = same r in omega (arith, e, f))) in
+    let upper : count_by (λ d. leb d row.delay) (map (kept is_rounded) ds) ≡ times_of (λ d. leb d row.delay) rows =
+    count_map (λ d. leb d row.delay) (kept is_rounded) ds ∙ sym (h.times (λ d. leb d row.delay)) in
+    let lower : count_by (λ d. ltb d row.delay) (map (kept is_rounded) ds) ≡ times_of (λ d. ltb d row.delay) rows =
+    count_map (λ d. ltb d row.delay) (kept is_rounded) ds ∙ sym (h.times (λ d. ltb d row.delay)) in
+    record {
+      enough = reaches _ _ _ _ _ rank reach most upper;
+      least = fewer _ _ _ _ _ rank few less lower;
+    }
+
+-- the rank is no more than there are
+share_within : (x count : ℕ) → x ≤ count * 1000 → 0 < count → max (x / 1000 + min 1 (x % 1000)) 1 ≤ count
+share_within x count most some = omega arith
+
+pub rank_within : (count thousandths : ℕ) → 0 < count → thousandths ≤ 1000 → rank_of count thousandths ≤ count
+rank_within count thousandths some share = share_within (count * thousandths) count (mul-le-mul_left count share) some
+
+-- the sum so far, with one row more
+pub sum_reached : (rank passed more next : ℕ) → rank ≤ min (passed + more) 18446744073709551615 → next ≡ passed + more → rank ≤ next
+sum_reached rank passed more next h is = omega arith
+
+-- all rows were passed
+pub all_passed : (rows : List Row) (i : ℕ) → length rows ≤ i → times_of (λ d. true) (take i rows) ≡ times_of (λ d. true) rows
+all_passed rows i past = ap (times_of (λ d. true)) (take_all i rows past)
