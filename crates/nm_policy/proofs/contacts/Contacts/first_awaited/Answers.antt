@@ -1,4 +1,4 @@
-use Rattle.std.proofs.Common.{rules, ◌≡◌, ◌≤◌, ℕ, false, length, arith, ap, sym, ◌∙◌, below_more}
+use Rattle.std.proofs.Common.{rules, ◌≡◌, ◌≤◌, false, length, arith, below_more}
 use Rattle.nm_policy.specs.Awaited.{is_awaited_at}
 use Rattle.nm_policy.proofs.Waiting.{none_awaited}
 use Rattle.nm_policy.proofs.contacts.Contacts.first_awaited.Goals as goal
