@@ -3,3 +3,4 @@ pub mod Changing
 pub mod Events
 pub mod Greets
 pub mod Periods
+pub mod Waiting
