@@ -20,7 +20,9 @@ use Rattle.nm_measure.specs.declared.seen.Seen.{Seen}
 use Rattle.nm_measure.specs.Amounts.{AreTraffic}
 use Rattle.nm_measure.specs.Interfaces.{AreOwn, AreSeen, IsNext}
 use Rattle.nm_measure.specs.Measured.{HasCountedAll, IsCounted, IsMeasuredBefore, IsMeasuring, MeasuredValue}
+use Rattle.nm_measure.specs.Sent.{AreSent, sent_after}
 use Rattle.nm_measure.proofs.Counting.{counted_step}
+use Rattle.nm_measure.proofs.Making.{sent_next}
 use Rattle.nm_measure.proofs.Readings.{event_of}
 
 later : {P : Type 0} (from until : ℕ) (o : Option (Key × Event P)) → from ≤ until → is_before from o ≡ true → is_before until o ≡ true
@@ -31,7 +33,7 @@ module _ (t : TopologyValue) where
   -- from a time on
   pub measuring_first : (from until : ℕ) (m : MeasuredValue) → IsMeasuredBefore t from m → from ≤ until → (seen : List Seen) (own : List (List ℕ))
       → ((first n : ℕ) → AreSeen t first n m.seen → AreSeen t n n seen) → own ≡ m.own
-      → IsMeasuring t m.part.steps until (record { part = m.part; traffic = m.traffic; seen = seen; own = own })
+      → IsMeasuring t m.part.steps until (record m { seen = seen; own = own })
   measuring_first from until m h le seen own begins same = record {
     events = h.events;
     early = λ n l. later from until (least (one_list (net_of t) n).pending) le (h.over.first n l);
@@ -44,6 +46,7 @@ module _ (t : TopologyValue) where
     steps = h.steps;
     seen = subst (λ f. AreSeen t f h.events seen) (sym h.steps) (begins h.first h.events h.seen);
     own = subst (AreOwn t) (sym same) h.own;
+    sent = h.sent;
   }
 
   module _ (first until : ℕ) (m : MeasuredValue) (h : IsMeasuring t first until m) (q : PartValue Held) (key : Key)
@@ -80,11 +83,11 @@ module _ (t : TopologyValue) where
     counted_next keeping = counted_step t (one_list (net_of t) h.events) m.part q m.traffic h.counted h.all after keeping
 
     -- one event later
-    pub measuring_next : (p : PartValue Held) (traffic : List IfaceTraffic) (seen : List Seen) (own : List (List ℕ))
+    pub measuring_next : (p : PartValue Held) (traffic : List IfaceTraffic) (seen : List Seen) (own : List (List ℕ)) (sent : List ℕ)
         → IsCounted t (one_list (net_of t) (suc h.events)) p traffic → HasCountedAll p (one_list (net_of t) (suc h.events))
-        → p.steps ≡ m.part.steps + 1 → AreSeen t first (suc h.events) seen → own ≡ m.own
-        → IsMeasuring t first until (record { part = p; traffic = traffic; seen = seen; own = own })
-    measuring_next p traffic seen own counted all steps sees same = record {
+        → p.steps ≡ m.part.steps + 1 → AreSeen t first (suc h.events) seen → own ≡ m.own → sent ≡ sent_after key.place m.sent
+        → IsMeasuring t first until (record { part = p; traffic = traffic; seen = seen; own = own; sent = sent })
+    measuring_next p traffic seen own sent counted all steps sees same made = record {
       events = suc h.events;
       early = λ n l. ⊎_elim
           (λ before. h.early n before)
@@ -95,4 +98,6 @@ module _ (t : TopologyValue) where
       steps = let s = h.steps in omega (arith, steps, s);
       seen = sees;
       own = subst (AreOwn t) (sym same) h.own;
+      sent = subst (AreSent t (suc h.events)) (sym made)
+          (sent_next t h.events m.sent h.sent the_event.0 key.place the_event.1 (ap (λ k. k.place) the_event.2));
     }

@@ -2,6 +2,7 @@ mod Added
 mod Advances
 mod Counting
 mod Lists
+mod Making
 mod Nodes
 mod Percentiles
 mod Readings

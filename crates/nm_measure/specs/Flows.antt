@@ -1,5 +1,5 @@
 -- What became of the packets of a source.
-use Rattle.std.specs.Prelude.{◌≡◌, ℕ, ◌+◌, ◌-◌, List, [], ◌∷◌}
+use Rattle.std.specs.Prelude.{◌≡◌, ℕ, ◌+◌, ◌-◌, List, [], ◌∷◌, map}
 use Rattle.nm_measure.specs.declared.flow_counts.FlowCounts.{FlowCounts}
 use Rattle.nm_measure.specs.declared.flow_counts.PacketOutcome.{PacketOutcome}
 use Rattle.nm_measure.specs.declared.flow_counts.PacketOutcome.TheVariants.{Delivered, Refused, Dropped, Discarded}
@@ -11,6 +11,10 @@ Balances f = f.sent ≡ f.delivered + f.refused + f.dropped + f.discarded + f.un
 -- how many were sent, delivered, refused, dropped and discarded, and are under way
 abbrev pub counts_of : FlowCounts → List ℕ
 counts_of f = f.sent ∷ f.delivered ∷ f.refused ∷ f.dropped ∷ f.discarded ∷ f.under_way ∷ []
+
+-- how many packets each source made
+abbrev pub sent_of : List FlowCounts → List ℕ
+sent_of counts = map (λ f. f.sent) counts
 
 -- a packet that was under way ended so, and nothing else changed
 abbrev pub Ends : PacketOutcome → FlowCounts → FlowCounts → Type 0

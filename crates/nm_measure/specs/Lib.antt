@@ -2,6 +2,7 @@ pub mod Amounts
 pub mod Flows
 pub mod Added
 pub mod Delays
+pub mod Sent
 pub mod Spread
 pub mod Sums
 pub mod Measured

@@ -12,6 +12,7 @@ use Rattle.nm_sim.specs.Part.{PartValue, Represents}
 use Rattle.nm_measure.specs.Amounts.{AreTraffic}
 use Rattle.nm_measure.specs.Interfaces.{AreOwn, AreSeen}
 use Rattle.nm_measure.specs.declared.amounts.IfaceTraffic.{IfaceTraffic}
+use Rattle.nm_measure.specs.Sent.{AreSent}
 use Rattle.nm_measure.specs.declared.seen.Seen.{Seen}
 
 pub record MeasuredValue : Type 0 where
@@ -20,6 +21,8 @@ pub record MeasuredValue : Type 0 where
   pub seen : List Seen
   -- the interfaces of each node
   pub own : List (List ℕ)
+  -- how many packets each source made
+  pub sent : List ℕ
 
 -- all records of this state were handed out
 abbrev pub HasCountedAll : PartValue Held → State (List ℕ) NodeStateValue → Type 0
@@ -47,6 +50,7 @@ pub record IsMeasuring (t : TopologyValue) (first until : ℕ) (m : MeasuredValu
   pub steps : m.part.steps ≡ events
   pub seen : AreSeen t first events m.seen
   pub own : AreOwn t m.own
+  pub sent : AreSent t events m.sent
 
 -- the whole network after all events of its one event list that are before this time, and the
 -- traffic of all their records
@@ -62,6 +66,7 @@ pub record IsMeasuredBefore (t : TopologyValue) (until : ℕ) (m : MeasuredValue
   pub first : ℕ
   pub seen : AreSeen t first events m.seen
   pub own : AreOwn t m.own
+  pub sent : AreSent t events m.sent
 
 -- the same after a step that began at this time: the most that waited recently count since then
 pub record IsMeasuredStep (t : TopologyValue) (from until : ℕ) (m : MeasuredValue) : Type 0 where

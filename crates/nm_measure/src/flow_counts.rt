@@ -50,7 +50,7 @@ impl FlowCounts {
 
     /// The source makes one more packet, which is under way. From 2^64 - 1 on no more are counted.
     pub(crate) fn send(&mut self)
-        ensures sent { self.old.sent + 1 < 2 ^ 64 → self.new.sent ≡ self.old.sent + 1 }
+        ensures sent { self.new.sent ≡ saturated (self.old.sent + 1) }
         ensures way { self.old.sent + 1 < 2 ^ 64 → self.new.under_way ≡ self.old.under_way + 1 }
     {
         if self.sent < u64::MAX {
@@ -64,6 +64,7 @@ impl FlowCounts {
         ensures ends { 0 < self.old.under_way → Ends outcome self.old self.new }
         ensures none { self.old.under_way ≡ 0 → counts_of self.new ≡ counts_of self.old }
         ensures result { result ≡ ltb 0 self.old.under_way }
+        ensures sent { self.new.sent ≡ self.old.sent }
         ensures astray { self.new.astray ≡ self.old.astray }
     {
         if self.under_way == 0 {
@@ -82,6 +83,7 @@ impl FlowCounts {
     /// An echo reply arrived at another node than the source's.
     pub(crate) fn go_astray(&mut self)
         ensures same { counts_of self.new ≡ counts_of self.old }
+        ensures sent { self.new.sent ≡ self.old.sent }
         ensures astray { self.new.astray ≡ saturated (self.old.astray + 1) }
     {
         self.astray = self.astray.saturating_add(1);

@@ -1,5 +1,9 @@
 //! What becomes of the packets of all sources.
 
+ghost use Rattle.std.specs.Prelude.{◌≡◌, IfOk, slice_get};
+ghost use Rattle.nm_measure.specs.Flows.{sent_of};
+ghost use Rattle.nm_measure.specs.Sent.{AreSent, with_sent};
+
 use crate::flow_counts::{FlowCounts, PacketOutcome};
 use crate::flow_times::FlowTimes;
 use crate::tag::{Role, Tag};
@@ -44,7 +48,9 @@ fn no_times(alloc: Global, sources: usize) -> Result<Vec<FlowTimes>, AllocError>
 
 impl Flows {
     /// Nothing was sent yet.
-    pub(crate) fn new(alloc: Global, topology: &Topology) -> Result<Self, AllocError> {
+    pub(crate) fn new(alloc: Global, topology: &Topology) -> Result<Self, AllocError>
+        ensures { IfOk result (λ f. AreSent topology.now 0 (sent_of f.counts.items)) }
+    {
         let sources = topology.sources().len();
         Ok(Flows {
             homes: homes_of(alloc, topology)?,
@@ -54,7 +60,9 @@ impl Flows {
     }
 
     /// What became of the packets of a source.
-    pub(crate) fn counts(&self, source: SourceNo) -> Option<FlowCounts> {
+    pub(crate) fn counts(&self, source: SourceNo) -> Option<FlowCounts>
+        ensures { result ≡ slice_get self.now.counts.items source }
+    {
         self.counts.get(source.index()).copied()
     }
 
@@ -64,7 +72,9 @@ impl Flows {
     }
 
     /// A source makes a packet. Answers its tag.
-    pub(crate) fn send(&mut self, source: SourceNo, now: Time) -> Tag {
+    pub(crate) fn send(&mut self, source: SourceNo, now: Time) -> Tag
+        ensures { sent_of self.new.counts.items ≡ with_sent source (sent_of self.old.counts.items) }
+    {
         let mut number = 0;
         if let Some(counts) = self.counts.get_mut(source.index()) {
             number = counts.sent;
@@ -78,7 +88,9 @@ impl Flows {
 
     /// The greatest delay of a source's packets that arrived since this was called last; 0 if none
     /// did.
-    pub(crate) fn take_greatest(&mut self, source: SourceNo) -> u64 {
+    pub(crate) fn take_greatest(&mut self, source: SourceNo) -> u64
+        ensures { self.new.counts ≡ self.old.counts }
+    {
         match self.times.get_mut(source.index()) {
             Some(times) => times.delays.take_recent(),
             None => 0,
@@ -87,7 +99,9 @@ impl Flows {
 
     /// The packet of a tag ends so, if it is a source's. Answers the source and the time of its
     /// event, if the packet was under way.
-    pub(crate) fn end(&mut self, tag: &Tag, outcome: PacketOutcome) -> Option<(SourceNo, Time)> {
+    pub(crate) fn end(&mut self, tag: &Tag, outcome: PacketOutcome) -> Option<(SourceNo, Time)>
+        ensures { sent_of self.new.counts.items ≡ sent_of self.old.counts.items }
+    {
         let Role::Sent = tag.role else {
             return None;
         };
@@ -99,7 +113,9 @@ impl Flows {
     }
 
     /// The packet of a tag is delivered, if it is a source's.
-    pub(crate) fn deliver(&mut self, tag: &Tag, arrival: Arrival) -> Result<(), AllocError> {
+    pub(crate) fn deliver(&mut self, tag: &Tag, arrival: Arrival) -> Result<(), AllocError>
+        ensures { sent_of self.new.counts.items ≡ sent_of self.old.counts.items }
+    {
         let Some((source, at)) = self.end(tag, PacketOutcome::Delivered) else {
             return Ok(());
         };
@@ -111,7 +127,9 @@ impl Flows {
 
     /// An ICMP message arrives at the node to which it is addressed: a source's packet is
     /// delivered; the reply to one has reached the source's node or went astray.
-    pub(crate) fn tell(&mut self, tag: &Tag, arrival: Arrival) -> Result<(), AllocError> {
+    pub(crate) fn tell(&mut self, tag: &Tag, arrival: Arrival) -> Result<(), AllocError>
+        ensures { sent_of self.new.counts.items ≡ sent_of self.old.counts.items }
+    {
         match tag.role {
             Role::Reply => self.answer(tag.source, tag.at, arrival),
             Role::Sent | Role::Nothing => self.deliver(tag, arrival),
@@ -119,7 +137,9 @@ impl Flows {
     }
 
     /// The reply to a packet that a source made at `at` arrives at a node.
-    fn answer(&mut self, source: SourceNo, at: Time, arrival: Arrival) -> Result<(), AllocError> {
+    fn answer(&mut self, source: SourceNo, at: Time, arrival: Arrival) -> Result<(), AllocError>
+        ensures { sent_of self.new.counts.items ≡ sent_of self.old.counts.items }
+    {
         if self.homes.get(source.index()).copied() == Some(arrival.node) {
             return match self.times.get_mut(source.index()) {
                 Some(times) => times.answer(at, arrival.now),

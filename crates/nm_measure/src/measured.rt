@@ -1,7 +1,9 @@
 //! A network at a time of its run, with its measurements.
 
 ghost use Rattle.std.specs.Prelude.{◌≡◌, ℕ, ◌-◌, ◌<◌, ◌≤◌, ◌^◌, min, None, Some};
-ghost use Rattle.std.specs.Prelude.{IfOk, IfSome, OnOk, length};
+ghost use Rattle.std.specs.Prelude.{IfOk, IfSome, IsSomeAnd, OnOk, length};
+ghost use Rattle.nm_base.specs.Count.{saturated};
+ghost use Rattle.nm_measure.specs.Sent.{sent_in};
 ghost use Rattle.nm_model.specs.Run.{one_list};
 ghost use Rattle.nm_measure.specs.Amounts.{iface_traffic_of, drops_of};
 ghost use Rattle.nm_measure.specs.Busy.{busy_before, busy_share};
@@ -51,6 +53,7 @@ struct OverTime {
 
 impl Model for Measured {
     ghost use Rattle.std.specs.Prelude.{map};
+    ghost use Rattle.nm_measure.specs.Flows.{sent_of};
     ghost use Rattle.nm_measure.specs.Measured.{MeasuredValue};
 
     ghost Value = { MeasuredValue };
@@ -60,6 +63,7 @@ impl Model for Measured {
       traffic = m.traffic.items;
       seen = m.interfaces.all.items;
       own = map (λ l. l.items) m.interfaces.own.items;
+      sent = sent_of m.watched.flows.counts.items;
     } };
 }
 
@@ -183,7 +187,11 @@ impl Measured {
     }
 
     /// What became of the packets of a source so far.
-    pub fn flow_totals(&self, source: SourceNo) -> FlowTotals {
+    pub fn flow_totals(&self, source: SourceNo) -> FlowTotals
+        ensures sent { (t : TopologyValue) (until : ℕ) (m : IsMeasuredBefore t until self.now)
+            → source < length t.sources
+            → result.sent ≡ saturated (sent_in (net_of t) source m.events) }
+    {
         let counts = self.flow(source).unwrap_or(FlowCounts::NONE);
         let (octets, delayed, differences) = match self.times(source) {
             Some(times) => (
@@ -315,7 +323,10 @@ impl Measured {
 
     /// What became of the packets of a source. `None` if there is no such source.
     pub fn flow(&self, source: SourceNo) -> Option<FlowCounts>
-        ensures { IfSome result Balances }
+        ensures balances { IfSome result Balances }
+        ensures sent { (t : TopologyValue) (until : ℕ) (m : IsMeasuredBefore t until self.now)
+            → source < length t.sources → IsSomeAnd result
+            (λ f. f.sent ≡ saturated (sent_in (net_of t) source m.events)) }
     {
         self.watched.flow(source)
     }

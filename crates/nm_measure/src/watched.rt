@@ -1,5 +1,10 @@
 //! What becomes of the packets of sources, observed event by event.
 
+ghost use Rattle.std.specs.Prelude.{◌≡◌, ◌<◌, IfOk, OnOk, length, slice_get};
+ghost use Rattle.nm_sim.specs.Effects.{IsPlaceIn};
+ghost use Rattle.nm_measure.specs.Flows.{sent_of};
+ghost use Rattle.nm_measure.specs.Sent.{AreSent, sent_after, with_sent};
+
 use crate::courses::{Course, Courses, End, EndPlace, Ended, Hop, Reason};
 use crate::fates::{Fate, Tallies, Told};
 use crate::flow_counts::{FlowCounts, PacketOutcome};
@@ -78,7 +83,9 @@ impl Watched {
         alloc: Global,
         topology: &Topology,
         followed: Option<SourceNo>,
-    ) -> Result<Self, AllocError> {
+    ) -> Result<Self, AllocError>
+        ensures { IfOk result (λ w. AreSent topology.now 0 (sent_of w.flows.counts.items)) }
+    {
         let courses = match followed {
             Some(source) => Some(Courses::new(alloc, source)),
             None => None,
@@ -93,12 +100,16 @@ impl Watched {
     }
 
     /// The greatest delay of a source's packets that arrived since this was called last.
-    pub(crate) fn take_greatest(&mut self, source: SourceNo) -> u64 {
+    pub(crate) fn take_greatest(&mut self, source: SourceNo) -> u64
+        ensures { self.new.flows.counts ≡ self.old.flows.counts }
+    {
         self.flows.take_greatest(source)
     }
 
     /// The first followed packet that ended and was not taken yet.
-    pub(crate) fn take_ended(&mut self) -> Option<Ended> {
+    pub(crate) fn take_ended(&mut self) -> Option<Ended>
+        ensures { self.new.flows ≡ self.old.flows }
+    {
         match &mut self.courses {
             Some(courses) => courses.take_ended(),
             None => None,
@@ -106,7 +117,9 @@ impl Watched {
     }
 
     /// The followed packet with the least number that is under way.
-    pub(crate) fn take_open(&mut self) -> Option<Course> {
+    pub(crate) fn take_open(&mut self) -> Option<Course>
+        ensures { self.new.flows ≡ self.old.flows }
+    {
         match &mut self.courses {
             Some(courses) => courses.take_open(),
             None => None,
@@ -114,7 +127,9 @@ impl Watched {
     }
 
     /// A packet passes an interface.
-    fn pass(&mut self, tag: &Tag, hop: Hop) -> Result<(), AllocError> {
+    fn pass(&mut self, tag: &Tag, hop: Hop) -> Result<(), AllocError>
+        ensures { self.new.flows ≡ self.old.flows }
+    {
         match &mut self.courses {
             Some(courses) => courses.pass(tag, hop),
             None => Ok(()),
@@ -122,7 +137,9 @@ impl Watched {
     }
 
     /// The way of a packet is over.
-    fn end(&mut self, tag: &Tag, end: End) -> Result<(), AllocError> {
+    fn end(&mut self, tag: &Tag, end: End) -> Result<(), AllocError>
+        ensures { self.new.flows ≡ self.old.flows }
+    {
         match &mut self.courses {
             Some(courses) => courses.end(tag, end),
             None => Ok(()),
@@ -130,7 +147,9 @@ impl Watched {
     }
 
     /// What became of the packets of a source.
-    pub(crate) fn flow(&self, source: SourceNo) -> Option<FlowCounts> {
+    pub(crate) fn flow(&self, source: SourceNo) -> Option<FlowCounts>
+        ensures { result ≡ slice_get self.now.flows.counts.items source }
+    {
         self.flows.counts(source)
     }
 
@@ -182,7 +201,11 @@ impl Watched {
         now: Time,
         place: &Place,
         happened: Happened,
-    ) -> Result<(), AllocError> {
+    ) -> Result<(), AllocError>
+        requires { IsPlaceIn topology.now place.now }
+        ensures { OnOk result (sent_of self.new.flows.counts.items
+            ≡ sent_after place.now (sent_of self.old.flows.counts.items)) }
+    {
         match place {
             Place::Complete(_) => self.see_completion(part),
             Place::Arrive(iface) => self.see_arrival(topology, part, *iface, now, happened),
@@ -191,7 +214,9 @@ impl Watched {
     }
 
     /// Sees an interface complete a transmission. What waited longest there starts.
-    fn see_completion(&mut self, part: &Part<HeapList>) -> Result<(), AllocError> {
+    fn see_completion(&mut self, part: &Part<HeapList>) -> Result<(), AllocError>
+        ensures { self.new.flows ≡ self.old.flows }
+    {
         let Some(record) = start_in(part) else {
             return Ok(());
         };
@@ -214,7 +239,9 @@ impl Watched {
         number: IfaceNo,
         now: Time,
         happened: Happened,
-    ) -> Result<(), AllocError> {
+    ) -> Result<(), AllocError>
+        ensures { sent_of self.new.flows.counts.items ≡ sent_of self.old.flows.counts.items }
+    {
         let Some(iface) = topology.ifaces().get(number.index()) else {
             return Ok(());
         };
@@ -248,7 +275,9 @@ impl Watched {
     }
 
     /// The packet that is longest on the link from an interface leaves it.
-    fn leave_link(&mut self, from: IfaceNo) -> Tag {
+    fn leave_link(&mut self, from: IfaceNo) -> Tag
+        ensures { self.new.flows ≡ self.old.flows }
+    {
         match self.lanes.get_mut(from.index()) {
             Some(lane) => lane.arrive(),
             None => Tag::of_nobody(),
@@ -256,7 +285,9 @@ impl Watched {
     }
 
     /// Sees the way of a packet end at a node.
-    fn see_end(&mut self, tag: &Tag, told: Told, arrival: Arrival) -> Result<(), AllocError> {
+    fn see_end(&mut self, tag: &Tag, told: Told, arrival: Arrival) -> Result<(), AllocError>
+        ensures { sent_of self.new.flows.counts.items ≡ sent_of self.old.flows.counts.items }
+    {
         let Some(outcome) = outcome_of(told.fate) else {
             return Ok(());
         };
@@ -283,7 +314,9 @@ impl Watched {
         part: &Part<HeapList>,
         answer: Offer,
         happened: Happened,
-    ) -> Result<(), AllocError> {
+    ) -> Result<(), AllocError>
+        ensures { sent_of self.new.flows.counts.items ≡ sent_of self.old.flows.counts.items }
+    {
         if self.tallies.has_originated(part, answer.node) {
             self.see_offer(part, answer, happened)
         } else {
@@ -300,7 +333,11 @@ impl Watched {
         source: SourceNo,
         now: Time,
         happened: Happened,
-    ) -> Result<(), AllocError> {
+    ) -> Result<(), AllocError>
+        requires there { source < length topology.now.sources }
+        ensures { OnOk result (sent_of self.new.flows.counts.items
+            ≡ with_sent source (sent_of self.old.flows.counts.items)) }
+    {
         let Some(from) = topology.sources().get(source.index()) else {
             return Ok(());
         };
@@ -333,7 +370,9 @@ impl Watched {
         part: &Part<HeapList>,
         offer: Offer,
         happened: Happened,
-    ) -> Result<(), AllocError> {
+    ) -> Result<(), AllocError>
+        ensures { sent_of self.new.flows.counts.items ≡ sent_of self.old.flows.counts.items }
+    {
         match happened {
             Happened::Started(iface) => self.see_start(part, offer, iface),
             Happened::Waits(iface) => {
@@ -359,7 +398,9 @@ impl Watched {
         part: &Part<HeapList>,
         offer: Offer,
         iface: IfaceNo,
-    ) -> Result<(), AllocError> {
+    ) -> Result<(), AllocError>
+        ensures { self.new.flows ≡ self.old.flows }
+    {
         if let Some(record) = start_in(part) {
             self.pass(&offer.tag, hop_of(record))?;
         }
@@ -370,7 +411,9 @@ impl Watched {
     }
 
     /// Sees a packet dropped at a queue.
-    fn see_drop(&mut self, tag: &Tag, place: EndPlace, now: Time) -> Result<(), AllocError> {
+    fn see_drop(&mut self, tag: &Tag, place: EndPlace, now: Time) -> Result<(), AllocError>
+        ensures { sent_of self.new.flows.counts.items ≡ sent_of self.old.flows.counts.items }
+    {
         self.flows.end(tag, PacketOutcome::Dropped);
         let end = End {
             outcome: PacketOutcome::Dropped,

@@ -21,4 +21,5 @@ returns c = record {
   first = 0;
   seen = c.in_ok-interfaces.ensures.seen;
   own = c.in_ok-interfaces.ensures.own;
+  sent = c.in_ok-watched.ensures;
 }
