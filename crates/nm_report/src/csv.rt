@@ -1,23 +1,26 @@
 //! The measures of a run as comma-separated values for a program (RFC 4180), in one table.
 
-ghost use Rattle.std.specs.Prelude.{◌≡◌, ℕ, ◌<◌, ◌++◌, IfOk, OnOk, Some, codes, length, slice_get};
-ghost use Rattle.std.specs.Prelude.{slice_index};
+ghost use Rattle.std.specs.Prelude.{◌≡◌, ℕ, ◌<◌, ◌≤◌, ◌^◌, ◌++◌, IfOk, List, OnOk, Some, codes, decimal};
+ghost use Rattle.std.specs.Prelude.{length, slice_get, slice_index, take};
 ghost use Rattle.nm_model.specs.Run.{one_list};
 ghost use Rattle.nm_forward.specs.Counter.{counter_number};
 ghost use Rattle.nm_topology.specs.TopologyValue.{TopologyValue};
 ghost use Rattle.nm_sim.specs.Network.{net_of};
+ghost use Rattle.nm_measure.specs.Delays.{AreDelays};
 ghost use Rattle.nm_measure.specs.Lines.{EndsLine};
 ghost use Rattle.nm_measure.specs.Measured.{IsMeasuredBefore};
+ghost use Rattle.nm_report.specs.Sources.{SaysMeasures, measure_count, measure_names, source_lines};
 ghost use Rattle.nm_report.specs.Values.{AreWholeLines, HaveValues, all_counts, all_values, head};
 ghost use Rattle.nm_report.specs.Values.{iface_line, iface_values, node_counts, traffic_lines};
 ghost use Rattle.nm_report.specs.Values.{use_lines, value_line};
 
 use crate::iface_table::traffic_at;
 use crate::measures::{NAMES, ONE_WAY, measures_of};
+use crate::source_lines::push_lines;
 use crate::source_tables::flow_of;
 use nm_base::{IfaceNo, NodeNo, SourceNo, push_number, push_text};
 use nm_forward::Counter;
-use nm_measure::{Appended, IfaceTraffic, MadeText, Measured};
+use nm_measure::{Appended, FlowCounts, FlowTimes, IfaceTraffic, MadeText, Measured};
 use nm_topology::Topology;
 use nm_topology::traffic::{Source, Traffic};
 use std::alloc::Global;
@@ -32,7 +35,13 @@ fn end_value(text: &mut Vec<u8>) -> Appended
 
 /// Appends a value: the kind and the name of what has it, and which measure it is. No name needs
 /// quotes.
-fn push_line(text: &mut Vec<u8>, kind: &[u8], name: &[u8], measure: &[u8], value: u64) -> Appended
+pub(crate) fn push_line(
+    text: &mut Vec<u8>,
+    kind: &[u8],
+    name: &[u8],
+    measure: &[u8],
+    value: u64,
+) -> Appended
     ensures is { OnOk result (text.new.items
         ≡ text.old.items ++ value_line kind.now name.now measure.now value) }
     ensures ends { OnOk result (EndsLine text.new.items) }
@@ -174,14 +183,40 @@ fn ifaces_text(alloc: Global, topology: &Topology, measured: &Measured) -> MadeT
 }
 
 /// How many measures of a source have lines: those of replies are left out of one that has none.
-fn measures(source: &Source) -> usize {
+fn measures(source: &Source) -> usize
+    ensures is { result ≡ measure_count source.now.traffic }
+    ensures most { result ≤ 28 }
+{
     match &source.traffic {
         Traffic::Cbr(_) => ONE_WAY,
         Traffic::Echo(_) | Traffic::Raw(_) => NAMES.len(),
     }
 }
 
-/// Appends the values of a source, whose name is its number.
+/// Appends the values of a source, whose name is its number, by what was counted of it.
+fn push_counted(
+    alloc: Global,
+    text: &mut Vec<u8>,
+    source: &Source,
+    number: SourceNo,
+    flow: &FlowCounts,
+    times: &FlowTimes,
+) -> Appended
+    requires { AreWholeLines text.old.items }
+    ensures lines { OnOk result (AreWholeLines text.new.items) }
+    ensures values { OnOk result ((ds es : List ℕ) → AreDelays ds times.now.delays
+        → AreDelays es times.now.round_trips → length ds < 2 ^ 64 → length es < 2 ^ 64
+        → SaysMeasures flow.now times.now ds es
+        (source_lines (decimal number) (take (measure_count source.now.traffic) measure_names))
+        text.old.items text.new.items) }
+{
+    let mut name = Vec::new(alloc);
+    push_number(&mut name, number.index() as u64)?;
+    let values = measures_of(alloc, flow, times)?;
+    push_lines(text, name.as_slice(), values.as_slice(), measures(source))
+}
+
+/// Appends the values of a source.
 fn push_source(
     alloc: Global,
     text: &mut Vec<u8>,
@@ -192,16 +227,19 @@ fn push_source(
     requires { AreWholeLines text.old.items }
     ensures { OnOk result (AreWholeLines text.new.items) }
 {
-    let Some(times) = measured.times(number) else {
-        return Ok(());
-    };
-    let mut name = Vec::new(alloc);
-    push_number(&mut name, number.index() as u64)?;
-    let values = measures_of(alloc, &flow_of(measured, number), times)?;
-    for (measure, value) in NAMES.iter().zip(values.iter()).take(measures(source)) {
-        push_line(text, b"source", name.as_slice(), measure.as_bytes(), *value)?;
+    match measured.times(number) {
+        Some(times) => {
+            push_counted(
+                alloc,
+                text,
+                source,
+                number,
+                &flow_of(measured, number),
+                times,
+            )
+        }
+        None => Ok(()),
     }
-    Ok(())
 }
 
 /// The values of all sources.

@@ -10,6 +10,7 @@ mod measures;
 pub mod packet_line;
 pub mod picture;
 pub mod report;
+mod source_lines;
 pub mod source_rows;
 mod source_tables;
 mod table;

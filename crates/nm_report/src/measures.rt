@@ -1,8 +1,12 @@
 //! The measures of a source, by name.
 
+ghost use Rattle.std.specs.Prelude.{◌≡◌, ℕ, ◌<◌, ◌^◌, IfOk, List, Some, length, map, slice_get};
+ghost use Rattle.nm_measure.specs.Delays.{AreDelays};
+ghost use Rattle.nm_report.specs.Sources.{AreMeasures, AreTimes, measure_names};
+
 use crate::source_tables::fates;
 use crate::units::PERCENTILES;
-use nm_measure::{Appended, Delays, FlowCounts, FlowTimes};
+use nm_measure::{Delays, FlowCounts, FlowTimes};
 use std::alloc::{AllocError, Global};
 
 /// Their names, in their order. Times are in nanoseconds, octets those of delivered IPv4 packets,
@@ -41,17 +45,39 @@ pub(crate) const NAMES: [&str; 28] = [
 /// How many of them say nothing of replies. They come first.
 pub(crate) const ONE_WAY: usize = 17;
 
-/// Appends how long packets took, and 1 if the percentiles are rounded, 0 if they are exact.
-fn push_delays(values: &mut Vec<u64>, delays: &Delays) -> Appended {
-    values.push(delays.least())?;
-    for percentile in PERCENTILES {
-        values.push(delays.percentile(percentile))?;
-    }
-    values.push(delays.greatest())?;
-    values.push(delays.mean())?;
-    values.push(delays.jitter())?;
-    values.push(u64::from(delays.is_rounded()))?;
-    Ok(())
+/// The text in this place.
+fn text_at(texts: &[&'static str], place: usize) -> &'static str
+    requires { place < length texts.now }
+    ensures { slice_get (map (λ text. text.now) texts.now) place ≡ Some result.now }
+{
+    texts[place]
+}
+
+/// The name of the measure in this place.
+pub(crate) fn name_of(place: usize) -> &'static str
+    requires { place < 28 }
+    ensures { slice_get measure_names place ≡ Some result.now }
+{
+    text_at(&NAMES, place)
+}
+
+/// How long packets took, and 1 if the percentiles are rounded, 0 if they are exact.
+fn times_of(delays: &Delays) -> [u64; 9]
+    ensures { (ds : List ℕ) → AreDelays ds delays.now → length ds < 2 ^ 64
+        → AreTimes ds delays.now.spread.is_rounded result }
+{
+    let [half, most, nearly, all_but] = PERCENTILES;
+    [
+        delays.least(),
+        delays.percentile(half),
+        delays.percentile(most),
+        delays.percentile(nearly),
+        delays.percentile(all_but),
+        delays.greatest(),
+        delays.mean(),
+        delays.jitter(),
+        u64::from(delays.is_rounded()),
+    ]
 }
 
 /// The measures of a source.
@@ -59,16 +85,17 @@ pub(crate) fn measures_of(
     alloc: Global,
     flow: &FlowCounts,
     times: &FlowTimes,
-) -> Result<Vec<u64>, AllocError> {
+) -> Result<Vec<u64>, AllocError>
+    ensures count { IfOk result (λ values. length values.items ≡ 28) }
+    ensures values { IfOk result (λ values. (ds es : List ℕ) → AreDelays ds times.now.delays
+        → AreDelays es times.now.round_trips → length ds < 2 ^ 64 → length es < 2 ^ 64
+        → AreMeasures flow.now times.now ds es values.items) }
+{
     let mut values = Vec::new(alloc);
-    for count in fates(flow) {
-        values.push(count)?;
-    }
-    values.push(times.octets())?;
-    values.push(times.rate())?;
-    push_delays(&mut values, &times.delays)?;
-    values.push(times.round_trips.count())?;
-    values.push(flow.astray)?;
-    push_delays(&mut values, &times.round_trips)?;
+    values.extend_from_slice(&fates(flow))?;
+    values.extend_from_slice(&[times.octets(), times.rate()])?;
+    values.extend_from_slice(&times_of(&times.delays))?;
+    values.extend_from_slice(&[times.round_trips.count(), flow.astray])?;
+    values.extend_from_slice(&times_of(&times.round_trips))?;
     Ok(values)
 }

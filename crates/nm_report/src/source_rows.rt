@@ -1,12 +1,15 @@
 //! The measures of each source in one row of comma-separated values (RFC 4180).
 
-ghost use Rattle.std.specs.Prelude.{IfOk};
+ghost use Rattle.std.specs.Prelude.{◌<◌, ◌^◌, ℕ, IfOk, List, OnOk, length};
+ghost use Rattle.nm_measure.specs.Delays.{AreDelays};
 ghost use Rattle.nm_measure.specs.Lines.{EndsLine};
+ghost use Rattle.nm_report.specs.Sources.{SaysMeasures, row_values};
 
 use crate::measures::{NAMES, measures_of};
+use crate::source_lines::push_values;
 use crate::source_tables::{flow_of, kind_of, push_destination};
 use nm_base::{SourceNo, push_number, push_text};
-use nm_measure::{Appended, FlowTimes, MadeText, Measured, end_line};
+use nm_measure::{Appended, FlowCounts, FlowTimes, MadeText, Measured, end_line};
 use nm_topology::Topology;
 use nm_topology::traffic::Source;
 use std::alloc::Global;
@@ -32,19 +35,19 @@ fn push_source(text: &mut Vec<u8>, topology: &Topology, source: &Source, number:
     push_destination(text, source)
 }
 
-/// Appends all that was measured of a source.
+/// Appends all that was measured of a source, by what was counted of it.
 fn push_measures(
     alloc: Global,
     text: &mut Vec<u8>,
-    measured: &Measured,
-    place: SourceNo,
+    flow: &FlowCounts,
     times: &FlowTimes,
-) -> Appended {
-    for value in &measures_of(alloc, &flow_of(measured, place), times)? {
-        push_text(text, b",")?;
-        push_number(text, *value)?;
-    }
-    Ok(())
+) -> Appended
+    ensures { OnOk result ((ds es : List ℕ) → AreDelays ds times.now.delays
+        → AreDelays es times.now.round_trips → length ds < 2 ^ 64 → length es < 2 ^ 64
+        → SaysMeasures flow.now times.now ds es row_values text.old.items text.new.items) }
+{
+    let values = measures_of(alloc, flow, times)?;
+    push_values(text, values.as_slice())
 }
 
 /// The names of the columns, and a row for each source.
@@ -62,7 +65,7 @@ pub fn rows_text(alloc: Global, topology: &Topology, measured: &Measured) -> Mad
         let place = SourceNo::new(number);
         if let Some(times) = measured.times(place) {
             push_source(&mut text, topology, source, number)?;
-            push_measures(alloc, &mut text, measured, place, times)?;
+            push_measures(alloc, &mut text, &flow_of(measured, place), times)?;
             end_line(&mut text)?;
         }
     }

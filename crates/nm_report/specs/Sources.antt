@@ -1,0 +1,72 @@
+-- The values of sources as comma-separated values.
+use Rattle.std.specs.Prelude.{◌≡◌, ℕ, Bool, if◌then◌else◌, List, [], ◌∷◌, ◌++◌, codes, decimal, length}
+use Rattle.nm_measure.specs.Added.{ShowsPercentile}
+use Rattle.nm_measure.specs.Rates.{rate_between}
+use Rattle.nm_measure.specs.Sums.{greatest_of, jitter_of, least_of, mean_of}
+use Rattle.nm_measure.specs.declared.flow_counts.FlowCounts.{FlowCounts}
+use Rattle.nm_measure.specs.declared.flow_times.FlowTimes.{FlowTimes}
+use Rattle.nm_topology.specs.declared.traffic.Traffic.{Traffic}
+use Rattle.nm_topology.specs.declared.traffic.Traffic.TheVariants.{Cbr, Echo, Raw}
+use Rattle.nm_report.specs.Values.{value_line}
+
+-- how long packets took, of these delays: the least, percentiles, the greatest, the mean, the
+-- jitter, and whether the percentiles are rounded
+pub record AreTimes (ds : List ℕ) (is_rounded : Bool) (values : List ℕ) : Type 0 where
+  pub half : ℕ
+  pub most : ℕ
+  pub nearly : ℕ
+  pub all_but : ℕ
+  pub fifty : ShowsPercentile ds is_rounded 500 half
+  pub ninety : ShowsPercentile ds is_rounded 900 most
+  pub ninety_nine : ShowsPercentile ds is_rounded 990 nearly
+  pub last_thousandth : ShowsPercentile ds is_rounded 999 all_but
+  pub are : values ≡ least_of ds ∷ half ∷ most ∷ nearly ∷ all_but ∷ greatest_of ds ∷ mean_of ds
+      ∷ jitter_of ds ∷ (if is_rounded then 1 else 0) ∷ []
+
+-- what became of a source's packets, how much arrived and how fast
+abbrev pub count_values : FlowCounts → FlowTimes → List ℕ
+count_values f x = f.sent ∷ f.delivered ∷ f.refused ∷ f.dropped ∷ f.discarded ∷ f.under_way
+    ∷ x.octets ∷ rate_between x.octets x.begun x.ended ∷ []
+
+-- the values of a source, of which these are the delays and the round trips
+pub record AreMeasures (f : FlowCounts) (x : FlowTimes) (ds es : List ℕ) (values : List ℕ) : Type 0 where
+  pub one_way : List ℕ
+  pub round : List ℕ
+  pub delays : AreTimes ds x.delays.spread.is_rounded one_way
+  pub trips : AreTimes es x.round_trips.spread.is_rounded round
+  pub are : values ≡ count_values f x ++ one_way ++ length es ∷ f.astray ∷ round
+
+-- their names, in this order
+abbrev pub measure_names : List (List ℕ)
+measure_names = codes "sent" ∷ codes "delivered" ∷ codes "refused" ∷ codes "dropped"
+    ∷ codes "discarded" ∷ codes "under_way" ∷ codes "octets" ∷ codes "rate"
+    ∷ codes "least_delay" ∷ codes "delay_50" ∷ codes "delay_90" ∷ codes "delay_99"
+    ∷ codes "delay_99_9" ∷ codes "greatest_delay" ∷ codes "mean_delay" ∷ codes "jitter"
+    ∷ codes "delays_rounded" ∷ codes "answered" ∷ codes "astray" ∷ codes "least_round_trip"
+    ∷ codes "round_trip_50" ∷ codes "round_trip_90" ∷ codes "round_trip_99"
+    ∷ codes "round_trip_99_9" ∷ codes "greatest_round_trip" ∷ codes "mean_round_trip"
+    ∷ codes "round_trip_jitter" ∷ codes "round_trips_rounded" ∷ []
+
+-- a line for each measure of these names
+abbrev pub source_lines : (name : List ℕ) → (measures : List (List ℕ)) → List ℕ → List ℕ
+source_lines name [] values = []
+source_lines name (m ∷ ms) [] = []
+source_lines name (m ∷ ms) (v ∷ vs) = value_line (codes "source") name m v ++ source_lines name ms vs
+
+-- all in one row
+abbrev pub row_values : List ℕ → List ℕ
+row_values [] = []
+row_values (v ∷ vs) = codes "," ++ decimal v ++ row_values vs
+
+-- how many measures of a source have lines: those of replies are left out of one that has none
+abbrev pub measure_count : Traffic → ℕ
+measure_count (Cbr c) = 17
+measure_count (Echo e) = 28
+measure_count (Raw r) = 28
+
+-- a text says the values of a source in this form
+pub record SaysMeasures (f : FlowCounts) (x : FlowTimes) (ds es : List ℕ) (said : List ℕ → List ℕ)
+    (before after : List ℕ) : Type 0 where
+  pub values : List ℕ
+  pub are : AreMeasures f x ds es values
+  pub is : after ≡ before ++ said values
