@@ -1,14 +1,14 @@
 -- Rows of delays: how often each occurs, in rising order.
-use Rattle.std.proofs.Common.{◌≡◌, ℕ, zero, suc, ◌+◌, ◌*◌, ◌/◌, ◌%◌, ◌<◌, ◌≤◌, min, max, Bool, true, false, cond, leb, ltb, List, [], ◌∷◌, ◌++◌, length, get_or, take, map, insert, count_by, sum_by, refl, sym, ap, ◌∙◌, subst, arith, rules}
+use Rattle.std.proofs.Common.{◌≡◌, ◌⊎◌, ⊎_elim, append-nil, append_assoc, ℕ, zero, suc, ◌+◌, ◌*◌, ◌/◌, ◌%◌, ◌<◌, ◌≤◌, min, max, Bool, true, false, cond, eqb, leb, ltb, ne_eqb, List, [], ◌∷◌, ◌++◌, length, get_or, take, map, insert, count_by, sum_by, refl, sym, ap, ◌∙◌, subst, arith, rules}
 use Rattle.std.specs.List.{AllWithin}
 use Rattle.std.specs.List.Sorted.{IsNonDecreasingBy, IsPartitionPoint}
 use Rattle.std.proofs.Math.Nat.{mul-le-mul_left}
-use Rattle.std.proofs.lemmas.Bool.{le-leb, le-ltb, ltb-false, ltb-true}
+use Rattle.std.proofs.lemmas.Bool.{cases_lt, le-leb, le-ltb, ltb-false, ltb-true}
 use Rattle.std.proofs.lemmas.List.{get_or_default, length-map, take_all}
 use Rattle.std.proofs.lemmas.List.Sorted.{IsNonDecreasingBy-insert}
 use Rattle.std.proofs.lemmas.List.Sums.{count_by-le-length, sum_by-cons, sum_by_more, sum_by_push}
 use Rattle.nm_measure.specs.declared.spread.Row.{Row}
-use Rattle.nm_measure.specs.Spread.{IsPercentile, IsSpread, kept, rank_of, rounded_down, times_of}
+use Rattle.nm_measure.specs.Spread.{HaveRows, HaveTimes, IsPercentile, IsSpread, different_of, kept, new_after, rank_of, rounded_down, times_of}
 
 -- a row is put behind those of less delay
 pub inserted_rises : (rows : List Row) (i : ℕ) (row : Row) → IsNonDecreasingBy (λ (r : Row). r.delay) rows → i ≤ length rows
@@ -18,11 +18,35 @@ inserted_rises rows i row rise low h = IsNonDecreasingBy-insert (λ (r : Row). r
     (λ k d l. let m = ltb-true (get_or rows k d).delay row.delay (h.0 k d (omega arith) l) in omega (arith, m))
     (λ k d l m. ltb-false (get_or rows k d).delay row.delay (h.1 k d l m))
 
+-- a different delay more
+at_first : (a b : ℕ) → b ≡ a → a + 0 ≡ 0 + b
+at_first a b e = omega arith
+
+later : (a b c e f : ℕ) → b ≡ c + e → e ≡ f → a + b ≡ a + c + f
+later a b c e f h i = omega arith
+
+new_push : (seen ds : List ℕ) (d : ℕ) → new_after seen (ds ++ d ∷ []) ≡ new_after seen ds + cond (eqb (count_by (λ e. eqb e d) (seen ++ ds)) 0) 1 0
+new_push seen [] d = at_first _ _ (ap (λ l. cond (eqb (count_by (λ e. eqb e d) l) 0) 1 0) (append-nil seen))
+new_push seen (x ∷ xs) d = later _ _ _ _ _ (new_push (seen ++ x ∷ []) xs d)
+    (ap (λ l. cond (eqb (count_by (λ e. eqb e d) l) 0) 1 0) (append_assoc seen (x ∷ []) xs))
+
+kinds_added : (is_rounded : Bool) (ds : List ℕ) (old new : List Row) (d k : ℕ) → k ≡ kept is_rounded d
+    → times_of (λ e. eqb e k) old ≡ count_by (λ e. eqb (kept is_rounded e) k) ds
+    → length new ≡ length old + cond (eqb (times_of (λ e. eqb e k) old) 0) 1 0 → HaveRows is_rounded ds old → HaveRows is_rounded (ds ++ d ∷ []) new
+kinds_added true ds old new d k is times rows h = let push = new_push [] ds d in omega (arith, push, h)
+kinds_added false ds old new d k is times rows h =
+    rows ∙ ap (λ n. n + cond (eqb (times_of (λ e. eqb e k) old) 0) 1 0) h
+    ∙ ap (λ n. different_of ds + cond (eqb n 0) 1 0) times
+    ∙ ap (λ n. different_of ds + cond (eqb (count_by (λ e. eqb e n) ds) 0) 1 0) is
+    ∙ sym (new_push [] ds d)
+
 -- one delay more
 pub spread_added : (ds : List ℕ) (old new : List Row) (d k : ℕ) (is_rounded : Bool) → IsSpread ds old is_rounded → k ≡ kept is_rounded d
     → ((test : ℕ → Bool) → times_of test new ≡ times_of test old + cond (test k) 1 0)
+    → length new ≡ length old + cond (eqb (times_of (λ e. eqb e k) old) 0) 1 0
     → IsSpread (ds ++ d ∷ []) new is_rounded
-spread_added ds old new d k is_rounded h is more = record {
+spread_added ds old new d k is_rounded h is more rows = record {
+  kinds = kinds_added is_rounded ds old new d k is (h.times (λ e. eqb e k)) rows h.kinds;
   times = λ test. more test ∙ ap (λ n. n + cond (test k) 1 0) (h.times test)
       ∙ ap (λ n. count_by (λ x. test (kept is_rounded x)) ds + cond (test n) 1 0) is
       ∙ sym (sum_by_push (λ x. cond (test (kept is_rounded x)) 1 0) ds d);
@@ -30,9 +54,12 @@ spread_added ds old new d k is_rounded h is more = record {
 
 -- all are rounded
 pub spread_rounded : (ds : List ℕ) (old new : List Row) → IsSpread ds old false
-    → ((test : ℕ → Bool) → times_of test new ≡ times_of (λ d. test (rounded_down d)) old)
+    → ((test : ℕ → Bool) → times_of test new ≡ times_of (λ d. test (rounded_down d)) old) → 1024 < length old
     → IsSpread ds new true
-spread_rounded ds old new h all = record { times = λ test. all test ∙ h.times (λ d. test (rounded_down d)) }
+spread_rounded ds old new h all many = record {
+  times = λ test. all test ∙ h.times (λ d. test (rounded_down d));
+  kinds = subst (λ n. 1024 < n) h.kinds many;
+}
 
 pub count_all : (ds : List ℕ) → count_by (λ d. true) ds ≡ length ds
 count_all [] = refl
@@ -93,6 +120,23 @@ before test (r ∷ rows) (suc k) h =
     sum_by-cons (λ (x : Row). cond (test x.delay) x.times 0) r rows in
     let part = part_le (test r.delay) r.times in
     omega (arith, left, right, part, more)
+
+-- no row has a delay that is put between those of less and those of more
+pub none_same : (rows : List Row) (i delay : ℕ) → IsNonDecreasingBy (λ (r : Row). r.delay) rows
+    → IsPartitionPoint (λ (r : Row). ltb r.delay delay ≡ true) (λ (r : Row). ltb r.delay delay ≡ false) rows i
+    → ((r : Row) → i < length rows → (get_or rows i r).delay ≡ delay → ⊥)
+    → times_of (λ d. eqb d delay) rows ≡ 0
+none_same rows i delay rise h apart =
+    let none : times_of (λ d. eqb d delay) rows ≤ times_of (λ d. true) (take 0 rows) =
+    before (λ d. eqb d delay) rows 0 (λ j r l m. ne_eqb (get_or rows j r).delay delay (⊎_elim
+    (λ less e. let low = ltb-true (get_or rows j r).delay delay (h.0 j r (omega arith) less) in omega (arith, low, e))
+    (λ more e.
+    let there : i < length rows = omega (arith, more, m) in
+    let up = rise i j r more m in
+    let least = ltb-false (get_or rows i r).delay delay (h.1 i r (omega arith) there) in
+    apart r there (omega (arith, up, least, e)))
+    (cases_lt j i))) in
+    omega (arith, none)
 
 reaches : (rank' rank first all count : ℕ) → rank' ≡ rank → rank ≤ first → first ≤ all → count ≡ all → rank' ≤ count
 reaches rank' rank first all count e l m f = omega arith

@@ -1,5 +1,5 @@
 -- How often each delay of a list occurs, and percentiles by nearest rank.
-use Rattle.std.specs.Prelude.{◌≡◌, ℕ, ◌-◌, ◌*◌, ◌%◌, ◌^◌, ◌<◌, ◌≤◌, max, Bool, true, false, if◌then◌else◌, nat_lt, nat_le, List, length, count_by, sum_by}
+use Rattle.std.specs.Prelude.{◌≡◌, ℕ, ◌-◌, ◌*◌, ◌%◌, ◌^◌, ◌<◌, ◌≤◌, max, Bool, true, false, if◌then◌else◌, nat_eq, nat_lt, nat_le, List, [], ◌∷◌, ◌++◌, length, count_by, sum_by, slice_index_or, ◌==◌, ◌+◌}
 use Rattle.std.specs.Int.{div_ceil}
 use Rattle.std.specs.Int.Count.{count_leading_zeros}
 use Rattle.nm_measure.specs.declared.spread.Row.{Row}
@@ -17,9 +17,29 @@ kept false d = d
 abbrev pub times_of : (ℕ → Bool) → List Row → ℕ
 times_of test rows = sum_by (λ r. if test r.delay then r.times else 0) rows
 
+-- each row stands for a delay at least
+abbrev pub HaveTimes : List Row → Type 0
+HaveTimes rows = (i : ℕ) (r : Row) → i < length rows → 1 ≤ (slice_index_or rows i r).times
+
+-- how many of these delays are different from each other and from those that were seen
+abbrev pub new_after : (seen : List ℕ) → List ℕ → ℕ
+new_after seen [] = 0
+new_after seen (d ∷ ds) =
+    (if count_by (λ e. nat_eq e d) seen == 0 then 1 else 0) + new_after (seen ++ d ∷ []) ds
+
+-- how many different delays there are
+abbrev pub different_of : List ℕ → ℕ
+different_of ds = new_after [] ds
+
+-- a row for each different delay; all are rounded only if there were more than 1,024
+abbrev pub HaveRows : Bool → List ℕ → List Row → Type 0
+HaveRows true ds rows = 1024 < different_of ds
+HaveRows false ds rows = length rows ≡ different_of ds
+
 -- the rows say how often each of these delays occurs, as it is kept
 pub record IsSpread (ds : List ℕ) (rows : List Row) (is_rounded : Bool) : Type 0 where
   pub times : (test : ℕ → Bool) → times_of test rows ≡ count_by (λ d. test (kept is_rounded d)) ds
+  pub kinds : HaveRows is_rounded ds rows
 
 -- how many of so many delays are at most their percentile: that share, rounded up, and one at least
 abbrev pub rank_of : (count thousandths : ℕ) → ℕ

@@ -1,8 +1,9 @@
 //! How long packets took.
 
-ghost use Rattle.std.specs.Prelude.{◌≡◌, ℕ, ◌+◌, ◌<◌, ◌≤◌, ◌^◌, max, OnOk, List, [], ◌∷◌, ◌++◌, length};
+ghost use Rattle.std.specs.Prelude.{◌≡◌, ℕ, ◌+◌, ◌<◌, ◌≤◌, ◌^◌, false, max, OnOk, List, [], ◌∷◌, ◌++◌, length};
 ghost use Rattle.nm_base.specs.Count.{saturated};
 ghost use Rattle.nm_measure.specs.Added.{AreAdded, ShowsPercentile};
+ghost use Rattle.nm_measure.specs.Spread.{different_of};
 ghost use Rattle.nm_measure.specs.Sums.{jitter_of, least_after, mean_of};
 
 use crate::spread::{Bucket, Spread};
@@ -115,7 +116,9 @@ impl Delays {
 
     /// Whether percentiles are rounded down, since there were more than 1,024 different delays.
     pub fn is_rounded(&self) -> bool
-        ensures { result ≡ self.now.spread.is_rounded }
+        ensures kind { result ≡ self.now.spread.is_rounded }
+        ensures exact { (ds : List ℕ) → AreDelays ds self.now → length ds < 2 ^ 64
+            → different_of ds ≤ 1024 → result ≡ false }
     {
         self.spread.is_rounded()
     }

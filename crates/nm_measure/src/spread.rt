@@ -1,10 +1,10 @@
 //! How often each delay occurred.
 
-ghost use Rattle.std.specs.Prelude.{◌≡◌, ℕ, ◌≤◌, ◌<◌, ◌+◌, ◌-◌, ◌*◌, ◌^◌, Bool, true, if◌then◌else◌};
+ghost use Rattle.std.specs.Prelude.{◌≡◌, ℕ, ◌≤◌, ◌<◌, ◌+◌, ◌-◌, ◌*◌, ◌^◌, Bool, true, false, nat_eq, ◌==◌, if◌then◌else◌};
 ghost use Rattle.std.specs.Prelude.{OnOk, OnErr, IfOk, List, [], ◌∷◌, ◌++◌, length, map};
 ghost use Rattle.std.specs.List.Sorted.{IsNonDecreasingBy};
 ghost use Rattle.nm_base.specs.Count.{saturated};
-ghost use Rattle.nm_measure.specs.Spread.{IsPercentile, IsSpread, kept, rank_of, rounded_down, times_of};
+ghost use Rattle.nm_measure.specs.Spread.{HaveTimes, IsPercentile, IsSpread, different_of, kept, rank_of, rounded_down, times_of};
 
 use std::alloc::{AllocError, Global};
 
@@ -46,6 +46,7 @@ pub(crate) struct Spread {
     is_rounded: bool,
     ghost all: { times_of (λ _. true) rows.items ≡ count },
     ghost rise: { IsNonDecreasingBy (λ r. r.delay) rows.items },
+    ghost some: { HaveTimes rows.items },
 }
 
 /// A delay, rounded down to its eight highest bits: by at most 1/128 of the result.
@@ -85,9 +86,14 @@ fn greatest_of(rounded: u64) -> u64
 fn note(rows: &mut Vec<Row>, delay: u64, times: u64) -> Result<(), AllocError>
     requires fits { times_of (λ _. true) rows.old.items + times < 2 ^ 64 }
     requires rise { IsNonDecreasingBy (λ r. r.delay) rows.old.items }
+    requires some { HaveTimes rows.old.items }
+    requires times { 1 ≤ times }
     ensures more { OnOk result ((test : ℕ → Bool) → times_of test rows.new.items
         ≡ times_of test rows.old.items + (if test delay then times else 0)) }
     ensures rise { OnOk result (IsNonDecreasingBy (λ r. r.delay) rows.new.items) }
+    ensures some { OnOk result (HaveTimes rows.new.items) }
+    ensures kinds { OnOk result (length rows.new.items ≡ length rows.old.items
+        + (if times_of (λ d. nat_eq d delay) rows.old.items == 0 then 1 else 0)) }
     ensures same { OnErr result (rows.new.items ≡ rows.old.items) }
 {
     let place = rows.partition_point(|row| row.delay < delay);
@@ -101,10 +107,12 @@ fn note(rows: &mut Vec<Row>, delay: u64, times: u64) -> Result<(), AllocError>
 
 /// The rows with each delay rounded.
 fn rounded_rows(alloc: Global, rows: &[Row]) -> Result<Vec<Row>, AllocError>
-    requires { times_of (λ _. true) rows.now < 2 ^ 64 }
+    requires fits { times_of (λ _. true) rows.now < 2 ^ 64 }
+    requires some { HaveTimes rows.now }
     ensures times { IfOk result (λ all. (test : ℕ → Bool)
         → times_of test all.items ≡ times_of (λ d. test (rounded_down d)) rows.now) }
     ensures rise { IfOk result (λ all. IsNonDecreasingBy (λ r. r.delay) all.items) }
+    ensures some { IfOk result (λ all. HaveTimes all.items) }
 {
     let mut all = Vec::new(alloc);
     for row in rows {
@@ -146,7 +154,9 @@ impl Spread {
 
     /// Whether delays were rounded.
     pub(crate) fn is_rounded(&self) -> bool
-        ensures { result ≡ self.now.is_rounded }
+        ensures kind { result ≡ self.now.is_rounded }
+        ensures exact { (ds : List ℕ) → IsSpread ds self.now.rows.items self.now.is_rounded
+            → different_of ds ≤ 1024 → result ≡ false }
     {
         self.is_rounded
     }

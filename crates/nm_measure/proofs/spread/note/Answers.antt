@@ -1,10 +1,13 @@
-use Rattle.std.proofs.Common.{◌≡◌, List, ltb, insert, of_calls, rules, subst, sym}
+use Rattle.std.proofs.Common.{◌≡◌, ◌<◌, ◌≤◌, ◌+◌, ◌∙◌, ap, cond, eqb, get_or, length, List, ltb, insert, of_calls, rules, subst, sym, arith}
 use Rattle.std.specs.List.Sorted.{IsNonDecreasingBy}
 use Rattle.std.proofs.lemmas.Fn.{always_returns_same}
+use Rattle.std.proofs.lemmas.List.{get_or_default}
+use Rattle.std.proofs.lemmas.List.Edits.{length-insert}
 use Rattle.std.proofs.lemmas.List.Sorted.{IsPartitionedBy-ltb}
 use Rattle.nm_measure.specs.declared.spread.Row.{Row}
-use Rattle.nm_measure.proofs.Rows.{inserted_rises}
+use Rattle.nm_measure.proofs.Rows.{inserted_rises, none_same}
 use Rattle.nm_measure.proofs.spread.note.Goals as goal
+use Rattle.nm_measure.proofs.spread.note.Goals.{else-place-len-via-then-place-len+else-index-delay, else-place-len-via-else-place-len}
 
 pub returns-clause-rise : goal.returns-clause-rise
 returns-clause-rise c =
@@ -14,3 +17,24 @@ returns-clause-rise c =
     let inserted = inserted_rises c.deref.result.now c.partition_point-place.result (record { delay = c.args.delay; times = c.args.times }) rise c.partition_point-place.ensures.bound point in
     let is : c.insert.new.self.items ≡ insert c.args.rows.now.items c.partition_point-place.result (record { delay = c.args.delay; times = c.args.times }) = c.in_ok-insert.ensures.items in
     rw (is, ← c.deref.ensures.value) inserted
+
+pub returns-clause-kinds : goal.returns-clause-kinds
+returns-clause-kinds c =
+    let rows = c.args.rows.now.items in
+    let place = c.partition_point-place.result in
+    let rise : IsNonDecreasingBy (λ (r : Row). r.delay) c.deref.result.now = rw c.deref.ensures.value c.requires.rise in
+    let parted = IsPartitionedBy-ltb (λ (r : Row). r.delay) c.deref.result.now c.args.delay rise in
+    let point = c.partition_point-place.ensures.partitioned (λ (r : Row). ltb r.delay c.args.delay) (always_returns_same _ _ _ (λ a r f k. search (rules, of_calls))) parted in
+    let apart : (r : Row) → place < length rows → (get_or rows place r).delay ≡ c.args.delay → ⊥ = λ r low same.
+    elim c.else-place-len.branch [
+      | else-place-len-via-then-place-len+else-index-delay w ↦
+          w.if-index-delay.false (ap (λ (x : Row). x.delay) (w.index.ensures ∙ get_or_default rows place w.index.result.now r low) ∙ same)
+      | else-place-len-via-else-place-len w ↦
+          let count = c.deref.ensures.len in
+          let all = ap length c.deref.ensures.value in
+          let past = w.if-place-len.false in
+          omega (arith, count, all, past, low, c.len.ensures)
+    ] in
+    let within = subst (λ (l : List Row). place ≤ length l) c.deref.ensures.value c.partition_point-place.ensures.bound in
+    let none = none_same rows place c.args.delay c.requires.rise (rw c.deref.ensures.value at point) apart in
+    ap length c.in_ok-insert.ensures.items ∙ length-insert rows place _ within ∙ ap (λ n. length rows + cond (eqb n 0) 1 0) (sym none)
