@@ -20,7 +20,7 @@ use Rattle.nm_measure.specs.declared.seen.Seen.{Seen}
 use Rattle.nm_measure.specs.Amounts.{AreTraffic}
 use Rattle.nm_measure.specs.Interfaces.{AreOwn, AreSeen, IsNext}
 use Rattle.nm_measure.specs.Measured.{HasCountedAll, IsCounted, IsMeasuredBefore, IsMeasuring, MeasuredValue}
-use Rattle.nm_measure.specs.Sent.{AreSent, sent_after}
+use Rattle.nm_measure.specs.Sent.{AreSent, sent_later}
 use Rattle.nm_measure.proofs.Counting.{counted_step}
 use Rattle.nm_measure.proofs.Making.{sent_next}
 use Rattle.nm_measure.proofs.Readings.{event_of}
@@ -85,7 +85,7 @@ module _ (t : TopologyValue) where
     -- one event later
     pub measuring_next : (p : PartValue Held) (traffic : List IfaceTraffic) (seen : List Seen) (own : List (List ℕ)) (sent : List ℕ)
         → IsCounted t (one_list (net_of t) (suc h.events)) p traffic → HasCountedAll p (one_list (net_of t) (suc h.events))
-        → p.steps ≡ m.part.steps + 1 → AreSeen t first (suc h.events) seen → own ≡ m.own → sent ≡ sent_after key.place m.sent
+        → p.steps ≡ m.part.steps + 1 → AreSeen t first (suc h.events) seen → own ≡ m.own → sent ≡ sent_later key.place m.sent
         → IsMeasuring t first until (record { part = p; traffic = traffic; seen = seen; own = own; sent = sent })
     measuring_next p traffic seen own sent counted all steps sees same made = record {
       events = suc h.events;

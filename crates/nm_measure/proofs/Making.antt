@@ -16,9 +16,9 @@ use Rattle.nm_model.specs.Run.{one_list}
 use Rattle.nm_model.proofs.ListLemmas.{same_number, some_inj}
 use Rattle.nm_topology.specs.TopologyValue.{TopologyValue}
 use Rattle.nm_sim.specs.Network.{net_of}
-use Rattle.nm_measure.specs.Flows.{sent_of}
+use Rattle.nm_measure.specs.Flows.{sent_numbers}
 use Rattle.nm_measure.specs.declared.flow_counts.FlowCounts.{FlowCounts}
-use Rattle.nm_measure.specs.Sent.{AreSent, is_fire, made_by, sent_after, sent_in, with_sent}
+use Rattle.nm_measure.specs.Sent.{AreSent, is_fire, made_by, sent_later, sent_in, with_sent}
 use Rattle.nm_measure.proofs.Lists.{set_other, set_same}
 
 -- 1 if an event at this place is source j's
@@ -73,41 +73,41 @@ module _ (t : TopologyValue) (n : ℕ) (sent : List ℕ) (h : AreSent t n sent) 
 
 -- each source has made so many after one event more
 pub sent_next : (t : TopologyValue) (n : ℕ) (sent : List ℕ) → AreSent t n sent → (e : Key × Event (List ℕ)) (place : Place)
-    → least (one_list (net_of t) n).pending ≡ Some e → e.0.place ≡ place → AreSent t (suc n) (sent_after place sent)
+    → least (one_list (net_of t) n).pending ≡ Some e → e.0.place ≡ place → AreSent t (suc n) (sent_later place sent)
 sent_next t n sent h e (Arrive i) first at = stays t n sent h e (Arrive i) first at (λ j. refl)
 sent_next t n sent h e (Complete i) first at = stays t n sent h e (Complete i) first at (λ j. refl)
 sent_next t n sent h e (Fire i) first at = fired t n sent h e (Fire i) first at i refl
 
 -- a source's numbers change, but not how many packets it made
-pub sent_kept : (all : List FlowCounts) (i : ℕ) (before after : FlowCounts) → before ≡ get_or all i before → after.sent ≡ before.sent → sent_of (slice_set all i after) ≡ sent_of all
+pub sent_kept : (all : List FlowCounts) (i : ℕ) (before after : FlowCounts) → before ≡ get_or all i before → after.sent ≡ before.sent → sent_numbers (slice_set all i after) ≡ sent_numbers all
 sent_kept all i before after at same = map-set_same (λ f. f.sent) all i after before (same ∙ ap (λ f. f.sent) at)
 
 -- a source made one packet more
-pub sent_more : (all : List FlowCounts) (i : ℕ) (before after : FlowCounts) → i < length all → before ≡ get_or all i before → after.sent ≡ saturated (before.sent + 1) → sent_of (slice_set all i after) ≡ with_sent i (sent_of all)
+pub sent_more : (all : List FlowCounts) (i : ℕ) (before after : FlowCounts) → i < length all → before ≡ get_or all i before → after.sent ≡ saturated (before.sent + 1) → sent_numbers (slice_set all i after) ≡ with_sent i (sent_numbers all)
 sent_more all i before after there at more =
-    let had : get_or (sent_of all) i 0 ≡ before.sent = get_or_from_slice_get (sent_of all) i before.sent 0
+    let had : get_or (sent_numbers all) i 0 ≡ before.sent = get_or_from_slice_get (sent_numbers all) i before.sent 0
     (slice_get-map (λ f. f.sent) all i ∙ ap (option_map (λ f. f.sent)) (slice_get-get_or all i before there ∙ ap Some (sym at))) in
-    map-set (λ f. f.sent) all i after ∙ ap (slice_set (sent_of all) i) (more ∙ ap (λ n. saturated (n + 1)) (sym had))
+    map-set (λ f. f.sent) all i after ∙ ap (slice_set (sent_numbers all) i) (more ∙ ap (λ n. saturated (n + 1)) (sym had))
 
 -- there is no such source
-pub sent_past : (all : List FlowCounts) (i : ℕ) → length all ≤ i → sent_of all ≡ with_sent i (sent_of all)
-sent_past all i past = sym (set_past (sent_of all) i (saturated (get_or (sent_of all) i 0 + 1))
+pub sent_past : (all : List FlowCounts) (i : ℕ) → length all ≤ i → sent_numbers all ≡ with_sent i (sent_numbers all)
+sent_past all i past = sym (set_past (sent_numbers all) i (saturated (get_or (sent_numbers all) i 0 + 1))
     (let m = length-map all (λ (f : FlowCounts). f.sent) in omega (arith, m, past)))
 
 -- at the begin
-pub sent_first : (t : TopologyValue) (all : List FlowCounts) (n : ℕ) (none : FlowCounts) → all ≡ replicate n none → n ≡ length t.sources → none.sent ≡ 0 → AreSent t 0 (sent_of all)
+pub sent_first : (t : TopologyValue) (all : List FlowCounts) (n : ℕ) (none : FlowCounts) → all ≡ replicate n none → n ≡ length t.sources → none.sent ≡ 0 → AreSent t 0 (sent_numbers all)
 sent_first t all n none is are zero = record {
   count = length-map all (λ f. f.sent) ∙ ap length is ∙ length-replicate n none ∙ are;
   each = λ j k got.
-      let within = slice_get_within (sent_of all) j k got in
+      let within = slice_get_within (sent_numbers all) j k got in
       let mapped = length-map all (λ (f : FlowCounts). f.sent) in
       let count = ap length is ∙ length-replicate n none in
-      sym (get_or_from_slice_get (sent_of all) j k k got) ∙ get_or-map (λ f. f.sent) all j none k (omega (arith, within, mapped))
+      sym (get_or_from_slice_get (sent_numbers all) j k k got) ∙ get_or-map (λ f. f.sent) all j none k (omega (arith, within, mapped))
       ∙ ap (λ l. (get_or l j none).sent) is ∙ ap (λ f. f.sent) (get_or-replicate n j none none (omega (arith, within, mapped, count))) ∙ zero;
 }
 
 -- what it made is what one finds
-pub sent_found : (t : TopologyValue) (n : ℕ) (all : List FlowCounts) (i : ℕ) → AreSent t n (sent_of all) → i < length t.sources → IsSomeAnd (slice_get all i) (λ f. f.sent ≡ saturated (sent_in (net_of t) i n))
+pub sent_found : (t : TopologyValue) (n : ℕ) (all : List FlowCounts) (i : ℕ) → AreSent t n (sent_numbers all) → i < length t.sources → IsSomeAnd (slice_get all i) (λ f. f.sent ≡ saturated (sent_in (net_of t) i n))
 sent_found t n all i h there = ⊎_elim
     (λ g. subst (λ o. IsSomeAnd o (λ f. f.sent ≡ saturated (sent_in (net_of t) i n))) (sym g.2)
     (h.each i g.0.sent (slice_get-map (λ f. f.sent) all i ∙ ap (option_map (λ f. f.sent)) g.2)))

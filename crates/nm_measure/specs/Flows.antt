@@ -13,8 +13,8 @@ abbrev pub counts_of : FlowCounts → List ℕ
 counts_of f = f.sent ∷ f.delivered ∷ f.refused ∷ f.dropped ∷ f.discarded ∷ f.under_way ∷ []
 
 -- how many packets each source made
-abbrev pub sent_of : List FlowCounts → List ℕ
-sent_of counts = map (λ f. f.sent) counts
+abbrev pub sent_numbers : List FlowCounts → List ℕ
+sent_numbers counts = map (λ f. f.sent) counts
 
 -- a packet that was under way ended so, and nothing else changed
 abbrev pub Ends : PacketOutcome → FlowCounts → FlowCounts → Type 0

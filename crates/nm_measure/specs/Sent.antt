@@ -37,7 +37,7 @@ abbrev pub with_sent : ℕ → List ℕ → List ℕ
 with_sent j sent = slice_set sent j (saturated (slice_index_or sent j 0 + 1))
 
 -- after an event at this place
-abbrev pub sent_after : Place → List ℕ → List ℕ
-sent_after (Arrive i) sent = sent
-sent_after (Complete i) sent = sent
-sent_after (Fire j) sent = with_sent j sent
+abbrev pub sent_later : Place → List ℕ → List ℕ
+sent_later (Arrive i) sent = sent
+sent_later (Complete i) sent = sent
+sent_later (Fire j) sent = with_sent j sent

@@ -1,7 +1,7 @@
 //! What becomes of the packets of all sources.
 
 ghost use Rattle.std.specs.Prelude.{◌≡◌, IfOk, slice_get};
-ghost use Rattle.nm_measure.specs.Flows.{sent_of};
+ghost use Rattle.nm_measure.specs.Flows.{sent_numbers};
 ghost use Rattle.nm_measure.specs.Sent.{AreSent, with_sent};
 
 use crate::flow_counts::{FlowCounts, PacketOutcome};
@@ -49,7 +49,7 @@ fn no_times(alloc: Global, sources: usize) -> Result<Vec<FlowTimes>, AllocError>
 impl Flows {
     /// Nothing was sent yet.
     pub(crate) fn new(alloc: Global, topology: &Topology) -> Result<Self, AllocError>
-        ensures { IfOk result (λ f. AreSent topology.now 0 (sent_of f.counts.items)) }
+        ensures { IfOk result (λ f. AreSent topology.now 0 (sent_numbers f.counts.items)) }
     {
         let sources = topology.sources().len();
         Ok(Flows {
@@ -73,7 +73,7 @@ impl Flows {
 
     /// A source makes a packet. Answers its tag.
     pub(crate) fn send(&mut self, source: SourceNo, now: Time) -> Tag
-        ensures { sent_of self.new.counts.items ≡ with_sent source (sent_of self.old.counts.items) }
+        ensures { sent_numbers self.new.counts.items ≡ with_sent source (sent_numbers self.old.counts.items) }
     {
         let mut number = 0;
         if let Some(counts) = self.counts.get_mut(source.index()) {
@@ -100,7 +100,7 @@ impl Flows {
     /// The packet of a tag ends so, if it is a source's. Answers the source and the time of its
     /// event, if the packet was under way.
     pub(crate) fn end(&mut self, tag: &Tag, outcome: PacketOutcome) -> Option<(SourceNo, Time)>
-        ensures { sent_of self.new.counts.items ≡ sent_of self.old.counts.items }
+        ensures { sent_numbers self.new.counts.items ≡ sent_numbers self.old.counts.items }
     {
         let Role::Sent = tag.role else {
             return None;
@@ -114,7 +114,7 @@ impl Flows {
 
     /// The packet of a tag is delivered, if it is a source's.
     pub(crate) fn deliver(&mut self, tag: &Tag, arrival: Arrival) -> Result<(), AllocError>
-        ensures { sent_of self.new.counts.items ≡ sent_of self.old.counts.items }
+        ensures { sent_numbers self.new.counts.items ≡ sent_numbers self.old.counts.items }
     {
         let Some((source, at)) = self.end(tag, PacketOutcome::Delivered) else {
             return Ok(());
@@ -128,7 +128,7 @@ impl Flows {
     /// An ICMP message arrives at the node to which it is addressed: a source's packet is
     /// delivered; the reply to one has reached the source's node or went astray.
     pub(crate) fn tell(&mut self, tag: &Tag, arrival: Arrival) -> Result<(), AllocError>
-        ensures { sent_of self.new.counts.items ≡ sent_of self.old.counts.items }
+        ensures { sent_numbers self.new.counts.items ≡ sent_numbers self.old.counts.items }
     {
         match tag.role {
             Role::Reply => self.answer(tag.source, tag.at, arrival),
@@ -138,7 +138,7 @@ impl Flows {
 
     /// The reply to a packet that a source made at `at` arrives at a node.
     fn answer(&mut self, source: SourceNo, at: Time, arrival: Arrival) -> Result<(), AllocError>
-        ensures { sent_of self.new.counts.items ≡ sent_of self.old.counts.items }
+        ensures { sent_numbers self.new.counts.items ≡ sent_numbers self.old.counts.items }
     {
         if self.homes.get(source.index()).copied() == Some(arrival.node) {
             return match self.times.get_mut(source.index()) {

@@ -53,7 +53,7 @@ struct OverTime {
 
 impl Model for Measured {
     ghost use Rattle.std.specs.Prelude.{map};
-    ghost use Rattle.nm_measure.specs.Flows.{sent_of};
+    ghost use Rattle.nm_measure.specs.Flows.{sent_numbers};
     ghost use Rattle.nm_measure.specs.Measured.{MeasuredValue};
 
     ghost Value = { MeasuredValue };
@@ -63,7 +63,7 @@ impl Model for Measured {
       traffic = m.traffic.items;
       seen = m.interfaces.all.items;
       own = map (λ l. l.items) m.interfaces.own.items;
-      sent = sent_of m.watched.flows.counts.items;
+      sent = sent_numbers m.watched.flows.counts.items;
     } };
 }
 

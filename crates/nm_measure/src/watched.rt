@@ -2,8 +2,8 @@
 
 ghost use Rattle.std.specs.Prelude.{◌≡◌, ◌<◌, IfOk, OnOk, length, slice_get};
 ghost use Rattle.nm_sim.specs.Effects.{IsPlaceIn};
-ghost use Rattle.nm_measure.specs.Flows.{sent_of};
-ghost use Rattle.nm_measure.specs.Sent.{AreSent, sent_after, with_sent};
+ghost use Rattle.nm_measure.specs.Flows.{sent_numbers};
+ghost use Rattle.nm_measure.specs.Sent.{AreSent, sent_later, with_sent};
 
 use crate::courses::{Course, Courses, End, EndPlace, Ended, Hop, Reason};
 use crate::fates::{Fate, Tallies, Told};
@@ -84,7 +84,7 @@ impl Watched {
         topology: &Topology,
         followed: Option<SourceNo>,
     ) -> Result<Self, AllocError>
-        ensures { IfOk result (λ w. AreSent topology.now 0 (sent_of w.flows.counts.items)) }
+        ensures { IfOk result (λ w. AreSent topology.now 0 (sent_numbers w.flows.counts.items)) }
     {
         let courses = match followed {
             Some(source) => Some(Courses::new(alloc, source)),
@@ -203,8 +203,8 @@ impl Watched {
         happened: Happened,
     ) -> Result<(), AllocError>
         requires { IsPlaceIn topology.now place.now }
-        ensures { OnOk result (sent_of self.new.flows.counts.items
-            ≡ sent_after place.now (sent_of self.old.flows.counts.items)) }
+        ensures { OnOk result (sent_numbers self.new.flows.counts.items
+            ≡ sent_later place.now (sent_numbers self.old.flows.counts.items)) }
     {
         match place {
             Place::Complete(_) => self.see_completion(part),
@@ -240,7 +240,7 @@ impl Watched {
         now: Time,
         happened: Happened,
     ) -> Result<(), AllocError>
-        ensures { sent_of self.new.flows.counts.items ≡ sent_of self.old.flows.counts.items }
+        ensures { sent_numbers self.new.flows.counts.items ≡ sent_numbers self.old.flows.counts.items }
     {
         let Some(iface) = topology.ifaces().get(number.index()) else {
             return Ok(());
@@ -286,7 +286,7 @@ impl Watched {
 
     /// Sees the way of a packet end at a node.
     fn see_end(&mut self, tag: &Tag, told: Told, arrival: Arrival) -> Result<(), AllocError>
-        ensures { sent_of self.new.flows.counts.items ≡ sent_of self.old.flows.counts.items }
+        ensures { sent_numbers self.new.flows.counts.items ≡ sent_numbers self.old.flows.counts.items }
     {
         let Some(outcome) = outcome_of(told.fate) else {
             return Ok(());
@@ -315,7 +315,7 @@ impl Watched {
         answer: Offer,
         happened: Happened,
     ) -> Result<(), AllocError>
-        ensures { sent_of self.new.flows.counts.items ≡ sent_of self.old.flows.counts.items }
+        ensures { sent_numbers self.new.flows.counts.items ≡ sent_numbers self.old.flows.counts.items }
     {
         if self.tallies.has_originated(part, answer.node) {
             self.see_offer(part, answer, happened)
@@ -335,8 +335,8 @@ impl Watched {
         happened: Happened,
     ) -> Result<(), AllocError>
         requires there { source < length topology.now.sources }
-        ensures { OnOk result (sent_of self.new.flows.counts.items
-            ≡ with_sent source (sent_of self.old.flows.counts.items)) }
+        ensures { OnOk result (sent_numbers self.new.flows.counts.items
+            ≡ with_sent source (sent_numbers self.old.flows.counts.items)) }
     {
         let Some(from) = topology.sources().get(source.index()) else {
             return Ok(());
@@ -371,7 +371,7 @@ impl Watched {
         offer: Offer,
         happened: Happened,
     ) -> Result<(), AllocError>
-        ensures { sent_of self.new.flows.counts.items ≡ sent_of self.old.flows.counts.items }
+        ensures { sent_numbers self.new.flows.counts.items ≡ sent_numbers self.old.flows.counts.items }
     {
         match happened {
             Happened::Started(iface) => self.see_start(part, offer, iface),
@@ -412,7 +412,7 @@ impl Watched {
 
     /// Sees a packet dropped at a queue.
     fn see_drop(&mut self, tag: &Tag, place: EndPlace, now: Time) -> Result<(), AllocError>
-        ensures { sent_of self.new.flows.counts.items ≡ sent_of self.old.flows.counts.items }
+        ensures { sent_numbers self.new.flows.counts.items ≡ sent_numbers self.old.flows.counts.items }
     {
         self.flows.end(tag, PacketOutcome::Dropped);
         let end = End {
