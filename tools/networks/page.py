@@ -40,18 +40,10 @@ def links_table(network, found, loads):
     for number, link in enumerate(network.links):
         one, other = network.link_nodes(number)
         cut = {network.nodes[node].partition for node in (one, other)}
-        rows.append(
-            (
-                f"{network.nodes[one].name} to {network.nodes[other].name}",
-                units.rate_said(link.rate),
-                units.time_said(link.delay),
-                network.ifaces[link.a].queue,
-                f"{found.packets[link.a]:,}",
-                f"{found.packets[link.b]:,}",
-                f"{loads[number] / 10**4:.2f}%",
-                " and ".join(f"{part}" for part in sorted(cut)) if len(cut) > 1 else "",
-            )
-        )
+        joined = " and ".join(map(str, sorted(cut))) if len(cut) > 1 else ""
+        rows.append((f"{network.nodes[one].name} to {network.nodes[other].name}", units.rate_said(link.rate),
+                     units.time_said(link.delay), network.ifaces[link.a].queue, f"{found.packets[link.a]:,}",
+                     f"{found.packets[link.b]:,}", f"{loads[number] / 10**4:.2f}%", joined))
     return table(("link", "rate", "delay", "queue (packets)", "packets there", "packets back", "busy",
                   "joins partitions"), rows)
 
