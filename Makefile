@@ -127,7 +127,7 @@ words:
 	@dev/words --all
 
 cut-connections: bin/nullsim
-	@dev/attack/cut-connections
+	@dev/attack/lost-peers cut
 
 demo: bin/nullsim
 	@dev/demo/demo
