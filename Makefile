@@ -46,7 +46,7 @@ Check
   make check-parts *     tries links, files that were left and other processes where trace files are written
   make check-series *    compares steps, ways and delays with the trace files
   make check-frames      compares the reader of frames with a model of its own over generated streams
-  make check-links       breaks the connections of replicas at random octets, with ten thousand seeds, and certifies
+  make check-links *     breaks the connections of replicas at random octets, with ten thousand seeds, and certifies
                          what they come to
   make check-worlds      tries replicas in a million worlds of several machines, each drawn from a seed
   make check-network *   runs the tests of tools/network, tools/launch and the Python package (python3-networkx metis
