@@ -40,7 +40,7 @@ Check
   make check-tools       tries the scripts on fixtures, and reads them with flake8 (flake8)
   make check-docs *      checks that facts, links and names in the documents are right, and runs the commands of
                          README (graphviz metis python3-matplotlib python3-networkx)
-  make check-edge        checks the help, and what is printed of faults on a terminal
+  make check-edge *      checks the help, and what is printed of faults on a terminal
   make check-first-day * runs the commands of a new user's first day, and compares what comes out of each (graphviz metis
                          python3-matplotlib python3-networkx tcpdump)
   make check-parts *     tries links, files that were left and other processes where trace files are written
