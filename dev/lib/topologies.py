@@ -22,6 +22,8 @@ What each kind is, with how many packets where no number is given:
 import os
 import sys
 
+if sys.version_info < (3, 11):
+    sys.exit(f"this needs Python 3.11 or later, and {sys.executable} is {sys.version.split()[0]}")
 sys.path.insert(0, os.path.abspath(f"{__file__}/../../../tools"))
 
 from networks import writing
