@@ -40,13 +40,13 @@ Check
   make check-tools       tries the scripts on fixtures, and reads them with flake8 (flake8)
   make check-docs *      checks that facts, links and names in the documents are right, and runs the commands of
                          README (graphviz metis python3-matplotlib python3-networkx)
-  make check-edge        checks the help, and what is printed of faults on a terminal
+  make check-edge *      checks the help, and what is printed of faults on a terminal
   make check-first-day * runs the commands of a new user's first day, and compares what comes out of each (graphviz metis
                          python3-matplotlib python3-networkx tcpdump)
   make check-parts *     tries links, files that were left and other processes where trace files are written
   make check-series *    compares steps, ways and delays with the trace files
   make check-frames      compares the reader of frames with a model of its own over generated streams
-  make check-links       breaks the connections of replicas at random octets, with ten thousand seeds, and certifies
+  make check-links *     breaks the connections of replicas at random octets, with ten thousand seeds, and certifies
                          what they come to
   make check-worlds      tries replicas in a million worlds of several machines, each drawn from a seed
   make check-network *   runs the tests of tools/network, tools/launch and the Python package (python3-networkx metis
@@ -127,7 +127,7 @@ words:
 	@dev/words --all
 
 cut-connections: bin/nullsim
-	@dev/attack/cut-connections
+	@dev/attack/lost-peers cut
 
 demo: bin/nullsim
 	@dev/demo/demo

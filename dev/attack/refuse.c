@@ -14,8 +14,7 @@ static long allocations;
 static long threads;
 
 /* Whether this call is one to refuse: the variable numbers it, or says `all`. */
-static int is_refused(const char *variable, long *count)
-{
+static int is_refused(const char *variable, long *count) {
     const char *which = getenv(variable);
     const char *mark = getenv("REFUSED");
     if (!which || !mark)
@@ -29,24 +28,21 @@ static int is_refused(const char *variable, long *count)
     return 1;
 }
 
-void *malloc(size_t octets)
-{
+void *malloc(size_t octets) {
     static void *(*next)(size_t);
     if (!next)
         next = (void *(*)(size_t))dlsym(RTLD_NEXT, "malloc");
     return is_refused("REFUSE", &allocations) ? NULL : next(octets);
 }
 
-void *realloc(void *old, size_t octets)
-{
+void *realloc(void *old, size_t octets) {
     static void *(*next)(void *, size_t);
     if (!next)
         next = (void *(*)(void *, size_t))dlsym(RTLD_NEXT, "realloc");
     return is_refused("REFUSE", &allocations) ? NULL : next(old, octets);
 }
 
-int pthread_create(pthread_t *thread, const pthread_attr_t *how, void *(*run)(void *), void *given)
-{
+int pthread_create(pthread_t *thread, const pthread_attr_t *how, void *(*run)(void *), void *given) {
     static int (*next)(pthread_t *, const pthread_attr_t *, void *(*)(void *), void *);
     if (!next)
         next = (int (*)(pthread_t *, const pthread_attr_t *, void *(*)(void *), void *))dlsym(

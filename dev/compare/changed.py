@@ -2,50 +2,38 @@
 known reason."""
 
 import copy
+import functools
+import operator
 import os
 
 from dev.compare import plain, programs, traces
 from dev.compare.differences import Compared
 from dev.lib import here, process
 
-
-def later_arrival(topology):
-    topology["link"][0]["delay"] += 1
-
-
-def slower_link(topology):
-    topology["link"][0]["rate"] -= topology["link"][0]["rate"] // 1000
-
-
-def shorter_queue(topology):
-    next(iface for iface in topology["iface"] if iface["name"] == "gw-wan")["queue"] -= 1
-
-
-def other_octet(topology):
-    topology["source"][0]["fill"] = 1
+# Each change of examples/office.toml: where it is, and what becomes of the value there. Interface 8 is gw-wan.
+CHANGES = {
+    "later arrival": (("link", 0, "delay"), lambda delay: delay + 1),
+    "slower link": (("link", 0, "rate"), lambda rate: rate - rate // 1000),
+    "shorter queue": (("iface", 8, "queue"), lambda queue: queue - 1),
+    "other octet": (("source", 0, "fill"), lambda _: 1),
+    "longer packet": (("source", 0, "size"), lambda size: size + 1),
+    "earlier end": (("stop",), lambda stop: stop // 2),
+    "later source": (("source", 1, "start"), lambda start: start + 1),
+}
 
 
-def longer_packet(topology):
-    topology["source"][0]["size"] += 1
+def changed(topology, way, new):
+    """A topology whose value at the end of a way is another."""
+    made = copy.deepcopy(topology)
+    table = functools.reduce(operator.getitem, way[:-1], made)
+    table[way[-1]] = new(table.get(way[-1]))
+    return made
 
 
-def earlier_end(topology):
-    topology["stop"] //= 2
-
-
-def later_source(topology):
-    topology["source"][1]["start"] += 1
-
-
-CHANGES = (later_arrival, slower_link, shorter_queue, other_octet, longer_packet, earlier_end, later_source)
-
-
-def is_seen(topology, change):
+def is_seen(topology, other):
     """Whether a changed network is found to differ, without a known reason."""
-    changed = copy.deepcopy(topology)
-    change(changed)
     with process.folder("compare") as folder:
-        for name, one, words in (("ours", topology, [here.NULLSIM, "run"]), ("theirs", changed, [programs.NS3])):
+        for name, one, words in (("ours", topology, [here.NULLSIM, "run"]), ("theirs", other, [programs.NS3])):
             traces.write_traces(one, folder, name, words)
         names = [iface["name"] for iface in topology["iface"]]
         compared = Compared(names, os.path.join(folder, "ours"), os.path.join(folder, "theirs"))
@@ -55,4 +43,4 @@ def is_seen(topology, change):
 def unseen():
     """The changes that the comparison does not see."""
     topology = plain.read(here.example("office"))
-    return [change.__name__ for change in CHANGES if not is_seen(topology, change)]
+    return [name for name, change in CHANGES.items() if not is_seen(topology, changed(topology, *change))]

@@ -17,28 +17,24 @@
 #include <memory>
 #include <tuple>
 
-namespace
-{
+namespace {
 
 // A packet has one owner at any time: an event, a queue, or who is at it.
 using Octets = std::unique_ptr<std::vector<uint8_t>>;
 
 // An event: an arrival of a packet at interface i has place 2i, a completion of its transmission 2i + 1, source j has
 // 2I + j of I interfaces.
-struct Event
-{
+struct Event {
     uint64_t time, place, number;
     Octets packet;
 
-    bool operator<(const Event& other) const
-    {
+    bool operator<(const Event& other) const {
         // a heap has its greatest in front
         return std::tie(time, place, number) > std::tie(other.time, other.place, other.number);
     }
 };
 
-struct Port
-{
+struct Port {
     uint32_t node = 0, far = 0;
     uint64_t rate = 1, delay = 0, arrivals = 0, completions = 0;
     size_t limit = 0;
@@ -48,121 +44,88 @@ struct Port
     std::FILE* trace = nullptr;
 };
 
-struct Prefix
-{
+struct Prefix {
     uint32_t to, mask, port;
 };
 
-struct Place
-{
+struct Place {
     bool isRouter;
     uint16_t identification = 0;
     std::vector<uint32_t> addresses;
     std::vector<Prefix> routes; // the longest first
 };
 
-struct Counters
-{
+struct Counters {
     uint64_t hops = 0, delivered = 0, dropped = 0, refused = 0;
 };
 
-uint32_t
-ReadWord(const uint8_t* at)
-{
+uint32_t ReadWord(const uint8_t* at) {
     return static_cast<uint32_t>(at[0]) << 24 | at[1] << 16 | at[2] << 8 | at[3];
 }
 
-void
-WriteWord(uint8_t* at, uint32_t word)
-{
-    for (int i = 0; i < 4; i++)
-    {
+void WriteWord(uint8_t* at, uint32_t word) {
+    for (int i = 0; i < 4; i++) {
         at[i] = static_cast<uint8_t>(word >> (24 - 8 * i));
     }
 }
 
-void
-WriteHalf(uint8_t* at, uint32_t half)
-{
+void WriteHalf(uint8_t* at, uint32_t half) {
     at[0] = static_cast<uint8_t>(half >> 8);
     at[1] = static_cast<uint8_t>(half);
 }
 
-[[noreturn]] void
-EndNotSimulated(const std::string& what)
-{
+[[noreturn]] void EndNotSimulated(const std::string& what) {
     std::cerr << "compare-loop: " << what << " is not simulated\n";
     std::exit(3);
 }
 
 // The one's complement sum of 16-bit words, to which `sum` is added.
-uint32_t
-Sum(const uint8_t* octets, size_t count, uint64_t sum)
-{
-    for (size_t i = 0; i + 1 < count; i += 2)
-    {
+uint32_t Sum(const uint8_t* octets, size_t count, uint64_t sum) {
+    for (size_t i = 0; i + 1 < count; i += 2) {
         sum += octets[i] << 8 | octets[i + 1];
     }
     sum += count % 2 ? octets[count - 1] << 8 : 0;
-    while (sum >> 16)
-    {
+    while (sum >> 16) {
         sum = (sum & 0xffff) + (sum >> 16);
     }
     return static_cast<uint32_t>(sum);
 }
 
-class Simulation
-{
+class Simulation {
   public:
     Simulation(const Network& net, const char* traces)
-        : m_net(net),
-          m_ports(net.ifaces.size()),
-          m_sent(net.sources.size())
-    {
+        : m_net(net), m_ports(net.ifaces.size()), m_sent(net.sources.size()) {
         AddPorts(traces);
-        for (const NodeLine& line : net.nodes)
-        {
+        for (const NodeLine& line : net.nodes) {
             m_places.push_back(Place{line.isRouter, 0, {}, {}});
         }
-        for (const Iface& iface : net.ifaces)
-        {
+        for (const Iface& iface : net.ifaces) {
             m_places.at(iface.node).addresses.push_back(iface.address);
         }
         AddRoutes();
-        for (uint32_t j = 0; j < net.sources.size(); j++)
-        {
+        for (uint32_t j = 0; j < net.sources.size(); j++) {
             Plan(j);
         }
     }
 
-    ~Simulation()
-    {
-        for (Port& port : m_ports)
-        {
-            if (port.trace)
-            {
+    ~Simulation() {
+        for (Port& port : m_ports) {
+            if (port.trace) {
                 std::fclose(port.trace);
             }
         }
     }
 
-    const Counters& Run()
-    {
+    const Counters& Run() {
         uint64_t twice = 2 * m_ports.size();
-        while (!m_events.empty() && m_events.front().time < m_net.stop)
-        {
+        while (!m_events.empty() && m_events.front().time < m_net.stop) {
             Event event = Take();
             m_now = event.time;
-            if (event.place >= twice)
-            {
+            if (event.place >= twice) {
                 Originate(static_cast<uint32_t>(event.place - twice));
-            }
-            else if (event.place % 2)
-            {
+            } else if (event.place % 2) {
                 Complete(m_ports[event.place / 2], event.place);
-            }
-            else
-            {
+            } else {
                 Arrive(m_ports[event.place / 2], std::move(event.packet));
             }
         }
@@ -170,39 +133,32 @@ class Simulation
     }
 
   private:
-    void Put(uint64_t time, uint64_t place, uint64_t number, Octets packet)
-    {
+    void Put(uint64_t time, uint64_t place, uint64_t number, Octets packet) {
         m_events.push_back(Event{time, place, number, std::move(packet)});
         std::push_heap(m_events.begin(), m_events.end());
     }
 
-    Event Take()
-    {
+    Event Take() {
         std::pop_heap(m_events.begin(), m_events.end());
         Event event = std::move(m_events.back());
         m_events.pop_back();
         return event;
     }
 
-    void AddPorts(const char* traces)
-    {
-        for (size_t i = 0; i < m_ports.size(); i++)
-        {
+    void AddPorts(const char* traces) {
+        for (size_t i = 0; i < m_ports.size(); i++) {
             const Iface& iface = m_net.ifaces[i];
             m_ports[i].node = iface.node;
             m_ports[i].limit = static_cast<size_t>(iface.queue);
             m_ports[i].octetLimit = iface.queueOctets;
-            if (traces)
-            {
+            if (traces) {
                 m_ports[i].trace = std::fopen((std::string(traces) + "/" + iface.name + ".pcap").c_str(), "wb");
                 const uint32_t head[6] = {0xa1b23c4d, 0x00040002, 0, 0, 65535, 101};
                 std::fwrite(head, 1, sizeof head, m_ports[i].trace);
             }
         }
-        for (const Link& link : m_net.links)
-        {
-            for (auto [from, to] : {std::pair{link.a, link.b}, std::pair{link.b, link.a}})
-            {
+        for (const Link& link : m_net.links) {
+            for (auto [from, to] : {std::pair{link.a, link.b}, std::pair{link.b, link.a}}) {
                 m_ports.at(from).far = to;
                 m_ports.at(from).rate = link.rate;
                 m_ports.at(from).delay = link.delay;
@@ -210,59 +166,47 @@ class Simulation
         }
     }
 
-    void AddRoutes()
-    {
-        for (const Route& route : m_net.routes)
-        {
+    void AddRoutes() {
+        for (const Route& route : m_net.routes) {
             uint32_t mask = route.length ? 0xffffffffu << (32 - route.length) : 0;
             m_places.at(route.node).routes.push_back(Prefix{route.to, mask, route.iface});
         }
-        for (Place& place : m_places)
-        {
+        for (Place& place : m_places) {
             std::stable_sort(place.routes.begin(), place.routes.end(),
                              [](const Prefix& a, const Prefix& b) { return a.mask > b.mask; });
         }
     }
 
-    void Plan(uint32_t j)
-    {
+    void Plan(uint32_t j) {
         const Source& source = m_net.sources[j];
-        if (m_sent[j] < source.count)
-        {
+        if (m_sent[j] < source.count) {
             Put(source.start + m_sent[j] * source.interval, 2 * m_ports.size() + j, m_sent[j], nullptr);
         }
     }
 
-    static const Prefix* Find(const Place& place, uint32_t to)
-    {
-        for (const Prefix& prefix : place.routes)
-        {
-            if ((to & prefix.mask) == prefix.to)
-            {
+    static const Prefix* Find(const Place& place, uint32_t to) {
+        for (const Prefix& prefix : place.routes) {
+            if ((to & prefix.mask) == prefix.to) {
                 return &prefix;
             }
         }
         return nullptr;
     }
 
-    static bool IsOwn(const Place& place, uint32_t to)
-    {
+    static bool IsOwn(const Place& place, uint32_t to) {
         return std::find(place.addresses.begin(), place.addresses.end(), to) != place.addresses.end();
     }
 
-    static void SetChecksum(uint8_t* head)
-    {
+    static void SetChecksum(uint8_t* head) {
         WriteHalf(head + 10, 0);
         WriteHalf(head + 10, ~Sum(head, 20, 0));
     }
 
-    void Originate(uint32_t j)
-    {
+    void Originate(uint32_t j) {
         const Source& source = m_net.sources[j];
         Place& place = m_places[source.node];
         const Prefix* route = IsOwn(place, source.to) ? nullptr : Find(place, source.to);
-        if (route)
-        {
+        if (route) {
             Octets packet = std::make_unique<std::vector<uint8_t>>(28 + source.size, static_cast<uint8_t>(source.fill));
             uint8_t* head = packet->data();
             std::fill_n(head, 28, 0);
@@ -285,30 +229,25 @@ class Simulation
         Plan(j);
     }
 
-    void Arrive(Port& port, Octets packet)
-    {
+    void Arrive(Port& port, Octets packet) {
         Record(port, *packet);
         Place& place = m_places[port.node];
         uint8_t* head = packet->data();
-        if (packet->size() < 20 || head[0] != 0x45 || Sum(head, 20, 0) != 0xffff)
-        {
+        if (packet->size() < 20 || head[0] != 0x45 || Sum(head, 20, 0) != 0xffff) {
             m_counters.refused++;
             return;
         }
         uint32_t to = ReadWord(head + 16);
-        if (IsOwn(place, to))
-        {
+        if (IsOwn(place, to)) {
             Deliver(m_net.nodes[port.node], head);
             return;
         }
-        if (!place.isRouter)
-        {
+        if (!place.isRouter) {
             m_counters.refused++;
             return;
         }
         const Prefix* route = Find(place, to);
-        if (!route || head[8] <= 1)
-        {
+        if (!route || head[8] <= 1) {
             EndNotSimulated("an ICMP error");
         }
         head[8]--;
@@ -316,38 +255,29 @@ class Simulation
         Offer(route->port, std::move(packet));
     }
 
-    void Deliver(const NodeLine& node, const uint8_t* head)
-    {
+    void Deliver(const NodeLine& node, const uint8_t* head) {
         uint16_t port = static_cast<uint16_t>(head[22] << 8 | head[23]);
-        if (std::find(node.ports.begin(), node.ports.end(), port) == node.ports.end())
-        {
+        if (std::find(node.ports.begin(), node.ports.end(), port) == node.ports.end()) {
             EndNotSimulated("an ICMP error");
         }
         m_counters.delivered++;
     }
 
-    void Offer(uint32_t number, Octets packet)
-    {
+    void Offer(uint32_t number, Octets packet) {
         Port& port = m_ports[number];
         int64_t octets = packet->size();
-        if (!port.isBusy)
-        {
+        if (!port.isBusy) {
             Start(port, number, std::move(packet));
-        }
-        else if (port.waiting.size() < port.limit &&
-                 (port.octetLimit < 0 || port.waitingOctets + octets <= port.octetLimit))
-        {
+        } else if (port.waiting.size() < port.limit &&
+                 (port.octetLimit < 0 || port.waitingOctets + octets <= port.octetLimit)) {
             port.waitingOctets += octets;
             port.waiting.push_back(std::move(packet));
-        }
-        else
-        {
+        } else {
             m_counters.dropped++;
         }
     }
 
-    void Start(Port& port, uint32_t number, Octets packet)
-    {
+    void Start(Port& port, uint32_t number, Octets packet) {
         Record(port, *packet);
         m_counters.hops++;
         port.isBusy = true;
@@ -356,11 +286,9 @@ class Simulation
         Put(done + port.delay, 2 * static_cast<uint64_t>(port.far), port.arrivals++, std::move(packet));
     }
 
-    void Complete(Port& port, uint64_t place)
-    {
+    void Complete(Port& port, uint64_t place) {
         port.isBusy = false;
-        if (!port.waiting.empty())
-        {
+        if (!port.waiting.empty()) {
             Octets packet = std::move(port.waiting.front());
             port.waiting.pop_front();
             port.waitingOctets -= packet->size();
@@ -368,10 +296,8 @@ class Simulation
         }
     }
 
-    void Record(Port& port, const std::vector<uint8_t>& octets)
-    {
-        if (!port.trace)
-        {
+    void Record(Port& port, const std::vector<uint8_t>& octets) {
+        if (!port.trace) {
             return;
         }
         uint32_t size = static_cast<uint32_t>(octets.size());
@@ -392,28 +318,22 @@ class Simulation
 
 } // namespace
 
-int
-main(int argc, char** argv)
-{
+int main(int argc, char** argv) {
     bool hasTraces = argc == 4 && !std::strcmp(argv[2], "--traces");
-    if (argc != 2 && !hasTraces)
-    {
+    if (argc != 2 && !hasTraces) {
         std::cerr << "usage: compare-loop NETWORK [--traces FOLDER]\n";
         return 2;
     }
     Network net = ReadNetwork(argv[1]);
-    for (const Source& source : net.sources)
-    {
-        if (source.kind != "cbr")
-        {
+    for (const Source& source : net.sources) {
+        if (source.kind != "cbr") {
             EndNotSimulated("a source of kind " + source.kind);
         }
     }
     AllowFiles(net.ifaces.size());
     Simulation simulation(net, hasTraces ? argv[3] : nullptr);
     const Counters& counters = simulation.Run();
-    std::cout << "hops " << counters.hops << "\ndelivered " << counters.delivered << "\ndropped "
-              << counters.dropped << "\nrefused "
-              << counters.refused << "\n";
+    std::cout << "hops " << counters.hops << "\ndelivered " << counters.delivered << "\ndropped " << counters.dropped
+              << "\nrefused " << counters.refused << "\n";
     return 0;
 }

@@ -20,47 +20,40 @@
 #include <utility>
 #include <vector>
 
-struct Iface
-{
+struct Iface {
     std::string name;
     uint32_t node, address;
     int64_t queue, queueOctets;
 };
 
-struct Link
-{
+struct Link {
     uint32_t a, b;
     uint64_t rate, delay;
 };
 
-struct Route
-{
+struct Route {
     uint32_t node, to, length, iface;
 };
 
-struct RawPacket
-{
+struct RawPacket {
     uint64_t at;
     std::string octets;
 };
 
-struct Source
-{
+struct Source {
     std::string kind;
     uint32_t node = 0, to = 0, iface = 0, sport = 0, dport = 0, ident = 0, size = 0, fill = 0, ttl = 64;
     uint64_t start = 0, interval = 1, count = 0;
     std::vector<RawPacket> packets;
 };
 
-struct NodeLine
-{
+struct NodeLine {
     std::string name;
     bool isRouter = false;
     std::vector<uint16_t> ports;
 };
 
-struct Network
-{
+struct Network {
     uint64_t stop = 0;
     uint32_t mtu = 0;
     std::vector<NodeLine> nodes;
@@ -71,158 +64,81 @@ struct Network
 };
 
 // The nanoseconds that a transmission of so many octets takes at a rate in bits per second: rounded up, and at least 1.
-inline uint64_t
-TransmissionTime(uint64_t octets, uint64_t rate)
-{
+inline uint64_t TransmissionTime(uint64_t octets, uint64_t rate) {
     unsigned __int128 bits = static_cast<unsigned __int128>(octets) * 8 * 1000000000;
     uint64_t time = static_cast<uint64_t>((bits + rate - 1) / rate);
     return time ? time : 1;
 }
 
-inline std::string
-FromHexadecimal(const std::string& text)
-{
+inline std::string FromHexadecimal(const std::string& text) {
     std::string octets;
-    for (size_t at = 0; at + 1 < text.size(); at += 2)
-    {
+    for (size_t at = 0; at + 1 < text.size(); at += 2) {
         octets += static_cast<char>(std::stoi(text.substr(at, 2), nullptr, 16));
     }
     return octets;
 }
 
-inline Source
-ReadSource(const std::string& kind, std::istream& in)
-{
+inline Source ReadSource(const std::string& kind, std::istream& in) {
     Source source;
     source.kind = kind;
     in >> source.node;
-    if (kind == "raw")
-    {
+    if (kind == "raw") {
         in >> source.iface;
         return source;
     }
     in >> source.to;
-    if (kind == "cbr")
-    {
+    if (kind == "cbr") {
         in >> source.sport >> source.dport;
-    }
-    else
-    {
+    } else {
         in >> source.ident;
     }
     in >> source.size >> source.fill >> source.start >> source.interval >> source.count >> source.ttl;
     return source;
 }
 
-inline NodeLine
-ReadNode(std::istream& in)
-{
-    NodeLine node;
-    std::string kind;
-    in >> node.name >> kind;
-    node.isRouter = kind == "router";
-    return node;
+// Reads what is behind the first word of a line.
+inline void ReadLine(const std::string& word, std::istream& in, Network& net) {
+    if (word == "stop") {
+        in >> net.stop;
+    } else if (word == "mtu") {
+        in >> net.mtu;
+    } else if (word == "node") {
+        NodeLine& node = net.nodes.emplace_back();
+        std::string kind;
+        in >> node.name >> kind;
+        node.isRouter = kind == "router";
+    } else if (word == "port") {
+        uint32_t node;
+        uint16_t port;
+        in >> node >> port;
+        net.nodes.at(node).ports.push_back(port);
+    } else if (word == "iface") {
+        Iface& iface = net.ifaces.emplace_back();
+        in >> iface.name >> iface.node >> iface.address >> iface.queue >> iface.queueOctets;
+    } else if (word == "link") {
+        Link& link = net.links.emplace_back();
+        in >> link.a >> link.b >> link.rate >> link.delay;
+    } else if (word == "route") {
+        Route& route = net.routes.emplace_back();
+        in >> route.node >> route.to >> route.length >> route.iface;
+    } else if (word == "packet") {
+        RawPacket& packet = net.sources.back().packets.emplace_back();
+        std::string text;
+        in >> packet.at >> text;
+        packet.octets = FromHexadecimal(text);
+    } else {
+        net.sources.push_back(ReadSource(word, in));
+    }
 }
 
-inline void
-ReadPort(std::istream& in, Network& net)
-{
-    uint32_t node;
-    uint16_t port;
-    in >> node >> port;
-    net.nodes.at(node).ports.push_back(port);
-}
-
-inline Iface
-ReadIface(std::istream& in)
-{
-    Iface iface;
-    in >> iface.name >> iface.node >> iface.address >> iface.queue >> iface.queueOctets;
-    return iface;
-}
-
-inline Link
-ReadLink(std::istream& in)
-{
-    Link link;
-    in >> link.a >> link.b >> link.rate >> link.delay;
-    return link;
-}
-
-inline Route
-ReadRoute(std::istream& in)
-{
-    Route route;
-    in >> route.node >> route.to >> route.length >> route.iface;
-    return route;
-}
-
-// Reads a line that belongs to the network's shape; whether its first word was of that kind.
-inline bool
-ReadShape(const std::string& word, std::istream& in, Network& net)
-{
-    if (word == "node")
-    {
-        net.nodes.push_back(ReadNode(in));
-    }
-    else if (word == "port")
-    {
-        ReadPort(in, net);
-    }
-    else if (word == "iface")
-    {
-        net.ifaces.push_back(ReadIface(in));
-    }
-    else if (word == "link")
-    {
-        net.links.push_back(ReadLink(in));
-    }
-    else if (word == "route")
-    {
-        net.routes.push_back(ReadRoute(in));
-    }
-    else
-    {
-        return false;
-    }
-    return true;
-}
-
-inline Network
-ReadNetwork(const char* path)
-{
+inline Network ReadNetwork(const char* path) {
     Network net;
     std::ifstream in(path);
     std::string word;
-    while (in >> word)
-    {
-        if (ReadShape(word, in, net))
-        {
-            continue;
-        }
-        if (word == "stop")
-        {
-            in >> net.stop;
-        }
-        else if (word == "mtu")
-        {
-            in >> net.mtu;
-        }
-        else if (word == "packet")
-        {
-            RawPacket packet;
-            std::string text;
-            in >> packet.at >> text;
-            packet.octets = FromHexadecimal(text);
-            net.sources.back().packets.push_back(packet);
-        }
-        else
-        {
-            net.sources.push_back(ReadSource(word, in));
-        }
+    while (in >> word) {
+        ReadLine(word, in, net);
     }
-    if (!net.stop)
-    {
+    if (!net.stop) {
         std::cerr << "compare: " << path << " is no network\n";
         std::exit(2);
     }
@@ -230,9 +146,7 @@ ReadNetwork(const char* path)
 }
 
 // As many open files as there are interfaces.
-inline void
-AllowFiles(size_t count)
-{
+inline void AllowFiles(size_t count) {
     rlimit limit;
     getrlimit(RLIMIT_NOFILE, &limit);
     limit.rlim_cur = std::min<rlim_t>(limit.rlim_max, std::max<rlim_t>(limit.rlim_cur, count + 64));

@@ -14,18 +14,15 @@
 
 using namespace ns3;
 
-namespace
-{
+namespace {
 
-struct Options
-{
+struct Options {
     const char* network = nullptr;
     const char* traces = nullptr;
     bool hasPlaces = false;
 };
 
-struct Built
-{
+struct Built {
     std::vector<Ptr<Node>> nodes;
     std::vector<Ptr<CountingIpv4>> ipv4s;
     std::vector<Ptr<UdpL4Protocol>> udps;
@@ -35,9 +32,7 @@ struct Built
 
 // A node with IPv4, ICMP and UDP, static routes, and no queue discipline: these come with InternetStackHelper and
 // Ipv4AddressHelper alone.
-void
-AddNode(const NodeLine& line, Built& built)
-{
+void AddNode(const NodeLine& line, Built& built) {
     Ptr<Node> node = CreateObject<Node>();
     Ptr<CountingIpv4> ipv4 = CreateObject<CountingIpv4>();
     Ptr<UdpL4Protocol> udp = CreateObject<UdpL4Protocol>();
@@ -46,8 +41,7 @@ AddNode(const NodeLine& line, Built& built)
     node->AggregateObject(CreateObject<Icmpv4L4Protocol>());
     node->AggregateObject(udp);
     ipv4->SetRoutingProtocol(CreateObject<Ipv4StaticRouting>());
-    for (uint16_t port : line.ports)
-    {
+    for (uint16_t port : line.ports) {
         // an end point without a callback takes what comes, and forgets it; a second one for a port is refused, and not
         // needed
         udp->Allocate(Ptr<NetDevice>(), port);
@@ -57,11 +51,8 @@ AddNode(const NodeLine& line, Built& built)
     built.udps.push_back(udp);
 }
 
-void
-SetQueue(Ptr<PointToPointNetDevice> device, const Iface& iface)
-{
-    if (iface.queue > 0 && iface.queueOctets < 0)
-    {
+void SetQueue(Ptr<PointToPointNetDevice> device, const Iface& iface) {
+    if (iface.queue > 0 && iface.queueOctets < 0) {
         auto queue = CreateObject<DropTailQueue<Packet>>();
         queue->SetMaxSize(QueueSize(QueueSizeUnit::PACKETS, iface.queue));
         device->SetQueue(queue);
@@ -73,9 +64,7 @@ SetQueue(Ptr<PointToPointNetDevice> device, const Iface& iface)
     device->TraceConnectWithoutContext("PhyTxEnd", MakeCallback(&WaitQueue::OnEnd, queue));
 }
 
-void
-AddIface(const Network& net, const Iface& iface, bool isGuarded, Built& built)
-{
+void AddIface(const Network& net, const Iface& iface, bool isGuarded, Built& built) {
     Ptr<PointToPointNetDevice> device = CreateObject<PointToPointNetDevice>();
     Ptr<CountingIpv4> ipv4 = built.ipv4s.at(iface.node);
     device->SetAddress(Mac48Address::Allocate());
@@ -86,8 +75,7 @@ AddIface(const Network& net, const Iface& iface, bool isGuarded, Built& built)
     // a mask of 32 bits makes no route and no broadcast address
     ipv4->AddAddress(index, Ipv4InterfaceAddress(Ipv4Address(iface.address), Ipv4Mask::GetOnes()));
     ipv4->SetForwarding(index, net.nodes.at(iface.node).isRouter);
-    if (isGuarded)
-    {
+    if (isGuarded) {
         device->SetReceiveCallback(MakeBoundCallback(&ReceiveIfReadable, ipv4));
     }
     built.devices.push_back(device);
@@ -96,63 +84,47 @@ AddIface(const Network& net, const Iface& iface, bool isGuarded, Built& built)
 
 // Whether one correction serves packets of all lengths: then ns-3's own channel and device do, with a gap and a delay
 // that have it in them.
-bool
-IsOneCorrection(uint64_t rate, uint32_t mtu)
-{
-    for (uint32_t octets = 1; octets <= mtu; octets++)
-    {
-        if (TimeCorrection(octets + PPP_OCTETS, rate) != TimeCorrection(1 + PPP_OCTETS, rate))
-        {
+bool IsOneCorrection(uint64_t rate, uint32_t mtu) {
+    for (uint32_t octets = 1; octets <= mtu; octets++) {
+        if (TimeCorrection(octets + PPP_OCTETS, rate) != TimeCorrection(1 + PPP_OCTETS, rate)) {
             return false;
         }
     }
     return true;
 }
 
-void
-AddLink(const Network& net, const Link& link, bool hasPlaces, bool isOne, Built& built)
-{
+void AddLink(const Network& net, const Link& link, bool hasPlaces, bool isOne, Built& built) {
     int64_t correction = isOne ? TimeCorrection(1 + PPP_OCTETS, link.rate) : 0;
     Ptr<ExactChannel> exact;
     Ptr<PointToPointChannel> channel;
-    if (!isOne || hasPlaces)
-    {
+    if (!isOne || hasPlaces) {
         exact = CreateObject<ExactChannel>(link.rate, !isOne);
         channel = exact;
-    }
-    else
-    {
+    } else {
         channel = CreateObject<PointToPointChannel>();
     }
     channel->SetAttribute("Delay", TimeValue(NanoSeconds(static_cast<int64_t>(link.delay) + correction)));
-    for (uint32_t end : {link.a, link.b})
-    {
+    for (uint32_t end : {link.a, link.b}) {
         Ptr<PointToPointNetDevice> device = built.devices.at(end);
         device->SetDataRate(DataRate(link.rate));
         device->SetInterframeGap(NanoSeconds(correction));
-        if (exact)
-        {
+        if (exact) {
             device->TraceConnectWithoutContext(
                 "PhyTxBegin",
                 MakeBoundCallback(&OnStart, PeekPointer(device), link.rate, !isOne, 2 * static_cast<int64_t>(end) + 1));
         }
         device->Attach(channel);
     }
-    if (exact)
-    {
+    if (exact) {
         exact->SetEnds(built.devices.at(link.a), link.a, link.b);
     }
 }
 
-void
-AddRoutes(const Network& net, Built& built)
-{
-    for (size_t i = 0; i < built.devices.size(); i++)
-    {
+void AddRoutes(const Network& net, Built& built) {
+    for (size_t i = 0; i < built.devices.size(); i++) {
         built.ipv4s.at(net.ifaces[i].node)->SetUp(built.indexes[i]);
     }
-    for (const Route& route : net.routes)
-    {
+    for (const Route& route : net.routes) {
         auto table = DynamicCast<Ipv4StaticRouting>(built.ipv4s.at(route.node)->GetRoutingProtocol());
         uint32_t mask = route.length ? 0xffffffffu << (32 - route.length) : 0;
         table->AddNetworkRouteTo(Ipv4Address(route.to), Ipv4Mask(mask), built.indexes.at(route.iface));
@@ -160,8 +132,7 @@ AddRoutes(const Network& net, Built& built)
 }
 
 // A source that makes its next event after each.
-class Traffic
-{
+class Traffic {
   public:
     Traffic(const Source& source, int64_t place, Built& built)
         : m_source(source),
@@ -169,19 +140,15 @@ class Traffic
           m_ipv4(built.ipv4s.at(source.node)),
           m_udp(built.udps.at(source.node)),
           m_node(built.nodes.at(source.node)->GetId()),
-          m_data(source.size, static_cast<uint8_t>(source.fill))
-    {
-        if (source.kind == "raw")
-        {
+          m_data(source.size, static_cast<uint8_t>(source.fill)) {
+        if (source.kind == "raw") {
             m_device = built.devices.at(source.iface);
         }
     }
 
-    void Plan()
-    {
+    void Plan() {
         bool isRaw = static_cast<bool>(m_device);
-        if (m_number >= (isRaw ? m_source.packets.size() : m_source.count))
-        {
+        if (m_number >= (isRaw ? m_source.packets.size() : m_source.count)) {
             return;
         }
         uint64_t at = isRaw ? m_source.packets[m_number].at : m_source.start + m_number * m_source.interval;
@@ -190,16 +157,12 @@ class Traffic
     }
 
   private:
-    void Send()
-    {
-        if (m_device)
-        {
+    void Send() {
+        if (m_device) {
             const std::string& octets = m_source.packets[m_number].octets;
             auto packet = Create<Packet>(reinterpret_cast<const uint8_t*>(octets.data()), octets.size());
             m_device->Send(packet, m_device->GetBroadcast(), Ipv4L3Protocol::PROT_NUMBER);
-        }
-        else
-        {
+        } else {
             Originate();
         }
         m_number++;
@@ -207,26 +170,22 @@ class Traffic
     }
 
     // Octets that are 0 need no memory in ns-3.
-    Ptr<Packet> Data() const
-    {
+    Ptr<Packet> Data() const {
         return m_source.fill ? Create<Packet>(m_data.data(), m_data.size()) : Create<Packet>(m_source.size);
     }
 
     // Without a socket: it would take the port that it sends from, and answer there.
-    void Originate()
-    {
+    void Originate() {
         Ipv4Address to(m_source.to);
         Ptr<Ipv4Route> route = m_ipv4->GetInterfaceForAddress(to) >= 0 ? nullptr : m_ipv4->RouteTo(to);
-        if (!route)
-        {
+        if (!route) {
             return;
         }
         Ptr<Packet> packet = Data();
         SocketIpTtlTag ttl;
         ttl.SetTtl(m_source.ttl);
         packet->AddPacketTag(ttl);
-        if (m_source.kind == "cbr")
-        {
+        if (m_source.kind == "cbr") {
             m_udp->Send(packet, route->GetSource(), to, m_source.sport, m_source.dport, route);
             return;
         }
@@ -254,26 +213,20 @@ class Traffic
     uint64_t m_number = 0;
 };
 
-void
-AddTraces(const Network& net, const std::string& folder, Built& built)
-{
+void AddTraces(const Network& net, const std::string& folder, Built& built) {
     AllowFiles(net.ifaces.size());
     Config::SetDefault("ns3::PcapFileWrapper::NanosecMode", BooleanValue(true));
     PcapHelper helper;
-    for (size_t i = 0; i < net.ifaces.size(); i++)
-    {
+    for (size_t i = 0; i < net.ifaces.size(); i++) {
         std::string path = folder + "/" + net.ifaces[i].name + ".pcap";
         auto file = helper.CreateFile(path, std::ios::out, PcapHelper::DLT_PPP);
         helper.HookDefaultSink<PointToPointNetDevice>(built.devices[i], "PromiscSniffer", file);
     }
 }
 
-std::vector<std::unique_ptr<Traffic>>
-AddSources(const Network& net, Built& built)
-{
+std::vector<std::unique_ptr<Traffic>> AddSources(const Network& net, Built& built) {
     std::vector<std::unique_ptr<Traffic>> all;
-    for (size_t j = 0; j < net.sources.size(); j++)
-    {
+    for (size_t j = 0; j < net.sources.size(); j++) {
         const int64_t place = static_cast<int64_t>(2 * net.ifaces.size() + j);
         all.push_back(std::make_unique<Traffic>(net.sources[j], place, built));
         all.back()->Plan();
@@ -281,55 +234,39 @@ AddSources(const Network& net, Built& built)
     return all;
 }
 
-Built
-Build(const Network& net, const Options& options)
-{
+Built Build(const Network& net, const Options& options) {
     Built built;
     bool isGuarded = false;
-    for (const Source& source : net.sources)
-    {
+    for (const Source& source : net.sources) {
         isGuarded |= source.kind == "raw";
     }
-    for (const NodeLine& line : net.nodes)
-    {
+    for (const NodeLine& line : net.nodes) {
         AddNode(line, built);
     }
-    for (const Iface& iface : net.ifaces)
-    {
+    for (const Iface& iface : net.ifaces) {
         AddIface(net, iface, isGuarded, built);
     }
     std::map<uint64_t, bool> isOne;
-    for (const Link& link : net.links)
-    {
-        if (!isOne.count(link.rate))
-        {
+    for (const Link& link : net.links) {
+        if (!isOne.count(link.rate)) {
             isOne[link.rate] = IsOneCorrection(link.rate, net.mtu);
         }
         AddLink(net, link, options.hasPlaces, isOne[link.rate], built);
     }
     AddRoutes(net, built);
-    if (options.traces)
-    {
+    if (options.traces) {
         AddTraces(net, options.traces, built);
     }
     return built;
 }
 
-bool
-ReadOptions(int argc, char** argv, Options& options)
-{
-    for (int i = 1; i < argc; i++)
-    {
-        if (!std::strcmp(argv[i], "--traces") && i + 1 < argc)
-        {
+bool ReadOptions(int argc, char** argv, Options& options) {
+    for (int i = 1; i < argc; i++) {
+        if (!std::strcmp(argv[i], "--traces") && i + 1 < argc) {
             options.traces = argv[++i];
-        }
-        else if (!std::strcmp(argv[i], "--places"))
-        {
+        } else if (!std::strcmp(argv[i], "--places")) {
             options.hasPlaces = true;
-        }
-        else
-        {
+        } else {
             options.network = argv[i];
         }
     }
@@ -338,19 +275,15 @@ ReadOptions(int argc, char** argv, Options& options)
 
 } // namespace
 
-int
-main(int argc, char** argv)
-{
+int main(int argc, char** argv) {
     Options options;
-    if (!ReadOptions(argc, argv, options))
-    {
+    if (!ReadOptions(argc, argv, options)) {
         std::cerr << "usage: compare-ns3 NETWORK [--traces FOLDER] [--places]\n";
         return 2;
     }
     Network net = ReadNetwork(options.network);
     GlobalValue::Bind("ChecksumEnabled", BooleanValue(true));
-    if (options.hasPlaces)
-    {
+    if (options.hasPlaces) {
         ObjectFactory factory;
         factory.SetTypeId(PlaceScheduler::GetTypeId());
         Simulator::SetScheduler(factory);

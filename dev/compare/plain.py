@@ -1,6 +1,8 @@
 """Topologies: read from TOML, cut into parts, and written as TOML or as the plain lines that the C++ programs read
 (network.h)."""
 
+from ipaddress import IPv4Address
+
 from dev.lib.networks import toml_of
 
 # The keys of a source that come after its kind's own, and what they are where they are absent.
@@ -15,14 +17,6 @@ def read(path):
     return topology
 
 
-def number_of(address):
-    """An address as a number of 32 bits."""
-    number = 0
-    for part in address.split("."):
-        number = number << 8 | int(part)
-    return number
-
-
 def numbers(tables):
     return {table["name"]: number for number, table in enumerate(tables)}
 
@@ -35,7 +29,7 @@ def source_lines(source, nodes, ifaces):
             yield f"packet {packet['at']} {packet['data']}"
         return
     own = [source["sport"], source["dport"]] if source["kind"] == "cbr" else [source["ident"]]
-    words = [node, number_of(source["to"]), *own, *(source.get(key, absent) for key, absent in TIMED)]
+    words = [node, int(IPv4Address(source["to"])), *own, *(source.get(key, absent) for key, absent in TIMED)]
     yield f"{source['kind']} {' '.join(map(str, words))}"
 
 
@@ -48,13 +42,13 @@ def plain_lines(topology):
         yield f"node {node['name']} {node['kind']}"
         yield from (f"port {number} {port}" for port in node.get("ports", []))
     for iface in topology["iface"]:
-        octets = iface.get("queue_octets", -1)
-        yield f"iface {iface['name']} {nodes[iface['node']]} {number_of(iface['address'])} {iface['queue']} {octets}"
+        address, octets = int(IPv4Address(iface["address"])), iface.get("queue_octets", -1)
+        yield f"iface {iface['name']} {nodes[iface['node']]} {address} {iface['queue']} {octets}"
     for link in topology["link"]:
         yield f"link {ifaces[link['a']]} {ifaces[link['b']]} {link['rate']} {link['delay']}"
     for route in topology["route"]:
         address, length = route["to"].split("/")
-        yield f"route {nodes[route['node']]} {number_of(address)} {length} {ifaces[route['via']]}"
+        yield f"route {nodes[route['node']]} {int(IPv4Address(address))} {length} {ifaces[route['via']]}"
     for source in topology["source"]:
         yield from source_lines(source, nodes, ifaces)
 

@@ -34,6 +34,7 @@ def absent():
 
 def build():
     """Compiles both C++ programs where they are older than their sources."""
+    os.makedirs(os.path.dirname(NS3), exist_ok=True)
     for built, source, headers, libraries in BUILDS:
         if not is_newer(built, (source, *headers)):
             subprocess.run(["g++", *FLAGS, "-o", built, os.path.join(SOURCES, source), *libraries], check=True)

@@ -35,8 +35,7 @@ class Header:
         self.octets = octets
         self.length = (octets[0] & 15) * 4
         self.total, self.identification, fragment = struct.unpack_from(">HHH", octets, 2)
-        self.is_reserved, self.has_more = bool(fragment & 0x8000), bool(fragment & 0x2000)
-        self.offset = fragment & 0x1FFF
+        self.is_reserved, self.offset = bool(fragment & 0x8000), fragment & 0x1FFF
         self.ttl, self.protocol = octets[8], octets[9]
         self.payload = octets[self.length:self.total]
 

@@ -1,17 +1,11 @@
 """Where the processes and the proxy listen: over loopback, or in network namespaces that a bridge joins, with netem on
 each of their links."""
 
-import os
-
-from dev.lib import nodes, process
-from dev.lib.machines import enter
+from dev.lib import machines, nodes
 
 NETEM = ["delay", "5ms", "loss", "2%"]
-SWITCH = "10.77.0.1"
-
-
-class Refused(Exception):
-    """The system does not allow it."""
+# The address of the proxy, and of the process with a number; and the port of each.
+SWITCH, HOST, PORT = "10.77.0.1", "10.77.0.{}", 7000
 
 
 class Loopback:
@@ -37,69 +31,31 @@ class Loopback:
         pass
 
 
-def ip(*words):
-    """Runs a command of iproute2."""
-    try:
-        ended = process.call(words)
-    except OSError as fault:
-        raise Refused(f"{words[0]}: {fault.strerror}") from fault
-    if ended.status:
-        raise Refused(f"{' '.join(words)}: {process.ending(ended)}")
-
-
 class Namespaces:
-    """Each process in a network namespace, and the proxy in that of the bridge. Nothing is changed outside of them."""
+    """Each process in a network namespace, and the proxy in that of the bridge. Nothing is changed outside of them;
+    machines.Unable where the system does not allow it."""
     proxy_host = SWITCH
     # What is lost is sent again after some tenths of a second.
     max_seconds = 120
-    PORT = 7000
 
     def __init__(self, keys, has_netem):
         self.title = "in namespaces, " + ("5 ms, 2 % lost" if has_netem else "no netem")
-        self.prefix = f"nullsim-{os.getpid()}"
-        self.keys, self.has_netem, self.made = list(keys), has_netem, []
+        self.switch, self.machines = machines.Switch(), {}
         try:
-            self.make()
-        except (Refused, OSError):
+            for number, key in enumerate(keys, 10):
+                self.machines[key] = self.switch.machine(HOST.format(number), number)
+                if has_netem:
+                    self.machines[key].disturb(*NETEM)
+            self.switch.enter(SWITCH)
+        except (machines.Unable, OSError):
             self.close()
             raise
 
-    def name(self, key):
-        return f"{self.prefix}-{key[0]}{key[1]}"
-
     def address(self, key):
-        return f"10.77.0.{10 + self.keys.index(key)}", self.PORT
+        return self.machines[key].host, PORT
 
     def enter(self, key):
-        enter(self.name(key))
-
-    def make(self):
-        """Makes them; Refused where the system does not allow it."""
-        switch = f"{self.prefix}-switch"
-        self.add(switch)
-        ip("ip", "-n", switch, "link", "add", "joint", "type", "bridge")
-        ip("ip", "-n", switch, "address", "add", f"{SWITCH}/24", "dev", "joint")
-        ip("ip", "-n", switch, "link", "set", "joint", "up")
-        for key in self.keys:
-            self.join(switch, key)
-        enter(switch)
-
-    def add(self, name):
-        ip("ip", "netns", "add", name)
-        self.made.append(name)
-        ip("ip", "-n", name, "link", "set", "lo", "up")
-
-    def join(self, switch, key):
-        """A namespace of a process, and its link with the bridge: both ends delay and lose what they send."""
-        name, near = self.name(key), f"to-{key[0]}{key[1]}"
-        self.add(name)
-        ip("ip", "-n", switch, "link", "add", near, "type", "veth", "peer", "name", "eth", "netns", name)
-        ip("ip", "-n", switch, "link", "set", near, "master", "joint", "up")
-        ip("ip", "-n", name, "address", "add", f"{self.address(key)[0]}/24", "dev", "eth")
-        ip("ip", "-n", name, "link", "set", "eth", "up")
-        if self.has_netem:
-            ip("tc", "-n", switch, "qdisc", "add", "dev", near, "root", "netem", *NETEM)
-            ip("tc", "-n", name, "qdisc", "add", "dev", "eth", "root", "netem", *NETEM)
+        machines.enter(self.machines[key].name)
 
     def resent_segments(self, replicas):
         """How many TCP segments the systems of all processes sent again, as far as they still run."""
@@ -115,6 +71,4 @@ class Namespaces:
 
     def close(self):
         """Removes them."""
-        for name in self.made:
-            process.call(["ip", "netns", "del", name])
-        self.made = []
+        self.switch.end()

@@ -9,7 +9,7 @@ from dev.lib import here
 
 LEAST = (3, 9)
 # Modules and methods of Python that came later than LEAST.
-NEWER = {"tomllib": (3, 11), "nullsim": (3, 11)}
+NEWER = {"tomllib": (3, 11), "nullsim": (3, 11), "networks.topology": (3, 11)}
 # The packages of Debian that have a module, or a program by its name.
 PACKAGES = {"matplotlib": "python3-matplotlib", "networkx": "python3-networkx", "dot": "graphviz", "gpmetis": "metis",
             "tshark": "tshark", "tcpdump": "tcpdump", "cc": "gcc", "g++": "g++", "valgrind": "valgrind",

@@ -12,6 +12,7 @@ TOOLS = ("network", "launch", "plot", "page")
 OTHERS = ("tcpdump", "tshark", "dot")
 # What a command calls that is not named in it: partitions are shown as METIS cuts them.
 CALLED = {"network partition": "gpmetis"}
+SECONDS = 120
 # What is printed where nothing can be drawn.
 LACKS_MATPLOTLIB = re.compile("matplotlib is missing|needs matplotlib")
 
@@ -35,3 +36,12 @@ def lacks(command):
     named = [name for name in OTHERS if re.search(rf"\b{name}\b -", command)]
     named += [name for words, name in CALLED.items() if words in command]
     return any(not shutil.which(name) for name in named)
+
+
+def ended(command, folder, environment, **how):
+    """How a command ended that was run by bash, or None where something is not installed that it needs."""
+    if lacks(command):
+        return None
+    found = process.call(["bash", "-c", command], SECONDS, cwd=folder, env=environment, **how)
+    printed = (found.out + (found.errors or b"")).decode(errors="replace")
+    return None if LACKS_MATPLOTLIB.search(printed) else found

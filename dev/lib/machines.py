@@ -23,17 +23,17 @@ _numbers = itertools.count()
 
 
 class Unable(Exception):
-    """The system allows no network namespaces."""
+    """The system allows no network namespaces, or not what is asked of them."""
 
 
-def ip(*words):
-    """A call of ip(8)."""
+def ip(*words, program="ip"):
+    """A call of ip(8), or of another program of iproute2."""
     try:
-        ended = process.call(["ip", *words])
+        ended = process.call([program, *words])
     except OSError as why:
-        raise Unable(f"ip: {why.strerror}") from why
+        raise Unable(f"{program}: {why.strerror}") from why
     if ended.status != 0:
-        raise Unable(f"ip {' '.join(words)}")
+        raise Unable(f"{program} {' '.join(words)}: {process.ending(ended)}")
 
 
 def enter(name):
@@ -73,6 +73,11 @@ class Machine:
     def pull(self):
         ip("-n", self.switch.name, "link", "set", self.port, "down")
 
+    def disturb(self, *how):
+        """Has both ends of its link treat what they send in these ways (netem)."""
+        for namespace, device in ((self.switch.name, self.port), (self.name, "eth0")):
+            ip("-n", namespace, "qdisc", "add", "dev", device, "root", "netem", *how, program="tc")
+
     def drop(self, host, does_drop):
         """Answers nobody at this address, or does again."""
         ip("-n", self.name, "route", "add" if does_drop else "del", "blackhole", f"{host}/32")
@@ -88,8 +93,12 @@ class Switch:
     def __init__(self):
         self.all, self.carriers = [], []
         self.name = self.add()
-        ip("-n", self.name, "link", "add", "bridge", "type", "bridge")
-        ip("-n", self.name, "link", "set", "bridge", "up")
+        try:
+            ip("-n", self.name, "link", "add", "bridge", "type", "bridge")
+            ip("-n", self.name, "link", "set", "bridge", "up")
+        except Unable:
+            self.end()
+            raise
 
     def add(self):
         """A new namespace."""
@@ -103,6 +112,12 @@ class Switch:
         if made.carrier:
             self.carriers.append(made.carrier)
         return made
+
+    def enter(self, host):
+        """Moves this process to the switch, and gives it an address there."""
+        ip("-n", self.name, "address", "add", f"{host}/24", "dev", "bridge")
+        ip("-n", self.name, "link", "set", "lo", "up")
+        enter(self.name)
 
     def end(self):
         for carrier in self.carriers:

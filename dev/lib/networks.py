@@ -1,12 +1,10 @@
 """Networks whose partitions run as processes, and the trace files that the one event list writes of them."""
 
 import os
-import sys
 
 from dev.lib import here, process, topologies
 
-if sys.version_info < (3, 11):
-    sys.exit(f"this needs Python 3.11 or later, and {sys.executable} is {sys.version.split()[0]}")
+# Behind topologies, which says so where Python has it not.
 import tomllib
 
 # A network has many interfaces: of what `all` writes so many files are compared with those of `one`.

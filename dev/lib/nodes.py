@@ -1,5 +1,6 @@
 """Replicas as processes: where they listen, when they ended and how, and whether their files are right."""
 
+import contextlib
 import itertools
 import os
 import random
@@ -146,6 +147,19 @@ class Node:
 
     def wrong_files(self, wanted):
         return wrong_files(self.folder, self.network.ifaces(self.key[0]), wanted)
+
+
+@contextlib.contextmanager
+def beside_peer(network, key, folder, before=(), further=()):
+    """A node of one of two partitions, beside its peer. Behind it both are killed."""
+    ports = free_ports(network)
+    pair = [Node(network, (1 - key[0], 0), folder, ports, further=further),
+            Node(network, key, folder, ports, before, further)]
+    try:
+        yield pair[1]
+    finally:
+        for node in pair:
+            node.kill()
 
 
 def end_all(some, seconds=MINUTE):

@@ -2,6 +2,7 @@
 
 import argparse
 import os
+import subprocess
 import sys
 
 from dev.lib import here
@@ -44,6 +45,15 @@ def passed_over(why):
     """Ends where something is missing that the script needs."""
     print(f"passed over, which is no pass: {why}", flush=True)
     sys.exit(PASSED_OVER)
+
+
+INSIDE = ("--inside", flag("in these namespaces, without new ones"))
+
+
+def run_inside(namespaces, *words):
+    """Runs this script again, with the word --inside behind those that make namespaces: its status."""
+    words = [*namespaces, sys.executable, os.path.abspath(sys.argv[0]), "--inside", "--nullsim", here.NULLSIM, *words]
+    return subprocess.run(list(map(str, words)), check=False).returncode
 
 
 class Report:

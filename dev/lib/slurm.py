@@ -3,11 +3,10 @@
 import contextlib
 import os
 import shutil
-import socket
 import subprocess
 import time
 
-from dev.lib import process
+from dev.lib import nodes, process
 
 PROGRAMS = ("munged", "slurmctld", "slurmd", "salloc", "srun")
 FOLDERS = ("/usr/sbin", "/usr/bin", "/sbin", "/bin")
@@ -45,15 +44,6 @@ def is_installed():
     return os.geteuid() == 0 and all(where(name) for name in PROGRAMS)
 
 
-def free_ports(count):
-    """Ports that nobody has."""
-    some = [socket.create_server(("127.0.0.1", 0)) for _ in range(count)]
-    found = [it.getsockname()[1] for it in some]
-    for it in some:
-        it.close()
-    return found
-
-
 @contextlib.contextmanager
 def cluster(folder):
     """The variables with which its commands are called."""
@@ -62,7 +52,7 @@ def cluster(folder):
         os.makedirs(os.path.join(place, name))
     config, key = os.path.join(place, "slurm.conf"), os.path.join(place, "munge.key")
     with open(config, "w", encoding="ascii") as file:
-        file.write(CONFIG.format(folder=place, ports=free_ports(2), processors=os.cpu_count()))
+        file.write(CONFIG.format(folder=place, ports=[nodes.free_port(), nodes.free_port()], processors=os.cpu_count()))
     with open(os.open(key, os.O_WRONLY | os.O_CREAT, 0o400), "wb") as file:
         file.write(os.urandom(1024))
     own = [f"--{name}={place}/{file}" for name, file in (("key-file", "munge.key"), ("socket", "munge.socket"),

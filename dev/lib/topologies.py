@@ -19,37 +19,34 @@ What each kind is, with how many packets where no number is given:
   way.
 - limits: at the limits of nodes, interfaces, routes, sources, partitions and channels; 4.5 MB of text."""
 
+import os
 import sys
 
-# The octets of the headers of a datagram: IPv4 and UDP.
-HEADERS = 28
+if sys.version_info < (3, 11):
+    sys.exit(f"this needs Python 3.11 or later, and {sys.executable} is {sys.version.split()[0]}")
+sys.path.insert(0, os.path.abspath(f"{__file__}/../../../tools"))
+
+from networks import writing
+from networks.limits import HEADERS
+from networks.topology import Iface, Link, Network, Node, Route, Source
+
 GIGABIT = 1_000_000_000
 # The stop of a run that ends by itself.
 LATE = 10 ** 12
 
 
-def quoted(value):
-    if isinstance(value, list):
-        return "[" + ", ".join(map(str, value)) + "]"
-    return f'"{value}"' if isinstance(value, str) else str(value)
-
-
-def table(members):
-    """The fields of a member of an array, in their order."""
-    return ", ".join(f"{key} = {quoted(value)}" for key, value in members.items())
-
-
-class Net:
-    """Nodes, links and flows; routes by a shortest path from every node to each address that is reached."""
+class Net(Network):
+    """Nodes, links and flows by names of nodes; routes by a shortest path from every node to each address that is
+    reached."""
 
     def __init__(self):
-        self.nodes, self.ifaces, self.links, self.routes, self.sources = [], [], [], [], []
-        # For each node the interface that leads to each neighbour, and its first address.
-        self.next, self.address = {}, {}
+        super().__init__(LATE, 1_500)
+        # For each node its number, its first address, and the interface that leads to each neighbour.
+        self.number, self.address, self.next = {}, {}, {}
 
     def node(self, name, kind="router", partition=0):
-        self.nodes.append({"name": name, "kind": kind, "partition": partition, "ports": [9]})
-        self.next[name] = {}
+        self.number[name], self.next[name] = len(self.nodes), {}
+        self.nodes.append(Node(name, kind, partition, [9]))
 
     def routers(self, names, partition_of=lambda number: 0):
         """Routers in partitions by their number."""
@@ -57,18 +54,16 @@ class Net:
             self.node(name, partition=partition_of(number))
 
     def link(self, a, b, rate=GIGABIT, delay=1_000):
-        high, low = divmod(len(self.links), 256)
-        ends = []
-        for node, far, host in ((a, b, 1), (b, a, 2)):
-            name, address = f"{node}-{len(self.next[node])}", f"10.{high}.{low}.{host}"
-            self.ifaces.append({"name": name, "node": node, "address": address, "queue": 64})
+        prefix, first = 10 << 24 | len(self.links) << 8, len(self.ifaces)
+        for node, far, address in ((a, b, prefix + 1), (b, a, prefix + 2)):
+            name = f"{node}-{len(self.next[node])}"
             self.address.setdefault(node, address)
-            self.next[node][far] = name
-            ends.append(name)
-        self.links.append({"a": ends[0], "b": ends[1], "rate": rate, "delay": delay})
+            self.next[node][far] = len(self.ifaces)
+            self.ifaces.append(Iface(name, self.number[node], address, 64))
+        self.links.append(Link(first, first + 1, rate, delay))
 
     def route(self, node, target, via):
-        self.routes.append({"node": node, "to": f"{self.address[target]}/32", "via": via})
+        self.routes.append(Route(self.number[node], self.address[target], 32, via))
 
     def reach(self, target):
         """Routes of every node to the first address of a node, by breadth-first search: the name of the node."""
@@ -86,18 +81,12 @@ class Net:
 
     def flow(self, node, target, octets, start, interval, count):
         """Packets of so many octets from a node to the first address of another."""
-        self.sources.append({
-            "kind": "cbr", "node": node, "to": self.address[target], "sport": 1000, "dport": 9,
-            "size": octets - HEADERS, "start": start, "interval": interval, "count": count,
-        })
+        self.sources.append(Source("cbr", self.number[node], self.address[target], sport=1000, dport=9,
+                                   size=octets - HEADERS, start=start, interval=interval, count=count))
 
     def text(self, stop=LATE):
-        lines = ["format = 1", f"stop = {stop}", "mtu = 1500"]
-        arrays = {"node": self.nodes, "iface": self.ifaces, "link": self.links, "route": self.routes,
-                  "source": self.sources}
-        for key, members in arrays.items():
-            lines += [f"{key} = [", *(f"  {{{table(it)}}}," for it in members), "]"]
-        return "\n".join(lines) + "\n"
+        arrays = "\n".join(writing.array(*it) for it in writing.tables(self).items())
+        return f"format = 1\nstop = {stop}\nmtu = {self.mtu}\n{arrays}\n"
 
 
 def line(packets=15_900, octets=100, interval=4_000, routers=64, stop=LATE, partitions=1):
@@ -295,9 +284,9 @@ def limits(packets=4, partitions=64, size=16, chords=12, between=4, is_cut=True)
     targets = [f"p{p}-{p % size}" for p in groups]
     for target in targets:
         # A route at the target itself is never used, but makes 64 for each node.
-        net.route(net.reach(target), target, f"{target}-0")
+        net.route(net.reach(target), target, min(net.next[target].values()))
     for n, node in enumerate(net.nodes):
-        net.flow(node["name"], targets[(7 * n + n // size) % partitions], 100, 100 * n, 50_000, packets)
+        net.flow(node.name, targets[(7 * n + n // size) % partitions], 100, 100 * n, 50_000, packets)
     return net.text(10 ** 9)
 
 

@@ -56,3 +56,15 @@ def link_of(one, other, attributes, at):
     remark = held.get("linklabel") or held.get("label") or ""
     return FoundLink(one, other, rate_of(held, at), delay_of(held, at), None,
                      "".join(letter for letter in remark[:60] if letter.isprintable()), at)
+
+
+def add(found, kind, ends, attributes, at, what):
+    """Adds a node or an edge of a file; `ends` has its id, or those of its nodes, `what` is what the file calls one of
+    them."""
+    for name in ("id",) if kind == "node" else ("source", "target"):
+        if name not in ends:
+            raise errors.Refused(at, f'this {kind} has no {what} "{name}"')
+    if kind == "node":
+        found.add_node(ends["id"], node_of(ends["id"], attributes, at))
+    else:
+        found.add_link(link_of(ends["source"], ends["target"], attributes, at))

@@ -38,12 +38,6 @@ def link_of(words, line, at):
     delay = round(found.number(words[4], at, "the delay") * 10**6)
     rate = round(found.number(words[5], at, "the rate") * 10**6)
     # BRITE writes -1 for what it did not choose.
-    return FoundLink(
-        words[1],
-        words[2],
-        found.checked_rate(rate, at, f"{words[5]} Mbit/s") if rate >= 0 else None,
-        found.checked_delay(delay, at, f"{words[4]} ms") if delay >= 0 else None,
-        None,
-        f"length {words[3]}",
-        at,
-    )
+    rate = found.checked_rate(rate, at, f"{words[5]} Mbit/s") if rate >= 0 else None
+    delay = found.checked_delay(delay, at, f"{words[4]} ms") if delay >= 0 else None
+    return FoundLink(words[1], words[2], rate, delay, None, f"length {words[3]}", at)

@@ -15,6 +15,13 @@ def say(line):
     print(line, file=sys.stderr)
 
 
+def give(text, lines):
+    """A text that was made, and what is said of it."""
+    sys.stdout.write(text)
+    for line in lines:
+        say(line)
+
+
 def do_make(words):
     """A topology from a SPEC."""
     found = spec.read(toml.load(words.file))
@@ -25,10 +32,7 @@ def do_make(words):
         say(line)
 
     made = making.make(found, words.file, say_early)
-    sys.stdout.write(writing.text(made, found.title))
-    for line in made.chosen:
-        if line not in early:
-            say(line)
+    give(writing.text(made, found.title), (line for line in made.chosen if line not in early))
 
 
 def do_routes(words):
@@ -39,28 +43,22 @@ def do_routes(words):
     old = network.routes
     network.routes = routes.computed(network, words.weight, words.spread, words.file, words.only_flows)
     routes.check_flows(network, lambda number: f"{text.place('source', number)}: source {number}")
-    sys.stdout.write(editing.with_routes(text.text, network, old))
-    say(f"routes      {len(network.routes):,} in place of {len(old):,}, by least {words.weight}")
+    said = f"routes      {len(network.routes):,} in place of {len(old):,}, by least {words.weight}"
+    give(editing.with_routes(text.text, network, old), [said])
 
 
 def do_import(words):
     """A SPEC from a file of another maker's."""
     from networks import importing
 
-    text, lines = importing.spec_text(words)
-    sys.stdout.write(text)
-    for line in lines:
-        say(line)
+    give(*importing.spec_text(words))
 
 
 def do_partition(words):
     """The same text with other partitions."""
     from networks import partition
 
-    text, lines = partition.chosen(toml.load(words.file), words.count, words.by)
-    sys.stdout.write(text)
-    for line in lines:
-        say(line)
+    give(*partition.chosen(toml.load(words.file), words.count, words.by))
 
 
 def do_flows(words):

@@ -1,6 +1,8 @@
 """How the values of a table are read: each reader takes a value and gives what it means, or says in a sentence what it
 has to be."""
 
+import ipaddress
+
 from networks import errors, limits, names, units
 
 
@@ -115,12 +117,10 @@ def pattern(value):
 
 def address(value):
     """Four numbers, as a whole number of 32 bits."""
-    parts = value.split(".") if isinstance(value, str) else []
-    if len(parts) != 4 or any(not part.isascii() or not part.isdecimal() or str(int(part[:4])) != part
-                              or int(part) > 255 for part in parts):
-        raise Wrong('has to be an address such as "10.0.0.1"')
-    first, second, third, fourth = map(int, parts)
-    return first << 24 | second << 16 | third << 8 | fourth
+    try:
+        return int(ipaddress.IPv4Address(value if isinstance(value, str) else ""))
+    except ValueError:
+        raise Wrong('has to be an address such as "10.0.0.1"') from None
 
 
 # Nothing may be sent to these addresses: 0/8, 127/8, 224/4 and 240/4.

@@ -67,20 +67,9 @@ def read(name, text):
                 continue
             if not isinstance(held, list):
                 raise errors.Refused(at, f'"{key}" has to be a list in brackets')
-            add(found, key, {name: value for name, value, _ in held if isinstance(value, str)}, at)
+            texts = {name: value for name, value, _ in held if isinstance(value, str)}
+            attributes.add(found, key, texts, texts, at, "key")
     if any(key == "directed" and held == "1" for key, held, _ in graphs[0][0]):
         # Each direction of a link has an edge of its own.
         found.once()
     return found
-
-
-def add(found, key, held, at):
-    """A node or an edge."""
-    needed = ("id",) if key == "node" else ("source", "target")
-    for name in needed:
-        if name not in held:
-            raise errors.Refused(at, f'this {key} has no key "{name}"')
-    if key == "node":
-        found.add_node(held["id"], attributes.node_of(held["id"], held, at))
-    else:
-        found.add_link(attributes.link_of(held["source"], held["target"], held, at))

@@ -21,7 +21,7 @@ class Reading:
         # The node or edge that is open: its kind, its attributes of XML, its data, its line.
         self.open = None
         self.data_key, self.data_text = None, ""
-        self.edges = []
+        self.nodes, self.edges = [], []
         # The text was decoded already, whatever its first line says of an encoding.
         self.parser = expat.ParserCreate("UTF-8")
         self.parser.StartElementHandler = self.start
@@ -62,19 +62,9 @@ class Reading:
             self.open[2][self.data_key] = self.data_text
             self.data_key = None
         elif tag in ("node", "edge") and self.open:
-            self.close(*self.open)
-            self.open = None
-
-    def close(self, tag, held, data, at):
-        """A node or edge whose data were read."""
-        for key in ("id",) if tag == "node" else ("source", "target"):
-            if key not in held:
-                raise errors.Refused(at, f'this {tag} has no attribute "{key}"')
-        if tag == "node":
-            self.found.add_node(held["id"], attributes.node_of(held["id"], data, at))
-        else:
             # An edge may stand before its nodes.
-            self.edges.append((held["source"], held["target"], data, at))
+            (self.nodes if tag == "node" else self.edges).append(self.open)
+            self.open = None
 
     def read(self, text):
         try:
@@ -84,8 +74,8 @@ class Reading:
             raise errors.Refused(f"{self.name}:{why.lineno}", sentence) from None
         if not self.seen_graph:
             raise errors.Refused(self.name, "it has no element <graph>: this is no GraphML")
-        for one, other, data, at in self.edges:
-            self.found.add_link(attributes.link_of(one, other, data, at))
+        for tag, held, data, at in [*self.nodes, *self.edges]:
+            attributes.add(self.found, tag, held, data, at, "attribute")
         if self.is_directed:
             # Each direction of a link has an edge of its own.
             self.found.once()

@@ -7,7 +7,7 @@ tests/test_imports.py."""
 import os
 import re
 
-from networks import brite, edges, errors, found, gml, graphml, limits, names, rocketfuel, toml, units
+from networks import brite, edges, errors, found, gml, graphml, limits, names, paths, rocketfuel, toml, units
 
 READERS = {"graphml": graphml.read, "gml": gml.read, "edges": edges.read, "rocketfuel": rocketfuel.read,
            "brite": brite.read}
@@ -54,19 +54,7 @@ def pieces(made):
     for link in made.links:
         near[link.a].append(link.b)
         near[link.b].append(link.a)
-    seen, found_pieces = set(), []
-    for start in made.nodes:
-        piece, waiting = [], [] if start in seen else [start]
-        seen.add(start)
-        while waiting:
-            key = waiting.pop()
-            piece.append(key)
-            fresh = [other for other in near[key] if other not in seen]
-            seen.update(fresh)
-            waiting += dict.fromkeys(fresh)
-        if piece:
-            found_pieces.append(piece)
-    return sorted(found_pieces, key=len, reverse=True)
+    return sorted(paths.pieces(made.nodes, near), key=len, reverse=True)
 
 
 def joined(made, name, is_largest):

@@ -4,6 +4,7 @@ import html
 import os
 
 from networks import drawing, fields, limits, topology, traffic, units
+from networks.tables import html_table
 
 STYLE = """
 :root { color-scheme: light; }
@@ -23,37 +24,18 @@ p.small { color: #475569; font-size: .85rem; }
 """
 
 
-def table(heads, rows):
-    """A table; the texts of rows are escaped."""
-    lines = ["<div class=table><table>", "<thead><tr>" + "".join(f"<th>{html.escape(head)}</th>" for head in heads)
-             + "</tr></thead><tbody>"]
-    for row in rows:
-        sides = [" class=left" if isinstance(cell, str) and cell[:1].isalpha() else "" for cell in row]
-        lines.append("<tr>" + "".join(f"<td{side}>{html.escape(str(cell))}</td>" for side, cell in zip(sides, row))
-                     + "</tr>")
-    return "\n".join([*lines, "</tbody></table></div>"])
-
-
 def links_table(network, found, loads):
     """A row for each link."""
     rows = []
     for number, link in enumerate(network.links):
         one, other = network.link_nodes(number)
         cut = {network.nodes[node].partition for node in (one, other)}
-        rows.append(
-            (
-                f"{network.nodes[one].name} to {network.nodes[other].name}",
-                units.rate_said(link.rate),
-                units.time_said(link.delay),
-                network.ifaces[link.a].queue,
-                f"{found.packets[link.a]:,}",
-                f"{found.packets[link.b]:,}",
-                f"{loads[number] / 10**4:.2f}%",
-                " and ".join(f"{part}" for part in sorted(cut)) if len(cut) > 1 else "",
-            )
-        )
-    return table(("link", "rate", "delay", "queue (packets)", "packets there", "packets back", "busy",
-                  "joins partitions"), rows)
+        joined = " and ".join(map(str, sorted(cut))) if len(cut) > 1 else ""
+        rows.append((f"{network.nodes[one].name} to {network.nodes[other].name}", units.rate_said(link.rate),
+                     units.time_said(link.delay), network.ifaces[link.a].queue, f"{found.packets[link.a]:,}",
+                     f"{found.packets[link.b]:,}", f"{loads[number] / 10**4:.2f}%", joined))
+    return html_table(("link", "rate", "delay", "queue (packets)", "packets there", "packets back", "busy",
+                       "joins partitions"), rows)
 
 
 def flows_table(network, found):
@@ -70,7 +52,7 @@ def flows_table(network, found):
         port = f"port {source.dport}" if source.kind == "cbr" else f"identifier {source.ident}"
         rows.append((f"{number}: {source.kind}", name, goal, port, source.size, f"{count:,}", units.rate_said(rate),
                      end))
-    return table(("flow", "from", "to", "to port", "data (octets)", "packets", "rate", "way"), rows)
+    return html_table(("flow", "from", "to", "to port", "data (octets)", "packets", "rate", "way"), rows)
 
 
 def nodes_table(network, found):
@@ -81,7 +63,7 @@ def nodes_table(network, found):
         first = fields.address_said(network.ifaces[ends[number][0][0]].address) if ends[number] else ""
         rows.append((node.name, node.kind, node.partition, len(ends[number]), first, len(routes[number]),
                      f"{found.hops[number]:,}"))
-    return table(("node", "kind", "partition", "links", "first address", "routes", "packets in and out"), rows)
+    return html_table(("node", "kind", "partition", "links", "first address", "routes", "packets in and out"), rows)
 
 
 def key_of_colours(network):
@@ -112,7 +94,9 @@ def html_text(text):
         "<p class=small>Packets and busy shares are what the sources send, followed along the routes. Nothing was "
         "simulated for this page: queues and drops are not in it, and <code>nullsim report</code> measures "
         f"them. Drawn by {html.escape(drawer)}.</p>",
-        f"<h2>Links</h2>{links_table(network, found, loads)}<h2>Flows</h2>{flows_table(network, found)}"
-        f"<h2>Nodes</h2>{nodes_table(network, found)}</body></html>",
+        *(f"<h2>{name}</h2><div class=table>{rows}</div>" for name, rows in (
+            ("Links", links_table(network, found, loads)), ("Flows", flows_table(network, found)),
+            ("Nodes", nodes_table(network, found)))),
+        "</body></html>",
     ]
     return "\n".join(parts) + "\n"

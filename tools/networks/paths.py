@@ -69,19 +69,22 @@ def leads(network, found, far, goal):
 
 def parts(network):
     """The nodes that are joined by links, in groups, each with its nodes in order."""
-    ends, seen, found = network.ends(), set(), []
-    for start in range(len(network.nodes)):
+    near = [[network.ifaces[far].node for _, far, _ in own] for own in network.ends()]
+    return [sorted(group) for group in pieces(range(len(near)), near)]
+
+
+def pieces(nodes, near):
+    """The nodes in groups that are joined: `near` has the neighbours of each."""
+    seen, found = set(), []
+    for start in nodes:
         if start in seen:
             continue
         group, waiting = [], [start]
         seen.add(start)
         while waiting:
-            node = waiting.pop()
-            group.append(node)
-            for _, far, _ in ends[node]:
-                other = network.ifaces[far].node
-                if other not in seen:
-                    seen.add(other)
-                    waiting.append(other)
-        found.append(sorted(group))
+            group.append(waiting.pop())
+            fresh = [other for other in dict.fromkeys(near[group[-1]]) if other not in seen]
+            seen.update(fresh)
+            waiting += fresh
+        found.append(group)
     return found

@@ -26,9 +26,10 @@ class Item:
         """The item that a way of keys and numbers leads to, or the last one on it that is there."""
         item = self
         for step in way:
-            found = item.keys.get(step) if isinstance(step,
-                                                      str) else (item.members[step] if step < len(item.members)
-                                                                 else None)
+            if isinstance(step, str):
+                found = item.keys.get(step)
+            else:
+                found = item.members[step] if step < len(item.members) else None
             if found is None:
                 return item
             item = found

@@ -98,30 +98,23 @@ class Reading:
         # They stand behind the other links.
         self.host_links = []
 
-    def place(self, array, number, said=""):
-        """How places in a member of an array are said."""
-
-        def place(*keys):
-            return f"{self.text.place(array, number, *keys)}: {array} {number}{f' ({said})' if said else ''}"
-
-        return place
-
     def read(self):
         """The whole SPEC."""
         self.top()
-        for number, table in self.tables("node"):
-            self.node(number, table)
-        for number, table in self.tables("group"):
-            self.group(number, table)
-        for number, table in self.tables("link"):
-            self.link(number, table)
+        self.each("node", self.node)
+        self.each("group", self.group)
+        self.each("link", self.link)
         if not self.spec.nodes:
             raise errors.Refused(self.text.name, "there is no node: write `node = [..]` or `[[group]]`")
         self.spec.links += self.host_links
         self.counts()
-        for number, table in self.tables("flow"):
-            self.flow(number, table)
+        self.each("flow", self.flow)
         return self.spec
+
+    def each(self, array, read):
+        """Reads the members of an array in turn."""
+        for number, table in enumerate(self.text.members(array)):
+            read(number, table)
 
     def top(self):
         """What stands before the arrays, and the defaults."""
@@ -148,13 +141,6 @@ class Reading:
         """How places in the defaults are said."""
         return lambda *way: f"{self.text.place('defaults', key, *way)}: defaults.{key}"
 
-    def tables(self, array):
-        """The members of an array, each with its number."""
-        members = self.text.means.get(array, [])
-        if not isinstance(members, list):
-            raise errors.Refused(self.text.place(array), f'key "{array}" has to be an array of tables: [[{array}]]')
-        return enumerate(members)
-
     def add(self, name, kind, partition, place, ports=(), where=None):
         """A node."""
         if not names.is_name(name):
@@ -179,7 +165,7 @@ class Reading:
 
     def node(self, number, value):
         named = errors.shown(value["name"]) if isinstance(value, dict) and "name" in value else ""
-        place = self.place("node", number, named)
+        place = self.text.member("node", number, named)
         own = {"name": fields.name, **NODE, "ports": PORTS, "place": fields.place}
         table = {**self.defaults["node"], **fields.table(value, own, place, ("name",))}
         # A host has no hosts, unless its own table says so: then that is a mistake.
@@ -192,7 +178,7 @@ class Reading:
     def group(self, number, value):
         kind = value.get("kind") if isinstance(value, dict) else None
         named = f"{kind} {errors.shown(value['name'])}" if kind in groups.KINDS and "name" in value else ""
-        place = self.place("group", number, named)
+        place = self.text.member("group", number, named)
         own = groups.KINDS[kind][1] if kind in groups.KINDS else {key: lambda value: value
                                                                   for _, keys in groups.KINDS.values() for key in keys}
         keys = {"kind": fields.choice(*groups.KINDS), "name": fields.name, **own, "hosts": HOSTS,
@@ -211,9 +197,9 @@ class Reading:
 
     def link(self, number, value):
         ends = [value.get(key) for key in ("a", "b")] if isinstance(value, dict) else []
-        named = " to ".join(errors.shown(end) for end in ends) if all(isinstance(end, str)
-                                                                      for end in ends) and ends else ""
-        place = self.place("link", number, named)
+        are_names = ends and all(isinstance(end, str) for end in ends)
+        named = " to ".join(map(errors.shown, ends)) if are_names else ""
+        place = self.text.member("link", number, named)
         table = fields.table(value, {"a": fields.name, "b": fields.name, **LINK, **COST}, place, ("a", "b"))
         for key in ("a", "b"):
             if table[key] not in self.spec.nodes:
@@ -234,7 +220,7 @@ class Reading:
                                                      f"{groups.most_said()}")
 
     def flow(self, number, value):
-        place = self.place("flow", number)
+        place = self.text.member("flow", number)
         self.spec.flows.append((flowkeys.read(value, self.defaults["flow"], place), place))
 
 

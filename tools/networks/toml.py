@@ -10,7 +10,23 @@ except ImportError:  # Python before 3.11
     tomllib = None
 
 
-class Text:
+class Tables:
+    """Tables that were read: `means` has them, and `place` says where a part of them is."""
+
+    def member(self, array, number, said=""):
+        """How places in a member of an array are said: a function of the keys below it."""
+        named = f" ({said})" if said else ""
+        return lambda *keys: f"{self.place(array, number, *keys)}: {array} {number}{named}"
+
+    def members(self, array):
+        """The members of an array of tables."""
+        found = self.means.get(array, [])
+        if not isinstance(found, list):
+            raise errors.Refused(self.place(array), f'key "{array}" has to be an array of tables: [[{array}]]')
+        return found
+
+
+class Text(Tables):
     """A TOML text: its name, its octets as text, what it means, and where its parts stand."""
 
     def __init__(self, name, text):

@@ -169,18 +169,11 @@ class Reading:
 
     def place(self, array, number, name=""):
         """How places in a member of an array are said."""
-
-        def said(*keys):
-            called = f" ({errors.shown(name)})" if name else ""
-            return f"{self.text.place(array, number, *keys)}: {array} {number}{called}"
-
-        return said
+        return self.text.member(array, number, errors.shown(name) if name else "")
 
     def tables(self, array):
         """The members of an array, each with its number."""
-        members = self.text.means.get(array, [])
-        if not isinstance(members, list):
-            raise errors.Refused(self.text.place(array), f'key "{array}" has to be an array of tables')
+        members = self.text.members(array)
         if len(members) > MOST[array]:
             raise errors.Refused(self.text.place(array),
                                  f'"{array}" has {len(members):,} members, and at most {MOST[array]:,} may be')

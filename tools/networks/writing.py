@@ -1,5 +1,7 @@
 """The text of a topology."""
 
+import itertools
+
 from networks import fields, units
 
 
@@ -58,35 +60,35 @@ def source_line(network, source):
     return f"{{{ends}, {ports}, size = {source.size}, {when}{more}}}"
 
 
-def array(key, lines):
-    """An array of tables, one a line; a line is a table and what is said of it."""
-    said = [f"  {table},{f'  # {remark}' if remark else ''}" for table, remark in lines]
-    return "\n".join([f"{key} = [", *said, "]"])
+def array(key, tables, remarks=()):
+    """An array of tables, one a line, perhaps each with what is said of it."""
+    said = itertools.zip_longest(tables, remarks)
+    return "\n".join([f"{key} = [", *(f"  {table},{f'  # {remark}' if remark else ''}" for table, remark in said), "]"])
 
 
-def link_remark(network, number):
-    """What people read of a link."""
-    link = network.links[number]
-    return f"{units.rate_said(link.rate)}, {units.time_said(link.delay)}"
+def tables(network):
+    """The tables of each array."""
+    return {
+        "node": [node_line(node) for node in network.nodes],
+        "iface": [iface_line(network, iface) for iface in network.ifaces],
+        "link": [link_line(network, link) for link in network.links],
+        "route": [route_line(network, route) for route in network.routes],
+        "source": [source_line(network, source) for source in network.sources],
+    }
 
 
 def text(made, title=""):
-    """The whole text."""
+    """The whole text, with what people read of nodes, links and sources."""
     network = made.network
     is_second = any(iface.queue_octets is not None for iface in network.ifaces)
-    owners = network.node_of_address()
-    head = [f"# {made.first_line}", *([f"# {title}"] if title else []),
-            "# Made by tools/network from a SPEC. What it chose:", "#"]
-    parts = [
-        "\n".join([*head, *[f"#   {line}" for line in made.chosen]]),
-        "\n".join([f"format = {2 if is_second else 1}", f"stop = {network.stop}   # nanoseconds: "
-                                                        f"{units.time_said(network.stop)}", f"mtu = {network.mtu}"]),
-        array("node", [(node_line(node), node_remark(node)) for node in network.nodes]),
-        array("iface", [(iface_line(network, iface), "") for iface in network.ifaces]),
-        array("link",
-              [(link_line(network, link), link_remark(network, number)) for number, link in enumerate(network.links)]),
-        array("route", [(route_line(network, route), "") for route in network.routes]),
-        array("source", [(source_line(network, source), f"to {network.nodes[owners[source.to]].name}")
-                         for source in network.sources]),
-    ]
-    return "\n\n".join(parts) + "\n"
+    owners, stop = network.node_of_address(), f"{network.stop}   # nanoseconds: {units.time_said(network.stop)}"
+    remarks = {
+        "node": map(node_remark, network.nodes),
+        "link": (f"{units.rate_said(link.rate)}, {units.time_said(link.delay)}" for link in network.links),
+        "source": (f"to {network.nodes[owners[source.to]].name}" for source in network.sources),
+    }
+    first = [f"# {made.first_line}", *([f"# {title}"] if title else []),
+             "# Made by tools/network from a SPEC. What it chose:", "#", *(f"#   {line}" for line in made.chosen)]
+    arrays = [array(key, found, remarks.get(key, ())) for key, found in tables(network).items()]
+    head = f"format = {2 if is_second else 1}\nstop = {stop}\nmtu = {network.mtu}"
+    return "\n\n".join(["\n".join(first), head, *arrays]) + "\n"

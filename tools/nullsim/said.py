@@ -19,7 +19,7 @@ def caller() -> str:
     return f"{frame.f_code.co_filename}:{frame.f_lineno}"
 
 
-class Said:
+class Said(toml.Tables):
     """The tables of a SPEC, as `networks.spec` reads them: `name` is the file's, `means` the tables, and `place` says
     where a part of them was said, in the text, by a call, or where it was given another value."""
 

@@ -1,8 +1,8 @@
 """Texts that are edited: routes and partitions change, and all else stays as it stood."""
 
-import os
 import tomllib
 
+from networks import editing
 from networks.tests import tool
 
 HEAD = '# begin\nformat = 1\nstop = 1000000\nmtu = 1500\n'
@@ -60,8 +60,7 @@ class Routes(tool.Folder):
 
     def test_examples_lose_no_word(self):
         for name in ("office", "ring", "shift", "buffer", "campus"):
-            with open(os.path.join(tool.EXAMPLES, f"{name}.toml"), encoding="utf-8") as file:
-                text = file.read()
+            text = tool.example(name)
             status, said, _ = tool.call("routes", self.file("x.toml", text))
             self.assertEqual(status, 0)
             for line in text.splitlines():
@@ -85,16 +84,13 @@ class Partitions(tool.Folder):
     def test_partitions_and_delays_are_put_in(self):
         text = (HEAD + NODES + IFACES + LINKS).replace(", partition = 0", "", 1)
         path = self.file("x.toml", text)
-        from networks import editing
-
         said = editing.set_keys(text, "node", "partition", {0: 3, 1: 4})
         self.assertIn('{name = "a", kind = "host", partition = 3},  # first', said)
         self.assertIn("partition=4 , ports = [9]", said)
         self.assertEqual(tool.call("partition", path, "1")[0], 0)
 
+    @tool.needs_program("gpmetis")
     def test_a_cut_link_gets_a_delay(self):
-        if not any(map(__import__("shutil").which, ("gpmetis",))):
-            self.skipTest("the program gpmetis is not installed")
         path = self.file("x.toml", HEAD + NODES + IFACES + LINKS)
         status, said, beside = tool.call("partition", path, "2")
         self.assertEqual(status, 0, beside)

@@ -50,22 +50,19 @@ class Launches(tool.Folder):
             self.script(name, STARTER)
         self.script("scontrol", SCONTROL)
         self.program = self.script("nullsim", PROGRAM)
-        self.topology = os.path.join(tool.EXAMPLES, "ring.toml")
+        self.topology = tool.path_of("ring")
         self.out = os.path.join(self.folder, "DIR")
         self.started = os.path.join(self.folder, "started")
 
     def script(self, name, text):
         """A program in the folder that stands first on the path."""
-        path = os.path.join(self.bin, name)
-        with open(path, "w", encoding="utf-8") as file:
-            file.write(text)
+        path = self.file(os.path.join("bin", name), text)
         os.chmod(path, stat.S_IRWXU)
         return path
 
     def ending(self, partition, text):
         """What replica 0 of a partition does instead of leaving its files."""
-        with open(os.path.join(self.bin, f"{partition}-0"), "w", encoding="utf-8") as file:
-            file.write(text)
+        self.file(os.path.join("bin", f"{partition}-0"), text)
 
     def launch(self, *words, topology=None, **more):
         """Its status, standard output and standard error."""
@@ -77,18 +74,16 @@ class Launches(tool.Folder):
         return ended.returncode, ended.stdout, ended.stderr
 
     def begun(self):
-        with open(self.started, encoding="utf-8") as file:
-            return file.read().splitlines()
+        return tool.read(self.started).splitlines()
 
     def test_each_partition_has_a_node_on_this_machine(self):
         status, said, beside = self.launch()
         self.assertEqual((status, said), (0, "certified\n"), beside)
         for partition in range(3):
             self.assertIn(f"{partition}-0.known", os.listdir(os.path.join(self.out, f"{partition}-0")))
-        with open(os.path.join(self.out, "addresses"), encoding="ascii") as file:
-            self.assertEqual(file.read(), "0 0 127.0.0.1:7000\n1 0 127.0.0.1:7001\n2 0 127.0.0.1:7002\n")
-        with open(os.path.join(self.bin, "certified"), encoding="utf-8") as file:
-            words = file.read().split()
+        self.assertEqual(tool.read(self.out, "addresses"),
+                         "0 0 127.0.0.1:7000\n1 0 127.0.0.1:7001\n2 0 127.0.0.1:7002\n")
+        words = tool.read(self.bin, "certified").split()
         self.assertEqual([os.path.basename(word) for word in words[3:]], ["0-0", "1-0", "2-0"])
         self.assertFalse([name for name in os.listdir(self.out) if name.startswith(".launch")])
 

@@ -32,7 +32,7 @@ class Balanced(HTMLParser):
 
 class Pages(tool.Folder):
     def page(self, name):
-        status, said, beside = tool.call("show", os.path.join(tool.EXAMPLES, f"{name}.toml"))
+        status, said, beside = tool.call("show", tool.path_of(name))
         self.assertEqual(status, 0, beside)
         checked = Balanced()
         checked.feed(said)
@@ -45,9 +45,7 @@ class Pages(tool.Folder):
         self.assertLessEqual(addresses, {"http://www.w3.org/2000/svg", "http://www.w3.org/1999/xlink"})
         for word in ("<script", " src=", "@import", "url("):
             self.assertNotIn(word, said)
-        with open(os.path.join(tool.EXAMPLES, f"{name}.toml"), encoding="utf-8") as file:
-            network = tool.network_of(file.read())
-        for node in network.nodes:
+        for node in tool.network_of(tool.example(name)).nodes:
             self.assertGreaterEqual(html.unescape(said).count(f">{node.name}<"), 2, node.name)
 
     @tool.needs_program("dot")
@@ -74,17 +72,12 @@ class Pages(tool.Folder):
         self.assertEqual(sorted(found, key=lambda number: found[number][0]), [2, 0, 1])
 
     def test_without_graphviz(self):
-        held = drawing.shutil.which
-        drawing.shutil.which = lambda name: None
-        try:
+        with tool.without(drawing.shutil, "which"):
             for name in ("abilene", "campus", "ring"):
                 said = self.page(name)
                 self.assertIn("Graphviz is not installed", said)
                 self.check(said, name)
-        finally:
-            drawing.shutil.which = held
 
     def test_names_of_files_are_escaped(self):
-        with open(os.path.join(tool.EXAMPLES, "ring.toml"), encoding="utf-8") as file:
-            path = self.file("<b>&.toml", file.read())
+        path = self.file("<b>&.toml", tool.example("ring"))
         self.assertIn("<h1>&lt;b&gt;&amp;.toml</h1>", tool.call("show", path)[1])

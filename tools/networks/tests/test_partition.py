@@ -1,9 +1,7 @@
 """Partitions: fair, certified, and the same network as in one."""
 
-import os
 import re
 import tomllib
-
 from unittest import mock
 
 from networks import coarse, cutting, errors, fewest, limits, partition, topology, traffic
@@ -15,10 +13,6 @@ WHOLE = re.compile(r"partition = [0-9]+")
 
 
 class Partitions(tool.Folder):
-    def example(self, name):
-        with open(os.path.join(tool.EXAMPLES, f"{name}.toml"), encoding="utf-8") as file:
-            return file.read()
-
     def cut(self, text, count, by):
         """A text with partitions, as a file, and the same in one partition."""
         whole = self.file("whole.toml", WHOLE.sub("partition = 0", text))
@@ -31,13 +25,12 @@ class Partitions(tool.Folder):
     def both(self, by):
         for name, count in EXAMPLES.items():
             with self.subTest(name=name):
-                path, _, beside = self.cut(self.example(name), count, by)
+                path, _, beside = self.cut(tool.example(name), count, by)
                 self.assertIn("cut link", beside)
-                again = self.cut(self.example(name), count, by)[0]
+                again = self.cut(tool.example(name), count, by)[0]
                 self.assertEqual(path, again)
-        path, _, beside = self.cut(self.example("campus"), 4, by)
-        with open(path, encoding="utf-8") as file:
-            self.assertEqual(file.read(), self.example("campus"), "the places of the campus are found again")
+        path, _, beside = self.cut(tool.example("campus"), 4, by)
+        self.assertEqual(tool.read(path), tool.example("campus"), "the places of the campus are found again")
         self.assertIn("north to south           0, 1       2,000,008    4,243            16.97", beside)
 
     @tool.needs_program("gpmetis")
@@ -51,7 +44,7 @@ class Partitions(tool.Folder):
     @tool.needs_program("gpmetis")
     def test_few_channels(self):
         """Where a cut for even work has more channels than there may be, one with fewer is taken."""
-        network = tool.network_of(self.example("campus"))
+        network = tool.network_of(tool.example("campus"))
         found = traffic.expected(network)
         even = fewest.channels(network, partition.split(network, found, 8, "metis")[0])
         with mock.patch.object(limits, "CHANNELS", even - 1):
@@ -63,7 +56,7 @@ class Partitions(tool.Folder):
     def certify(self, by):
         for name, count in EXAMPLES.items():
             with self.subTest(name=name):
-                path, whole, _ = self.cut(self.example(name), count, by)
+                path, whole, _ = self.cut(tool.example(name), count, by)
                 self.nullsim("check", path)
                 self.assertGreater(self.certified(path, whole), 0)
 
@@ -71,7 +64,7 @@ class Partitions(tool.Folder):
     @tool.needs_program("gpmetis")
     def test_metis_is_certified(self):
         self.certify("metis")
-        path, whole, _ = self.cut(self.example("campus"), 4, "metis")
+        path, whole, _ = self.cut(tool.example("campus"), 4, "metis")
         self.assertGreater(self.certified(path, whole, 2, 2), 0)
 
     @tool.needs_nullsim
@@ -80,23 +73,19 @@ class Partitions(tool.Folder):
         self.certify("kernighan-lin")
 
     def test_what_is_refused(self):
-        path = self.file("x.toml", self.example("ring"))
+        path = self.file("x.toml", tool.example("ring"))
         self.assertIn("3 nodes cannot be shared out among 4 partitions", tool.call("partition", path, 4)[2])
         for count in (0, 65, -1):
             self.assertIn("N has to be 1 to 64", tool.call("partition", path, "--", count)[2])
         self.assertEqual(tool.call("partition", path, "two")[0], 2)
 
     def test_a_missing_package_is_said(self):
-        held = cutting.shutil.which, cutting.module
-        cutting.shutil.which, cutting.module = lambda name: None, lambda name: None
-        try:
-            status, said, beside = tool.call("partition", self.file("x.toml", self.example("ring")), 2)
-            self.assertEqual((status, said), (4, ""))
-            self.assertIn("METIS is not installed: apt-get install metis, or pip install pymetis; and networkx is not "
-                          "installed for it", beside)
-            self.assertIn("the Python that runs is /", beside)
-        finally:
-            cutting.shutil.which, cutting.module = held
+        with tool.without(cutting.shutil, "which"), tool.without(cutting, "module"):
+            status, said, beside = tool.call("partition", self.file("x.toml", tool.example("ring")), 2)
+        self.assertEqual((status, said), (4, ""))
+        self.assertIn("METIS is not installed: apt-get install metis, or pip install pymetis; and networkx is not "
+                      "installed for it", beside)
+        self.assertIn("the Python that runs is /", beside)
 
     def test_pymetis_is_called_as_it_wants(self):
         # The package itself may not be there: what is handed to it has its form, and is the graph.
@@ -108,19 +97,16 @@ class Partitions(tool.Folder):
                 self.seen = (count, xadj, adjncy, eweights, vweights, options)
                 return 0, [number % count for number in range(len(vweights))]
 
-        fake, held = Fake(), (cutting.shutil.which, cutting.module)
-        cutting.shutil.which, cutting.module = lambda name: None, lambda name: fake if name == "pymetis" else None
-        try:
+        fake = Fake()
+        with tool.without(cutting.shutil, "which"), mock.patch.object(cutting, "module", {"pymetis": fake}.get):
             parts, how = cutting.cut([1, 2, 3], {(0, 1): 5, (1, 2): 7}, 2)
-        finally:
-            cutting.shutil.which, cutting.module = held
         self.assertEqual((parts, how), ([0, 1, 0], "METIS (pymetis)"))
         self.assertEqual(fake.seen, (2, [0, 1, 3, 4], [1, 0, 2, 1], [5, 5, 7, 7], [1, 2, 3],
                                      {"seed": cutting.SEED, "ufactor": cutting.UNEVEN}))
 
     def test_raw_sources_are_left_as_they_are(self):
         raw = '{kind = "raw", node = "n0", via = "n0a", packet = [{at = 5, data = "45"}]}, '
-        text = self.example("ring").replace("source = [\n  ", f"source = [\n  {raw}")
+        text = tool.example("ring").replace("source = [\n  ", f"source = [\n  {raw}")
         self.assertIn(raw, text)
         path = self.file("x.toml", text)
         for words in (("routes",), ("show",)):
@@ -129,7 +115,7 @@ class Partitions(tool.Folder):
             self.assertIn("raw", said)
 
     def test_long_links_are_cut(self):
-        network = tool.network_of(self.example("campus"))
+        network = tool.network_of(tool.example("campus"))
         group_of = coarse.groups_below(network, 2_000_008)
         self.assertEqual(max(group_of) + 1, 4)
         self.assertEqual([group_of[number] for number in range(len(network.nodes))],
@@ -150,19 +136,14 @@ class Traffic(tool.Folder):
     @tool.needs_nullsim
     def test_the_program_counts_the_same(self):
         for name in ("abilene", "campus"):
-            path = os.path.join(tool.EXAMPLES, f"{name}.toml")
-            with open(path, encoding="utf-8") as file:
-                network = tool.network_of(file.read())
-            found = traffic.expected(network)
-            rows = [line.split(",") for line in self.nullsim("report", path, "csv").decode().splitlines()]
-            out = {row[1]: int(row[3]) for row in rows if row[0] == "interface" and row[2] == "packets_out"}
-            self.assertEqual(out, {iface.name: count for iface, count in zip(network.ifaces, found.packets)})
+            network = tool.network_of(tool.example(name))
+            found = {iface.name: count for iface, count in zip(network.ifaces, traffic.expected(network).packets)}
+            self.assertEqual(self.measured(tool.path_of(name), "interface", "packets_out"), found)
 
 
 class Texts(tool.Folder):
     def test_mistakes_in_a_topology_have_their_place(self):
-        with open(os.path.join(tool.EXAMPLES, "office.toml"), encoding="utf-8") as file:
-            text = file.read()
+        text = tool.example("office")
         for old, new, said in (
             ('node = "gw", address = "192', 'node = "gv", address = "192',
              'x.toml:33: iface 8 ("gw-wan"): key "node": there is no node "gv"'),

@@ -2,7 +2,6 @@
 it."""
 
 import hashlib
-import os
 import tomllib
 
 from networks import errors, limits, routes, traffic
@@ -153,8 +152,7 @@ class Rooms(tool.Folder):
 class Recorded(tool.Folder):
     def flow(self, octets, more=""):
         """A SPEC with a flow that is recorded."""
-        with open(os.path.join(self.folder, "x.pcap"), "wb") as file:
-            file.write(octets)
+        self.file("x.pcap", octets)
         return TWO + f'[[flow]]\nkind = "trace"\nfile = "{self.folder}/x.pcap"\n{more}'
 
     def test_packets_are_moved_stretched_and_readdressed(self):
@@ -217,8 +215,7 @@ class Program(tool.Folder):
     @tool.needs_nullsim
     def test_the_trace_has_the_packets_as_they_were_recorded(self):
         wanted = [(at, datagram(size, A, 0x0A000003)) for at, size in ((0, 0), (10**6, 1), (2 * 10**6, 1400))]
-        with open(os.path.join(self.folder, "x.pcap"), "wb") as file:
-            file.write(pcap([(at, datagram(len(packet) - 28, B, A)) for at, packet in wanted]))
+        self.file("x.pcap", pcap([(at, datagram(len(packet) - 28, B, A)) for at, packet in wanted]))
         flow = '[[flow]]\nkind = "trace"\nfrom = "a"\nto = "b"\nfile = "x.pcap"\n'
         status, text, _ = tool.call("make", self.file("x.spec.toml", TWO + flow))
         self.assertEqual(status, 0)

@@ -1,6 +1,5 @@
 """Captures and lists of times: every form is read alike, packets get right checksums, and what is broken is refused."""
 
-import os
 import struct
 
 from networks import captures, datagrams, errors, recorded
@@ -51,10 +50,7 @@ def pcapng(records, order="<", resolution=9):
 class Captures(tool.Folder):
     def recording(self, octets):
         """What is read of a file with these octets."""
-        path = os.path.join(self.folder, "x.pcap")
-        with open(path, "wb") as file:
-            file.write(octets)
-        return recorded.read(path, "place", MTU)
+        return recorded.read(self.file("x.pcap", octets), "place", MTU)
 
     def test_each_form_of_a_capture_has_the_same_packets(self):
         ethernet = bytes(12) + b"\x08\x00"
@@ -146,11 +142,8 @@ class Lists(tool.Folder):
     def test_files_that_cannot_be_read(self):
         with self.assertRaisesRegex(errors.Refused, 'place: key "file": "/nosuch" cannot be read: No such file'):
             recorded.read("/nosuch", "place", MTU)
-        path = os.path.join(self.folder, "x")
-        with open(path, "wb") as file:
-            file.write(b"\xff\xfe\0\0\0\0")
         with self.assertRaisesRegex(errors.Refused, "is no pcap, no pcapng and no list of times and sizes"):
-            recorded.read(path, "place", MTU)
+            recorded.read(self.file("x", b"\xff\xfe\0\0\0\0"), "place", MTU)
 
     def test_files_are_beside_the_spec(self):
         self.assertEqual(recorded.path_of("a/b.toml", "c"), "a/c")

@@ -1,8 +1,9 @@
 """Routes: the tables decide as asked, paths are shortest, and comments stay."""
 
 import unittest
+from unittest import mock
 
-from networks import aggregate, chance, paths, routes, topology
+from networks import aggregate, chance, errors, limits, paths, routes, topology
 from networks.tests import tool
 from networks.ways import Ways
 
@@ -195,22 +196,15 @@ class OnlyFlows(unittest.TestCase):
 
 class Limits(unittest.TestCase):
     def test_too_many_routes_are_refused_with_advice(self):
-        from networks import errors, limits
-
         every = tool.network_of(tool.made(spec_of("random")))
         some = tool.network_of(tool.made(spec_of("random").replace('among = "*"\npairs = "across"',
                                                                    'from = "x-1"\nto = "x-2"')))
-        held = limits.NODE_ROUTES, limits.ROUTES
-        try:
-            limits.NODE_ROUTES = 5
-            with self.assertRaisesRegex(errors.Refused, r'node "x-\d+" would need \d+ routes, and at most 5 may be: '
-                                                        r'route only to the ends of flows, which are \d+ \('):
-                routes.computed(some, "hops", True, "x.toml")
-            limits.NODE_ROUTES, limits.ROUTES = held[0], 20
-            # Where flows end everywhere it would not help to route to their ends alone.
-            for spread, advice in ((True, "leave out spread or have fewer routers"), (False, "have fewer routers")):
-                with self.assertRaisesRegex(errors.Refused, r"the network would need \d+ routes, and at most 20 may "
-                                                            rf"be: {advice}$"):
-                    routes.computed(every, "hops", spread, "x.toml")
-        finally:
-            limits.NODE_ROUTES, limits.ROUTES = held
+        needs = r"would need \d+ routes, and at most"
+        fewer = rf'node "x-\d+" {needs} 5 may be: route only to the ends of flows, which are \d+ \('
+        with mock.patch.object(limits, "NODE_ROUTES", 5), self.assertRaisesRegex(errors.Refused, fewer):
+            routes.computed(some, "hops", True, "x.toml")
+        # Where flows end everywhere it would not help to route to their ends alone.
+        for spread, advice in ((True, "leave out spread or have fewer routers"), (False, "have fewer routers")):
+            said = rf"the network {needs} 20 may be: {advice}$"
+            with mock.patch.object(limits, "ROUTES", 20), self.assertRaisesRegex(errors.Refused, said):
+                routes.computed(every, "hops", spread, "x.toml")

@@ -1,6 +1,5 @@
 """SPECs: what is made of them, and what is refused, with its place and one sentence."""
 
-import os
 import tomllib
 
 from networks import errors
@@ -34,9 +33,7 @@ class Refusals(tool.Folder):
             self.assertIn(said, tool.call("make", path)[2])
         empty = tool.call("make", self.file("e", ""))[2]
         self.assertIn("it is empty; a shell empties FILE before `.. FILE > FILE` runs: write to another file", empty)
-        with open(os.path.join(self.folder, "b"), "wb") as file:
-            file.write(b"a = 1\xff")
-        self.assertIn("octet 5 is not UTF-8", tool.call("make", os.path.join(self.folder, "b"))[2])
+        self.assertIn("octet 5 is not UTF-8", tool.call("make", self.file("b", b"a = 1\xff"))[2])
 
     def test_more_channels_than_may_be(self):
         text = ('group = [{kind = "star", name = "s", nodes = 300, partition = 1}, '
@@ -124,13 +121,11 @@ class Program(tool.Folder):
     def test_examples_arrive(self):
         for name in ("abilene", "fat-tree", "campus"):
             with self.subTest(name=name):
-                self.assertGreater(self.arrives(os.path.join(tool.EXAMPLES, f"{name}.toml")), 0)
+                self.assertGreater(self.arrives(tool.path_of(name)), 0)
 
     def test_examples_are_what_is_made_of_their_specs(self):
         for name in ("abilene", "fat-tree", "campus"):
-            with open(os.path.join(tool.EXAMPLES, f"{name}.toml"), encoding="utf-8") as file:
-                wanted = file.read()
-            path = os.path.join(tool.EXAMPLES, f"{name}.spec.toml")
-            self.assertEqual(tool.call("make", path)[1], wanted, f"make it again: tools/network make {path}")
-            with open(path, encoding="utf-8") as file:
-                self.assertLessEqual(len(file.readlines()), 40)
+            path = tool.path_of(f"{name}.spec")
+            self.assertEqual(tool.call("make", path)[1], tool.example(name),
+                             f"make it again: tools/network make {path}")
+            self.assertLessEqual(tool.read(path).count("\n"), 40)

@@ -8,6 +8,7 @@ import subprocess
 import sys
 import tempfile
 import unittest
+from unittest import mock
 
 from networks import command, making, spec, toml, writing
 
@@ -35,10 +36,36 @@ def needs_program(name):
     return unittest.skipUnless(shutil.which(name), f"the program {name} is not installed")
 
 
+def read(*parts):
+    """The text of a file."""
+    with open(os.path.join(*parts), encoding="utf-8") as file:
+        return file.read()
+
+
+def octets(*parts):
+    """The octets of a file."""
+    with open(os.path.join(*parts), "rb") as file:
+        return file.read()
+
+
+def path_of(name):
+    """Where the topology of examples/ is that has a name."""
+    return os.path.join(EXAMPLES, f"{name}.toml")
+
+
+def example(name):
+    """The text of the topology of examples/ that has a name."""
+    return read(path_of(name))
+
+
+def without(module, *names):
+    """Where some functions of a module find nothing, as where a package or a program is not installed."""
+    return mock.patch.multiple(module, **{name: lambda *_: None for name in names})
+
+
 def cases(name):
     """The cases of a file of the tests: the line behind `== `, and the text below it."""
-    with open(os.path.join(DATA, name), encoding="utf-8") as file:
-        parts = ("\n" + file.read()).split("\n== ")[1:]
+    parts = ("\n" + read(DATA, name)).split("\n== ")[1:]
     split = [part.rstrip("\n").partition("\n") for part in parts]
     return [(line, text + "\n" if text else "") for line, _, text in split]
 
@@ -74,11 +101,11 @@ class Folder(unittest.TestCase):
         self.folder = tempfile.mkdtemp(prefix="network-test.")
         self.addCleanup(shutil.rmtree, self.folder)
 
-    def file(self, name, text):
-        """A file with a text."""
+    def file(self, name, content):
+        """A file with a text, or with octets."""
         path = os.path.join(self.folder, name)
-        with open(path, "w", encoding="utf-8") as file:
-            file.write(text)
+        with open(path, "wb") as file:
+            file.write(content.encode() if isinstance(content, str) else content)
         return path
 
     def nullsim(self, *words):
@@ -94,28 +121,25 @@ class Folder(unittest.TestCase):
         self.nullsim("check", path)
         return path
 
+    def measured(self, path, kind, measure):
+        """A measure of all things of a kind, by their names, as `report TOPO csv` has it."""
+        rows = [line.split(",") for line in self.nullsim("report", path, "csv").decode().splitlines()]
+        return {name: int(value) for its, name, what, value in rows if (its, what) == (kind, measure)}
+
     def arrives(self, path):
         """Every packet of every source of a topology arrives; gives how many."""
-        rows = [line.split(",") for line in self.nullsim("report", path, "csv").decode().splitlines()]
-        sent = {row[1]: int(row[3]) for row in rows if row[0] == "source" and row[2] == "sent"}
-        delivered = {row[1]: int(row[3]) for row in rows if row[0] == "source" and row[2] == "delivered"}
-        self.assertEqual(sent, delivered)
+        sent = self.measured(path, "source", "sent")
+        self.assertEqual(sent, self.measured(path, "source", "delivered"))
         return sum(sent.values())
 
     def certified(self, path, whole, workers=2, replicas=1):
         """A topology is certified, and its files are those of the whole one in one partition; gives how many files."""
-        folder = os.path.join(self.folder, "out")
-        shutil.rmtree(folder, ignore_errors=True)
-        os.mkdir(folder)
-        said = self.nullsim("run", path, folder, str(workers), str(replicas)).decode()
-        self.assertTrue(said.startswith("certified\n"), said[:200])
-        one = os.path.join(self.folder, "one")
-        shutil.rmtree(one, ignore_errors=True)
-        os.mkdir(one)
-        self.nullsim("run", whole, one, "1", "1")
-        names = sorted(os.listdir(folder))
-        self.assertEqual(names, sorted(os.listdir(one)))
-        for name in names:
-            with open(os.path.join(folder, name), "rb") as left, open(os.path.join(one, name), "rb") as right:
-                self.assertEqual(left.read(), right.read(), name)
-        return len(names)
+        found = []
+        for topology, *words in ((path, workers, replicas), (whole, 1, 1)):
+            with tempfile.TemporaryDirectory(dir=self.folder) as folder:
+                said = self.nullsim("run", topology, folder, *map(str, words)).decode()
+                self.assertTrue(said.startswith("certified\n"), said[:200])
+                found.append({name: octets(folder, name) for name in sorted(os.listdir(folder))})
+        self.assertEqual(*map(list, found))
+        self.assertEqual([name for name in found[0] if found[0][name] != found[1][name]], [])
+        return len(found[0])
