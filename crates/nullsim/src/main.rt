@@ -25,6 +25,7 @@ use addresses::absent_of;
 use differing::say_difference;
 use help::{HELP, asked};
 use hints::{say_more, say_octets, say_stalled};
+use meetings::Meetings;
 use nm_base::sink::write_all;
 use nm_base::{MemSink, Sink, StdSink};
 use nm_command::{Command, Status};
@@ -42,7 +43,7 @@ use std::time::Clock;
 use std::{env, io, net, thread};
 use system::{SystemInputs, SystemOutputs};
 use uncertified::say_fault;
-use watching::{Over, Watched, watch};
+use watching::{Over, watch};
 
 /// The most octets of the lines on errors.
 const MAX_ERROR_OCTETS: usize = 8_192;
@@ -178,14 +179,20 @@ fn with_line<N: Runtime>(
     said: &mut MemSink,
 ) -> Ended {
     let (progress, over) = (Progress::new(), Over::new());
-    let watched = Watched {
-        progress: &progress,
-        over: &over,
-        has_line: rt.stderr().is_terminal(),
-    };
+    let has_line = rt.stderr().is_terminal();
     let (_, ended) = thread::join(
         system,
-        || watch(system, rt, words, watched, &mut rt.stderr()),
+        || {
+            let mut meetings = Meetings::new(rt, words);
+            watch(
+                system,
+                &progress,
+                &over,
+                &mut meetings,
+                has_line,
+                &mut rt.stderr(),
+            )
+        },
         || {
             let ended = with_hint(rt, system, words, said, &progress);
             over.tell(system);

@@ -4,7 +4,7 @@ use crate::addresses::read_node;
 use nm_command::{Command, NodeArguments};
 use nm_peers::{Listener, peers_of};
 use nm_progress::{PeerName, Progress};
-use std::alloc::AllocError;
+use std::alloc::{AllocError, Global};
 use std::io;
 use std::net::SocketAddr;
 
@@ -71,6 +71,11 @@ impl<'a> Meetings<'a> {
             has_said_differing: false,
             has_said_closing: false,
         }
+    }
+
+    /// The allocator of its texts.
+    pub fn alloc(&self) -> Global {
+        self.rt.alloc()
     }
 
     /// Reads the peers, unless that was tried.

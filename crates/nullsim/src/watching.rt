@@ -4,7 +4,7 @@
 use crate::meetings::Meetings;
 use nm_base::push_text;
 use nm_progress::{Progress, push_line};
-use std::alloc::{AllocError, Global};
+use std::alloc::AllocError;
 use std::io::Write;
 use std::sync::{Condvar, Mutex, Wait};
 use std::time::{Clock, Duration};
@@ -51,22 +51,13 @@ impl Over {
     }
 }
 
-/// What is watched, and whether a line shows how far it is.
-#[derive(Clone, Copy)]
-pub struct Watched<'a> {
-    pub progress: &'a Progress,
-    pub over: &'a Over,
-    pub has_line: bool,
-}
-
 /// The line of a run that was begun so many milliseconds ago.
 fn line_of(
-    alloc: Global,
     progress: &Progress,
     milliseconds: u64,
     meetings: &mut Meetings<'_>,
 ) -> Result<Vec<u8>, AllocError> {
-    let mut text = Vec::new(alloc);
+    let mut text = Vec::new(meetings.alloc());
     push_text(&mut text, WIPE)?;
     push_line(&mut text, &progress.look(), milliseconds)?;
     if let Some(awaited) = meetings.awaited(progress)? {
@@ -96,27 +87,26 @@ pub fn say_news<W: Write>(
 /// run is over. Errors of the output are ignored.
 pub fn watch<R: Wait + Clock, W: Write>(
     rt: &R,
-    host: &HostRuntime,
-    words: &[String],
-    watched: Watched<'_>,
+    progress: &Progress,
+    over: &Over,
+    meetings: &mut Meetings<'_>,
+    has_line: bool,
     errors: &mut W,
 ) {
-    let mut meetings = Meetings::new(host, words);
     let mut milliseconds = 0u64;
     for _ in 0..u64::MAX {
-        if watched.over.wait(rt, MILLISECONDS_A_LINE) {
+        if over.wait(rt, MILLISECONDS_A_LINE) {
             break;
         }
         milliseconds = milliseconds.saturating_add(MILLISECONDS_A_LINE);
-        say_news(&mut meetings, watched.progress, watched.has_line, errors);
-        if watched.has_line && watched.progress.look().stop > 0 {
-            let line = line_of(host.alloc(), watched.progress, milliseconds, &mut meetings);
-            if let Ok(text) = line {
+        say_news(meetings, progress, has_line, errors);
+        if has_line && progress.look().stop > 0 {
+            if let Ok(text) = line_of(progress, milliseconds, meetings) {
                 let _ = errors.write_all(text.as_slice());
             }
         }
     }
-    if watched.has_line {
+    if has_line {
         let _ = errors.write_all(WIPE);
     }
 }
