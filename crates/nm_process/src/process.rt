@@ -185,8 +185,7 @@ fn serve_with<C: Counts, R: Net + Wait + Clock + Drop + Copy>(
     ensures { IfErr result (λ f. is_stall f ≡ false) }
 {
     let (board, owners, _) = ClockBoard::new(alloc, process.topology)?;
-    let (partition, replica) = (book.partition, book.replica);
-    let seats = OwnSeats::of_replica(alloc, process.topology, &board, partition, replica, owners)?;
+    let seats = OwnSeats::of_book(alloc, process.topology, &board, book, owners)?;
     let mut holdings = Holdings {
         pass,
         passes: Vec::new(alloc),

@@ -382,13 +382,26 @@ impl<W> Connections<W> {
                 Ok(())
             }
             Turn::Ended => {
-                let _ = self.remove(transport, key);
-                self.contacts.take(ContactEvent::Ended { key });
+                self.end_at(transport, key);
                 Ok(())
             }
             Turn::Broken(cause) => self.let_go(transport, key, cause),
             Turn::Failed => Err(Served::Net),
         }
+    }
+
+    /// Closes the connection with this key, whose link has ended. The session of its peer comes back.
+    fn end_at<T: Transport<Connection = W>>(&mut self, transport: &mut T, key: usize)
+        ensures idle { T.elapsed_periods transport.new ≡ T.elapsed_periods transport.old }
+        ensures waits { (T.asked transport.new).waits ≡ (T.asked transport.old).waits }
+        ensures contacts { self.new.contacts ≡ after self.old.contacts (event.Ended key) }
+        ensures sessions { self.new.sessions
+            ≡ with_session_back (contact_at self.old.contacts.connections key)
+            (get self.old.open key) self.old.sessions }
+        ensures open { Updates self.old.open self.new.open key None }
+    {
+        let _ = self.remove(transport, key);
+        self.contacts.take(ContactEvent::Ended { key });
     }
 
     /// Whether the peer sends no more on the connection with this key, or has begun another. Such a

@@ -1,7 +1,7 @@
 //! What a replica does itself after a wait: it runs its book, and merges what its sister knows.
 
-ghost use Rattle.std.specs.Prelude.{◌≡◌, IfOk, IfSome, Ok, if◌then◌else◌, is_some, length, not};
-ghost use Rattle.std.specs.Prelude.{position};
+ghost use Rattle.std.specs.Prelude.{◌≡◌, ◌≤◌, IfOk, IfSome, Ok, if◌then◌else◌, is_some, length, not};
+ghost use Rattle.std.specs.Prelude.{position, true};
 ghost use Rattle.nm_replica.specs.Polls.{RunsOwn, is_merge_due, runs_on};
 ghost use Rattle.nm_replica.specs.Served.{WasSeen};
 ghost use Rattle.nm_replica.specs.Sisters.{MergesSister, is_sister_of, replica_name};
@@ -83,6 +83,8 @@ fn run_book<C: Counts, R: Wait>(
     pass: &mut Pass<C>,
 ) -> Result<Own, AllocError>
     ensures seen { IfOk result (λ o. WasSeen C.exact C.home o.standing) }
+    ensures late { IfOk result (λ o. C.exact ≡ true
+        → C.events_of pass.new.share ≤ o.standing.events) }
     ensures ran { IfOk result (λ o. RunsOwn service.now.lending.now service.now.run_limit o.ran) }
     ensures on { IfOk result
         (λ o. runs_on service.now.lending.now o.ran ≡ Ok o.runs_on) }

@@ -205,6 +205,24 @@ pub fn poll_replica<C: Counts, S: Sink, T: Transport, R: Wait>(
     ))
 }
 
+/// The answer of the gate, which was told how many octets have moved with peers.
+#[derive(Clone, Copy)]
+struct Asked {
+    moved: u64,
+    goes_on: bool,
+}
+
+/// Asks the gate whether a replica goes on, and tells it how many octets have moved with peers.
+fn ask_gate<G: Gate, W>(gate: &G, serving: &Serving<W>) -> Asked
+    ensures { result.moved ≡ serving.now.moved }
+{
+    let moved = serving.moved;
+    Asked {
+        moved,
+        goes_on: gate.poll(moved),
+    }
+}
+
 /// Serves the connections of a replica, and runs its book if it is to, until the replica is done
 /// and its links have ended, or it ends for another reason. Passes, seats and files stay in
 /// `holdings`. Meanwhile the trace files take the records that the book hands out, each those at
@@ -247,7 +265,7 @@ pub fn run_replica<C: Counts, S: Sink, T: Transport, G: Gate, R: Wait>(
         return Served::Memory;
     };
     for _made in 0..MAX_POLLS {
-        if !gate.poll(running.serving.moved) {
+        if !ask_gate(gate, &running.serving).goes_on {
             return Served::Net;
         }
         match poll_replica(rt, alloc, service, holdings, transport, &mut running) {

@@ -8,7 +8,7 @@ ghost use Rattle.nm_shared.specs.Board.{AreFirstOwners, IsOwnerOf, owned_word};
 use nm_base::PartNo;
 use nm_book::channels::goes_out;
 use nm_frames::ReplicaName;
-use nm_shared::{ClockBoard, OwnerSeat};
+use nm_shared::{ClockBoard, Counts, OwnerSeat, SharedBook};
 use nm_topology::Topology;
 use std::alloc::{AllocError, Global};
 
@@ -113,5 +113,26 @@ impl<'a> OwnSeats<'a> {
         let name = ReplicaName { partition, replica };
         let Dealt { own, others: _ } = OwnSeats::all(board, seats).deal(alloc, topology, name)?;
         Ok(own)
+    }
+
+    /// The same of the replica whose book this is.
+    ///
+    /// # Errors
+    ///
+    /// If memory was refused.
+    pub fn of_book<C: Counts>(
+        alloc: Global,
+        topology: &Topology,
+        board: &'a ClockBoard,
+        book: &SharedBook<C>,
+        seats: Vec<OwnerSeat>,
+    ) -> Result<Self, AllocError>
+        requires { AreFirstOwners board.now seats.items }
+        ensures board { IfOk result (λ own. board_of own ≡ board.now) }
+        ensures words { IfOk result (λ own. words_of own
+            ≡ filter (is_word_of topology.now book.now.partition book.now.replica)
+            (map owned_word seats.items)) }
+    {
+        OwnSeats::of_replica(alloc, topology, board, book.partition, book.replica, seats)
     }
 }

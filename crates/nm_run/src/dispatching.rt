@@ -5,11 +5,15 @@ ghost use Rattle.std.specs.Prelude.{length, true, vec_len};
 ghost use Rattle.std.specs.List.{list_all};
 ghost use Rattle.nm_run.specs.Watching.{Answers, AreOwns, names_of, owns_of};
 ghost use Rattle.nm_shared.specs.Board.{IsSeatOf};
+ghost use Rattle.nm_shared.specs.Pool.{IsRunAnswer};
+ghost use Rattle.mio.specs.Events.{items};
+ghost use Rattle.nm_run.specs.declared.stop.Stop.TheVariants.{Memory};
 
 use crate::jobs::{Answered, Watched, jobs_for};
 use crate::stations::{FirstEnded, Own, Woken};
+use crate::stop::Stop;
 use crate::threads::{AllWoken, Threaded};
-use crate::told::Told;
+use crate::told::Stopped;
 use mio::{Events, Poll};
 use nm_base::Time;
 use nm_book::Ran;
@@ -128,15 +132,41 @@ fn do_in_turn<G: Gate, R: Wait>(
         (owns_of dispatcher.new.watched.items ≡ owns_of dispatcher.old.watched.items) }
 {
     let mut events = 0u64;
-    for (number, job) in jobs.iter().enumerate() {
+    for number in 0..jobs.len() {
+        let job = &jobs[number];
         if let Some(watched) = dispatcher.watched.get_mut(job.book) {
-            let entered = threaded.gate.enter(number);
-            let answer = watched.run(rt, threaded.alloc, job);
-            threaded.gate.leave(entered);
+            let GatedRun { answer, .. } = run_at(rt, threaded, watched, job, number);
             events = events.saturating_add(note(threaded, watched, job, answer)?.answered.events);
         }
     }
     Ok(events)
+}
+
+/// A job was done between the two calls of its gate, which were told its place in the list.
+#[derive(Clone, Copy)]
+struct GatedRun {
+    place: usize,
+    answer: Ran,
+}
+
+/// Does the job of a book that has this place in the list. The gate is told.
+fn run_at<G: Gate, R: Wait>(
+    rt: &R,
+    threaded: &Threaded<'_, G>,
+    watched: &mut Watched<'_>,
+    job: &Job,
+    place: usize,
+) -> GatedRun
+    requires { watched.old.own.index ≡ job.now.book }
+    ensures own { watched.new.own ≡ watched.old.own }
+    ensures place { result.place ≡ place }
+    ensures answer { IsRunAnswer job.now.limit result.answer }
+{
+    let entered = threaded.gate.enter(place);
+    let place = entered.job;
+    let answer = watched.run(rt, threaded.alloc, job);
+    threaded.gate.leave(entered);
+    GatedRun { place, answer }
 }
 
 /// Keeps the passes of jobs.
@@ -236,10 +266,13 @@ fn listen(dispatcher: &mut Dispatcher<'_>, woken: Option<AllWoken>, _: Idle)
         → is_some woken ≡ true }
     ensures seat { dispatcher.new.seat ≡ dispatcher.old.seat }
     ensures watched { dispatcher.new.watched ≡ dispatcher.old.watched }
+    ensures looks { dispatcher.new.looks_at_all
+        ≡ (length (items dispatcher.new.events) == 0) }
 {
     let limit = Duration::from_millis(PERIOD_MILLISECONDS);
-    let waited = dispatcher.poll.poll(&mut dispatcher.events, Some(limit));
-    dispatcher.looks_at_all = waited.is_err() || dispatcher.events.is_empty();
+    // If it can't wait nothing is reported.
+    let _ = dispatcher.poll.poll(&mut dispatcher.events, Some(limit));
+    dispatcher.looks_at_all = dispatcher.events.is_empty();
 }
 
 /// Whether all books are done.
@@ -267,27 +300,29 @@ fn wake_done<G>(
 ///
 /// # Errors
 ///
-/// If a job or the pool was refused memory, or after 2^64 rounds of jobs. The error says that all
-/// replicas were told to end.
+/// `Memory` if a job or the pool was refused memory, or after 2^64 rounds of jobs. All replicas
+/// were told to end.
 pub(crate) fn dispatch<G: Gate + Sync, R: Threads + Wait + Sync>(
     rt: &R,
     threaded: &Threaded<'_, G>,
     dispatcher: &mut Dispatcher<'_>,
-) -> Result<Dispatched, Told>
+) -> Result<Dispatched, Stopped>
     requires workers { (1 ≤ threaded.now.plan.now.workers) × (threaded.now.plan.now.workers ≤ 64) }
     requires seat { IsSeatOf threaded.now.board.now dispatcher.old.seat }
     requires owns { AreOwns (names_of threaded.now) (owns_of dispatcher.old.watched.items) }
     ensures over { IfOk result
         (λ dispatched. dispatched.ended.count ≡ length threaded.now.stations.now) }
-    ensures told { IfErr result (λ told. told.are_all ≡ true) }
+    ensures told { IfErr result (λ stopped. stopped.told.are_all ≡ true) }
+    ensures memory { IfErr result (λ stopped. stopped.stop ≡ Memory) }
 {
     let mut woken: Option<AllWoken> = None;
     for _ in 0..u64::MAX {
         if let Some(ended) = threaded.are_over() {
             return Ok(Dispatched { ended });
         }
-        let Ok(events) = give_jobs(rt, threaded, dispatcher) else {
-            return Err(threaded.fail(rt));
+        let events = match give_jobs(rt, threaded, dispatcher) {
+            Ok(events) => events,
+            Err(error) => return Err(Stopped::of(Stop::from(error), threaded.fail(rt))),
         };
         note_progress(threaded, dispatcher.watched.as_slice());
         woken = wake_done(threaded, dispatcher.watched.as_slice(), woken);
@@ -296,5 +331,5 @@ pub(crate) fn dispatch<G: Gate + Sync, R: Threads + Wait + Sync>(
             listen(dispatcher, woken, idle);
         }
     }
-    Err(threaded.fail(rt))
+    Err(Stopped::of(Stop::Memory, threaded.fail(rt)))
 }

@@ -150,11 +150,22 @@ impl<'a> Watched<'a> {
             return false;
         }
         let standing = self.own.book.act(rt, &mut self.pass, Stand);
+        self.note_standing(&standing);
+        is_lent && !self.is_done && !is_full(standing)
+    }
+
+    /// Notes the state of its book, which was just read.
+    fn note_standing(&mut self, standing: &Standing)
+        ensures safe { self.new.safe ≡ standing.now.safe }
+        ensures records { self.new.records ≡ standing.now.records }
+        ensures done { self.new.is_done ≡ standing.now.is_done }
+        ensures stale { self.new.is_stale ≡ false }
+        ensures own { self.new.own ≡ self.old.own }
+    {
         self.safe = standing.safe.nanoseconds();
         self.records = standing.records;
         self.is_done = standing.is_done;
         self.is_stale = false;
-        is_lent && !self.is_done && !is_full(standing)
     }
 
     /// A job of its book.

@@ -38,7 +38,7 @@ use std::time::Clock;
 /// How many events a replica does itself after a poll. If more are left, they take longer than to
 /// wake another thread, and the pool does them. The packets of so few are still in the cache when
 /// their records are written.
-const OWN_EVENTS: u64 = 128;
+const OWN_EVENTS: u64 = 1_024;
 
 /// A replica that is to run.
 #[derive(Drop)]
@@ -279,10 +279,7 @@ pub(crate) fn run_threads<S: Sink + Drop + Send, G: Gate + Sync, R: Runtime>(
                     return Err(Stopped::of(Stop::Memory, threaded.fail(rt)));
                 }
             }
-            let dispatched = match dispatch(rt, threaded, &mut dispatcher) {
-                Ok(dispatched) => dispatched,
-                Err(told) => return Err(Stopped::of(Stop::Memory, told)),
-            };
+            let dispatched = dispatch(rt, threaded, &mut dispatcher)?;
             let mut ends = Vec::new(threaded.alloc);
             for thread in threads {
                 if ends.push(thread.join(rt)).is_err() {

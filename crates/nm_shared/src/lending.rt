@@ -2,7 +2,7 @@
 
 ghost use Rattle.std.specs.Prelude.{◌≡◌, IfSome, IsErr, None, false, is_some, true};
 
-use crate::flag::{Flag, WasSet};
+use crate::flag::{Flag, WasSet, WasTaken};
 use std::marker::Model;
 
 /// Who runs a book: a pool, to which it is lent, or its replica's own thread, after each of its
@@ -27,30 +27,38 @@ impl Model for Lending {
 /// What a pool and a replica's own thread share about a book.
 #[derive(Drop)]
 struct Loan {
-    is_lent: Flag,
+    is_lent: Flag<OfLoan>,
     /// The pool may have more to do than when it looked last.
-    has_news: Flag,
+    has_news: Flag<OfNews>,
 }
+
+/// The kind of the flag that says whether a book is lent.
+#[derive(Clone, Copy)]
+pub(crate) struct OfLoan;
+
+/// The kind of the flag that says whether there is news for the pool.
+#[derive(Clone, Copy)]
+pub(crate) struct OfNews;
 
 /// A book was lent to its pool, and the pool was notified: only `Lending::lend` makes it.
 #[derive(Clone, Copy)]
 pub struct Lent {
-    lent: WasSet,
-    told: WasSet,
+    lent: WasSet<OfLoan>,
+    told: WasSet<OfNews>,
 }
 
 /// A book was given back to its replica's own thread, if it has a pool: only `Lending::give_back`
 /// makes it.
 #[derive(Clone, Copy)]
 pub struct GivenBack {
-    lent: Option<WasSet>,
+    lent: Option<WasSet<OfLoan>>,
 }
 
 /// A pool, if there is one, was notified that it may have more to do: only `Lending::note` makes
 /// it.
 #[derive(Clone, Copy)]
 pub struct Notified {
-    told: Option<WasSet>,
+    told: Option<WasSet<OfNews>>,
 }
 
 /// A book was found not to be lent: only `Lending::not_lent` makes it.
@@ -58,12 +66,14 @@ pub struct Notified {
 pub struct NotLent(());
 
 /// The pool may have more to do than when this was taken last. Only `pass_on` can spend it.
-pub struct TakenNews(());
+pub struct TakenNews {
+    taken: WasTaken<OfNews>,
+}
 
 impl TakenNews {
     /// The pool was notified.
     pub fn pass_on(self) {
-        let TakenNews(()) = self;
+        let TakenNews { taken: _ } = self;
     }
 }
 
@@ -170,9 +180,7 @@ impl Lending {
     pub fn take_news(&self) -> Option<TakenNews>
         ensures { self.now ≡ false → result ≡ None }
     {
-        match &self.loan {
-            Some(loan) if loan.has_news.take() => Some(TakenNews(())),
-            Some(_) | None => None,
-        }
+        let taken = self.loan.as_ref()?.has_news.take()?;
+        Some(TakenNews { taken })
     }
 }

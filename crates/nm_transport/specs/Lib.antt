@@ -1,4 +1,5 @@
 pub mod Asked
 pub mod Period
 pub mod Shortage
+pub mod Spinning
 pub mod Transport

@@ -5,6 +5,7 @@ use Rattle.mio.specs.declared.event.event.Event.{Event}
 use Rattle.std.specs.declared.io.ErrorKind.{ErrorKind}
 use Rattle.std.specs.declared.io.ErrorKind.TheVariants.{WouldBlock, Interrupted, NotConnected}
 use Rattle.std.specs.declared.net.socket_addr.SocketAddr.{SocketAddr}
+use Rattle.std.specs.declared.time.Instant.{Instant}
 use Rattle.nm_base.specs.Wire.{WireSeen}
 use Rattle.nm_transport.specs.Asked.{Asked}
 use Rattle.nm_transport.specs.declared.tcp_wire.Called.{Called}
@@ -20,7 +21,8 @@ pub record TcpSeen : Type 0 where
 -- What contracts see of a transport over TCP: where it listens, and its peers, by their numbers;
 -- whether somebody may have called; whether the system lacked resources for one more connection
 -- when it was asked last; whether the last wait was asked to wait; what it reported; how many waits
--- ran out; and how often it was called.
+-- ran out; when the current period began, if the clock could be read then; and how often it was
+-- called.
 pub record TcpTransportSeen : Type 0 where
   pub at : SocketAddr
   pub peers : List SocketAddr
@@ -29,6 +31,7 @@ pub record TcpTransportSeen : Type 0 where
   pub was_to_wait : Bool
   pub reported : List Event
   pub elapsed : ℕ
+  pub begun : Option Instant
   pub asked : Asked
 
 -- the token of what a poll reported

@@ -4,6 +4,7 @@ ghost use Rattle.std.specs.Prelude.{◌≡◌};
 ghost use Rattle.nm_transport.specs.Asked.{after_accept, after_call, after_unwatch, after_wait};
 ghost use Rattle.nm_transport.specs.Asked.{after_watch, nothing_asked};
 
+use crate::spinning::Spinning;
 use mio::{Events, Poll};
 use nm_base::failures::FailureCount as Count;
 use std::marker::Model;
@@ -37,10 +38,19 @@ impl Model for AskLog {
 pub struct AskedToWait(());
 
 impl AskedToWait {
-    /// Waits until something is ready on a poll, at most for `limit`. Answers whether it could
-    /// wait.
-    pub(crate) fn poll(self, poll: &mut Poll, events: &mut Events, limit: Duration) -> bool {
+    /// Waits until something is ready on a poll, at most for `limit`: it may spin before it sleeps.
+    /// Answers whether it could wait.
+    pub(crate) fn poll(
+        self,
+        poll: &mut Poll,
+        events: &mut Events,
+        limit: Duration,
+        spinning: &mut Spinning,
+    ) -> bool {
         let AskedToWait(()) = self;
+        if !limit.is_zero() && spinning.spin(poll, events) {
+            return true;
+        }
         poll.poll(events, Some(limit)).is_ok()
     }
 

@@ -9,6 +9,7 @@ pub mod limits;
 mod period;
 mod reading;
 mod shortage;
+mod spinning;
 pub mod tcp_transport;
 pub mod tcp_wire;
 pub mod transport;

@@ -1,7 +1,8 @@
 //! Connections over TCP.
 
-ghost use Rattle.std.specs.Prelude.{◌≡◌, ◌↔◌, ◌||◌, IfErr, IfOk, IfSome, IsSome, IsSomeAnd, IsTrue};
-ghost use Rattle.std.specs.Prelude.{[], None, Some, false, if◌then◌else◌, is_ok, true};
+ghost use Rattle.std.specs.Prelude.{◌≡◌, ◌==◌, ◌↔◌, ◌&&◌, ◌||◌, Bool, IfErr, IfOk, IfSome, IsSome, IsSomeAnd};
+ghost use Rattle.std.specs.Prelude.{IsTrue, [], None, Some, false, if◌then◌else◌, is_ok, length, true};
+ghost use Rattle.nm_transport.specs.Period.{ReadsClock};
 ghost use Rattle.std.specs.Duration.{as_nanos};
 ghost use Rattle.nm_transport.specs.Shortage.{IsOfShortage};
 ghost use Rattle.nm_transport.specs.Transport.{IsCallTo, IsFresh, elapsed_after, has_run_out};
@@ -15,6 +16,7 @@ use crate::bound::Bound;
 use crate::limits::MAX_REPORTS;
 use crate::period::Period;
 use crate::shortage::is_shortage;
+use crate::spinning::Spinning;
 use crate::tcp_wire::{Called, Registered, TcpWire};
 use crate::transport::{Reported, Transport, Waited};
 use mio::net::TcpStream;
@@ -48,6 +50,8 @@ pub struct TcpTransport<R> {
     was_to_wait: bool,
     /// The current period.
     period: Period,
+    /// Which waits spin.
+    spinning: Spinning,
     idle: FailureCount,
     log: AskLog,
 }
@@ -66,6 +70,7 @@ impl<R> Model for TcpTransport<R> {
       was_to_wait = t.was_to_wait;
       reported = items t.events;
       elapsed = t.idle;
+      begun = t.period.begun;
       asked = t.log;
     } };
 }
@@ -140,6 +145,7 @@ impl<R: Net + Clock> TcpTransport<R> {
               was_to_wait = false;
               reported = [];
               elapsed = 0;
+              begun = t.begun;
               asked = nothing_asked;
             }) }
     {
@@ -156,6 +162,7 @@ impl<R: Net + Clock> TcpTransport<R> {
             is_short: false,
             was_to_wait: false,
             period,
+            spinning: Spinning::new(),
             idle: FailureCount::new(),
             log: AskLog::new(),
         })
@@ -222,6 +229,12 @@ impl<R: Net + Clock> TcpTransport<R> {
         ensures waits { self.new.was_to_wait ≡ may_wait }
         ensures asked { self.new.asked ≡ after_wait self.old.asked }
 
+        // The clock decides whether a period is over. If it can't be read, a wait for the rest of
+        // the period that found nothing ends it.
+        ensures period { (has_waited is_over : Bool) × (result ≡ waited_as is_over has_waited)
+            × ReadsClock self.old.begun (may_wait && has_waited && length self.new.reported == 0)
+            self.new.begun is_over }
+
         // Somebody may have called if that was so before, a period was over, or the listener was
         // reported.
         ensures called { self.new.is_called ≡ (self.old.is_called || has_run_out result
@@ -230,7 +243,7 @@ impl<R: Net + Clock> TcpTransport<R> {
         let asked = self.log.note_wait();
         self.was_to_wait = may_wait;
         let limit = wait_limit(may_wait, self.period.left(&self.net));
-        let has_waited = asked.poll(&mut self.poll, &mut self.events, limit);
+        let has_waited = asked.poll(&mut self.poll, &mut self.events, limit, &mut self.spinning);
         let was_quiet = may_wait && has_waited && self.events.is_empty();
         let waited = waited_as(self.period.ends(&self.net, was_quiet), has_waited);
         self.is_called = may_be_called(self.is_called, waited, has_call(&self.events));

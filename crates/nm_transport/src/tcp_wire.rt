@@ -98,16 +98,24 @@ impl TcpWire {
     /// The connection, unless it meets itself: its own end has the address to which it was begun.
     /// That happens if nobody listens yet at a port from the system's range for callers (RFC 9293,
     /// section 3.5: both ends open at once). It is no connection with a peer, and it holds the port
-    /// at which the peer is to listen.
+    /// at which the peer is to listen, so it is reset.
     pub fn unless_from(self, own: Option<SocketAddr>) -> Option<Self>
         ensures kept { IfSome result (λ w. w ≡ self) }
         ensures none { (result ≡ None) ↔ MeetsItself self.called own }
     {
         if meets_itself(self.called, own) {
+            self.reset();
             None
         } else {
             Some(self)
         }
+    }
+
+    /// Ends a connection that meets itself without a TIME-WAIT state, in which its port could not be
+    /// listened at for a minute: an octet that it was sent and that nobody read makes the system
+    /// reset it (RFC 1122, section 4.2.2.13). If it can't be sent, the port is free later.
+    fn reset(mut self) {
+        let _ = self.stream.write(&[0]);
     }
 
     /// A connection on which nothing has moved. What is written is sent at once: a conservative
