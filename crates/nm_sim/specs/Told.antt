@@ -31,6 +31,7 @@ octets_of_start (Some s) = Some (record { iface = s.0; octets = length s.1.item.
 -- the packet that arrives in an event, as it is told
 abbrev pub arrived_in : TopologyValue → Wanted → Event (List ℕ) → Option Arrived
 arrived_in t wanted (Delivery (Arrival i) x) = Some (record {
+  iface = i;
   octets = length x;
   counter = if is_wanted wanted i then None
       else Some (row_counter (arrival_row (table_of t ((net_of t).owner i)) x));

@@ -672,6 +672,7 @@ impl<L: EventList> Part<L> {
                 let sent = self.send(topology, due.time, handled.reaction);
                 Ok(Happened {
                     arrived: Some(Arrived {
+                        iface,
                         octets,
                         counter: Some(handled.counter),
                     }),
@@ -719,6 +720,7 @@ impl<L: EventList> Part<L> {
         let sent = self.send(topology, due.time, reaction);
         Ok(Happened {
             arrived: Some(Arrived {
+                iface,
                 octets,
                 counter: None,
             }),

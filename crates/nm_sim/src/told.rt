@@ -8,9 +8,10 @@ use nm_forward::Counter;
 use nm_iface::Start;
 use nm_model::Offering;
 
-/// A packet arrived.
+/// A packet arrived: at which interface, and how many octets it has.
 #[derive(Clone, Copy)]
 pub struct Arrived {
+    pub iface: IfaceNo,
     pub octets: u16,
     /// The counter of its node that says what became of it. It is not told where the record of the
     /// arrival is kept.

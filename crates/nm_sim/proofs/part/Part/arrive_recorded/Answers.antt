@@ -67,7 +67,7 @@ returns g c = rw (← c.self.view_is) (
       let happened = c.send-sent.ensures.happened doing reacted in (
         c.send-sent.ensures.represents doing reacted,
         record {
-          arrived = ap₂ (λ octets counter. Some (record { octets = octets; counter = counter })) c.octet_count-octets.ensures.count
+          arrived = ap₂ (λ octets counter. Some (record { iface = c.args.iface; octets = octets; counter = counter })) c.octet_count-octets.ensures.count
               (is_untold (is_wanted c.self.inside.records.keeping.wanted c.args.iface) (row_counter (arrival_row (table_of c.args.topology.now ((net_of c.args.topology.now).owner c.args.iface)) c.args.packet)) (ap (λ (p : PartValue g.row.L.Denot). is_wanted p.records.keeping.wanted c.args.iface) c.self.view_is ∙ c.requires.wanted));
           offering = happened.offering;
           started = happened.started;
