@@ -8,6 +8,7 @@ ghost use Rattle.nm_forward.specs.State.{Knows};
 ghost use Rattle.nm_forward.specs.InPlace.{Passes};
 ghost use Rattle.nm_forward.specs.Reacting.{IsReaction, PassesUnwanted};
 ghost use Rattle.nm_forward.specs.Reaction.{reaction};
+ghost use Rattle.nm_forward.specs.Row.{arrival_row, row_counter};
 ghost use Rattle.nm_forward.specs.declared.row.Row.TheVariants.{Forward};
 
 use crate::counter::Counter;
@@ -19,6 +20,13 @@ use nm_iface::Port;
 use nm_packet::{Ipv4, lower_in_place};
 use nm_topology::Topology;
 use std::alloc::Global;
+
+/// What a node did with a packet that arrived, and the counter that says so.
+#[derive(Drop)]
+pub struct Handled {
+    pub reaction: Reaction,
+    pub counter: Counter,
+}
 
 /// What the node does with a packet that arrives, as `react`. A packet that is sent on by an
 /// interface without wanted records is lowered where it lies, if nobody else has its octets.
@@ -36,27 +44,39 @@ pub fn react_in_place(
     wanted: &Wanted,
     iface: IfaceNo,
     packet: Packet,
-) -> Result<Reaction, Packet>
+) -> Result<Handled, Packet>
     requires { Knows topology.now state.old }
-    ensures ok { IfOk result (λ r. IsReaction ports.now r state.new
+    ensures ok { IfOk result (λ h. IsReaction ports.now h.reaction state.new
         (reaction topology.now state.old.table.node state.old (Arrival iface) packet)) }
-    ensures passes { IfOk result (PassesUnwanted wanted.now) }
+    ensures counter { IfOk result
+        (λ h. h.counter ≡ row_counter (arrival_row state.old.table packet)) }
+    ensures passes { IfOk result (λ h. PassesUnwanted wanted.now h.reaction) }
     ensures kept { state.new.table ≡ state.old.table }
     ensures err { OnErr result (state.new ≡ state.old) }
     ensures back { IfErr result (λ same. same ≡ packet) }
 {
     let Ok(view) = Ipv4::read(packet.octets()) else {
         state.count(Counter::Header);
-        return Ok(Reaction::Nothing);
+        return Ok(Handled {
+            reaction: Reaction::Nothing,
+            counter: Counter::Header,
+        });
     };
     let row = packet_row(state, &view);
     if view.octets().len() == packet.octet_count()
         && let Some(via) = passed_by(wanted, &row)
     {
-        return pass(alloc, topology, ports, state, iface, via, packet);
+        return match pass(alloc, topology, ports, state, iface, via, packet) {
+            Ok(reaction) => Ok(Handled {
+                reaction,
+                counter: Counter::Forwarded,
+            }),
+            Err(packet) => Err(packet),
+        };
     }
+    let counter = row.counter();
     match follow(alloc, topology, ports, state, &view, &row) {
-        Ok(reaction) => Ok(reaction),
+        Ok(reaction) => Ok(Handled { reaction, counter }),
         Err(_) => Err(packet),
     }
 }

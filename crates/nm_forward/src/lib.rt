@@ -15,7 +15,7 @@ mod row;
 pub mod state;
 
 pub use counter::Counter;
-pub use in_place::react_in_place;
+pub use in_place::{Handled, react_in_place};
 pub use nm_base::Origin;
 pub use reaction::{Reaction, react};
 pub use routes::Routes;

@@ -6,6 +6,6 @@ pub mod port;
 pub mod queue_item;
 pub mod transmission;
 
-pub use port::{Offered, Port, Start};
+pub use port::{Offered, OfferedAlone, Port, Start};
 pub use queue_item::QueueItem;
 pub use transmission::transmission_time;

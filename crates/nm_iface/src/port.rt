@@ -10,12 +10,14 @@ ghost use Rattle.nm_base.specs.declared.limits.TheConstants.{MAX_RATE, MAX_TIME}
 ghost use Rattle.nm_model.specs.Port.{offered, completed, is_refused, transmitting, waiting_of};
 ghost use Rattle.nm_iface.specs.PortValue.{has_room, takes, with_port};
 ghost use Rattle.nm_iface.specs.Offers.{HasCopy, IsTransmission, handed_back, transmitted_packet};
-ghost use Rattle.nm_iface.specs.Offers.{transmission_in};
+ghost use Rattle.nm_iface.specs.Offers.{offering_alone, offering_by, start_alone, transmission_in};
+ghost use Rattle.nm_model.specs.Offers.{offering_at};
 
 use crate::octets::may_wait;
 use crate::queue_item::QueueItem;
 use crate::transmission::transmission_time;
-use nm_base::{Packet, Time, Twin};
+use nm_base::{IfaceNo, Packet, Time, Twin};
+use nm_model::Offering;
 use std::alloc::{AllocError, Global};
 use std::collections::VecDeque;
 use std::marker::Model;
@@ -43,6 +45,18 @@ pub enum Offered {
 }
 
 impl Offered {
+    /// What became of it, as of one that was offered to this interface.
+    #[inline(always)]
+    pub fn offering(&self, iface: IfaceNo) -> Offering
+        ensures { result ≡ offering_by iface self.now }
+    {
+        match self {
+            Offered::Started(_) => Offering::Started(iface),
+            Offered::Queued => Offering::Waits(iface),
+            Offered::Dropped(_) => Offering::Dropped(iface),
+        }
+    }
+
     /// The transmission that starts, if one does.
     pub fn started(self) -> Option<Start>
         ensures { result ≡ transmission_in self }
@@ -50,6 +64,42 @@ impl Offered {
         match self {
             Offered::Started(start) => Some(start),
             Offered::Queued | Offered::Dropped(_) => None,
+        }
+    }
+}
+
+/// What becomes of a packet without a record that is offered.
+#[derive(Drop)]
+pub enum OfferedAlone {
+    /// Its transmission starts.
+    Started(Start),
+    /// It waits behind others.
+    Queued,
+    /// There is no room, and it is gone.
+    Dropped,
+}
+
+impl OfferedAlone {
+    /// What became of it, as of one that was offered to this interface.
+    #[inline(always)]
+    pub fn offering(&self, iface: IfaceNo) -> Offering
+        ensures { result ≡ offering_alone iface self.now }
+    {
+        match self {
+            OfferedAlone::Started(_) => Offering::Started(iface),
+            OfferedAlone::Queued => Offering::Waits(iface),
+            OfferedAlone::Dropped => Offering::Dropped(iface),
+        }
+    }
+
+    /// The transmission that starts, if one does.
+    #[inline(always)]
+    pub fn started(self) -> Option<Start>
+        ensures { result ≡ start_alone self }
+    {
+        match self {
+            OfferedAlone::Started(start) => Some(start),
+            OfferedAlone::Queued | OfferedAlone::Dropped => None,
         }
     }
 }
@@ -191,6 +241,10 @@ impl Port {
 
         // What starts has its copy.
         ensures copied { IfSome (transmission_in result) HasCopy }
+
+        // It starts, waits or is dropped, as by the model.
+        ensures offering { (i : ℕ) → offering_by i result
+            ≡ offering_at (has_room self.old.limit) i twin.packet self.old.busy }
     {
         if self.busy_until.is_none() {
             return Offered::Started(self.start(now, QueueItem::of(twin)));
@@ -204,10 +258,9 @@ impl Port {
         Offered::Dropped(twin)
     }
 
-    /// A packet without a record is offered, as by `offer`: the transmission that starts, if one
-    /// does. It takes no memory.
+    /// A packet without a record is offered, as by `offer`. It takes no memory.
     #[inline(always)]
-    pub fn offer_alone(&mut self, now: Time, packet: Packet) -> Option<Start>
+    pub fn offer_alone(&mut self, now: Time, packet: Packet) -> OfferedAlone
         // What the port transmits is not recorded. The time is within its limit, and there is
         // memory for one more packet.
         requires alone { self.old.recorded ≡ false }
@@ -218,23 +271,27 @@ impl Port {
         ensures port { self.new ≡ with_port self.old
             (offered (has_room self.old.limit) (takes self.old.rate) now packet
             self.old.dropped self.old.busy).0 self.new.room }
-        ensures packet { transmitted_packet result
+        ensures packet { transmitted_packet (start_alone result)
             ≡ (offered (has_room self.old.limit) (takes self.old.rate) now
             packet self.old.dropped self.old.busy).1 }
-        ensures start { IfSome result
+        ensures start { IfSome (start_alone result)
             (IsTransmission self.old.rate self.old.delay now packet) }
         ensures left { self.old.room ≤ self.new.room + 1 }
+
+        // It starts, waits or is dropped, as by the model.
+        ensures offering { (i : ℕ) → offering_alone i result
+            ≡ offering_at (has_room self.old.limit) i packet self.old.busy }
     {
         if self.busy_until.is_none() {
-            return Some(self.start(now, QueueItem::alone(packet)));
+            return OfferedAlone::Started(self.start(now, QueueItem::alone(packet)));
         }
         let octets = packet.octet_count();
         if self.has_room(octets) {
             self.wait(octets, QueueItem::alone(packet));
-        } else {
-            self.count_drop();
+            return OfferedAlone::Queued;
         }
-        None
+        self.count_drop();
+        OfferedAlone::Dropped
     }
 
     /// The transmission of a packet starts at an idle port.

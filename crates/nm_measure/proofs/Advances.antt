@@ -1,27 +1,32 @@
 -- A measured network goes on, event by event.
-use Rattle.std.proofs.Common.{◌≡◌, ℕ, suc, ◌+◌, ◌<◌, ◌≤◌, true, List, drop, take, Option, Some, None, sym, ap, ◌∙◌, subst, arith, ⊎_elim}
+use Rattle.std.proofs.Common.{◌≡◌, ℕ, suc, ◌+◌, ◌<◌, ◌≤◌, true, List, ◌++◌, Option, Some, None, sym, ap, ◌∙◌, subst, arith, ⊎_elim}
 use Rattle.std.specs.Option.{option_map}
-use Rattle.std.proofs.Math.Seq.{take-length}
 use Rattle.std.proofs.lemmas.Bool.{cases_lt}
 use Rattle.std.proofs.lemmas.Bool.Decides.{nat_tests}
 use Rattle.nm_base.specs.declared.event.Event.{Event}
 use Rattle.nm_base.specs.declared.key.Key.{Key}
 use Rattle.nm_events.specs.Held.{Held, pending_of}
 use Rattle.nm_model.specs.EventList.{is_before, least}
-use Rattle.nm_model.specs.Run.{one_list, pends_before, step}
+use Rattle.nm_model.specs.Run.{in_record, one_list, out_record, pends_before, step}
 use Rattle.nm_model.proofs.Keys.{least_has}
 use Rattle.nm_topology.specs.TopologyValue.{TopologyValue}
 use Rattle.nm_sim.specs.Effects.{IsPlaceIn}
 use Rattle.nm_sim.specs.Network.{net_of}
 use Rattle.nm_sim.specs.Part.{PartValue, Represents}
-use Rattle.nm_sim.specs.Records.{cut}
 use Rattle.nm_measure.specs.declared.amounts.IfaceTraffic.{IfaceTraffic}
 use Rattle.nm_measure.specs.declared.seen.Seen.{Seen}
-use Rattle.nm_measure.specs.Amounts.{AreTraffic}
-use Rattle.nm_measure.specs.Interfaces.{AreOwn, AreSeen, IsNext}
-use Rattle.nm_measure.specs.Measured.{HasCountedAll, IsCounted, IsMeasuredBefore, IsMeasuring, MeasuredValue}
+use Rattle.std.proofs.lemmas.List.{append_assoc}
+use Rattle.nm_base.specs.declared.record.Record.{Record}
+use Rattle.nm_base.specs.declared.wanted.Wanted.TheVariants.{Nothing}
+use Rattle.nm_sim.specs.Records.{Keeping}
+use Rattle.nm_sim.specs.Told.{Happens, HappensNext}
+use Rattle.nm_sim.specs.declared.told.Happened.{Happened}
+use Rattle.nm_measure.specs.Amounts.{AreTraffic, IsCame, IsWent}
+use Rattle.nm_measure.specs.Interfaces.{AreSeen, IsNext}
+use Rattle.nm_measure.specs.Measured.{IsMeasuredBefore, IsMeasuring, MeasuredValue}
 use Rattle.nm_measure.specs.Sent.{AreSent, sent_later}
-use Rattle.nm_measure.proofs.Counting.{counted_step}
+use Rattle.nm_measure.proofs.Telling.{came_is, went_is}
+use Rattle.nm_measure.proofs.Turns.{effect_at, next_records}
 use Rattle.nm_measure.proofs.Making.{sent_next}
 use Rattle.nm_measure.proofs.Readings.{event_of}
 
@@ -31,28 +36,23 @@ later from until (Some e) le h = grind (arith, nat_tests, h, le)
 
 module _ (t : TopologyValue) where
   -- from a time on
-  pub measuring_first : (from until : ℕ) (m : MeasuredValue) → IsMeasuredBefore t from m → from ≤ until → (seen : List Seen) (own : List (List ℕ))
-      → ((first n : ℕ) → AreSeen t first n m.seen → AreSeen t n n seen) → own ≡ m.own
-      → IsMeasuring t m.part.steps until (record m { seen = seen; own = own })
-  measuring_first from until m h le seen own begins same = record {
+  pub measuring_first : (from until : ℕ) (m : MeasuredValue) → IsMeasuredBefore t from m → from ≤ until → (seen : List Seen)
+      → ((first n : ℕ) → AreSeen t first n m.seen → AreSeen t n n seen)
+      → IsMeasuring t m.part.steps until (record m { seen = seen })
+  measuring_first from until m h le seen begins = record {
     events = h.events;
     early = λ n l. later from until (least (one_list (net_of t) n).pending) le (h.over.first n l);
-    counted = record {
-      represents = h.represents;
-      counted = subst (AreTraffic t m.traffic) (sym (ap (λ k. take k.handed (one_list (net_of t) h.events).records) h.all ∙ take-length (one_list (net_of t) h.events).records)) h.traffic;
-      wanted = ap (λ k. k.wanted) h.all;
-    };
-    all = h.all;
+    counted = record { represents = h.represents; counted = h.traffic; keeps = h.keeps };
     steps = h.steps;
     seen = subst (λ f. AreSeen t f h.events seen) (sym h.steps) (begins h.first h.events h.seen);
-    own = subst (AreOwn t) (sym same) h.own;
     sent = h.sent;
   }
 
-  module _ (first until : ℕ) (m : MeasuredValue) (h : IsMeasuring t first until m) (q : PartValue Held) (key : Key)
+  module _ (first until : ℕ) (m : MeasuredValue) (h : IsMeasuring t first until m) (q : PartValue Held) (key : Key) (what : Happened)
       (after : Represents pending_of t None q (step (net_of t) (λ x. true) (one_list (net_of t) h.events)))
       (due : pends_before until (one_list (net_of t) h.events) ≡ true)
-      (taken : option_map (λ e. e.0) (least (one_list (net_of t) h.events).pending) ≡ Some key) where
+      (taken : option_map (λ e. e.0) (least (one_list (net_of t) h.events).pending) ≡ Some key)
+      (happens : HappensNext t m.part.records.keeping.wanted (one_list (net_of t) h.events) what) where
     the_event : (e : Key × Event (List ℕ)) × (least (one_list (net_of t) h.events).pending ≡ Some e) × (e.0 ≡ key) × (e.0.time < until)
     the_event = event_of until (least (one_list (net_of t) h.events).pending) key due taken
 
@@ -61,12 +61,14 @@ module _ (t : TopologyValue) where
     place_in = subst (λ k. IsPlaceIn t k.place) the_event.2
         (h.counted.represents.placed the_event.0.0 the_event.0.1 (least_has (one_list (net_of t) h.events).pending the_event.0 the_event.1))
 
-    -- the part is after it, and has its records alone
-    pub next_of : until ≤ t.stop → q.records.keeping ≡ m.part.records.keeping → IsNext t h.events key.time key.place q
-    next_of within keeping =
+    happened_is : Happens t Nothing (one_list (net_of t) h.events) the_event.0 what
+    happened_is = subst (λ (k : Keeping). Happens t k.wanted (one_list (net_of t) h.events) the_event.0 what) h.counted.keeps (happens the_event.0 the_event.1)
+
+    -- the part is after it
+    pub next_of : until ≤ t.stop → IsNext t h.events key.time key.place q what
+    next_of within =
         let soon = the_event.3 in
         let same = ap (λ k. k.time) the_event.2 in
-        let kept = keeping ∙ h.all in
         record {
           event = the_event.0;
           first = the_event.1;
@@ -75,29 +77,34 @@ module _ (t : TopologyValue) where
           early = omega (arith, soon, same, within);
           before = (m.part, h.counted.represents);
           represents = after;
-          kept = after.records.kept ∙ (λ i. drop (kept i).handed (cut (kept i).wanted (one_list (net_of t) (suc h.events)).records));
+          happened = happened_is;
         }
 
-    -- what is counted before its records are
-    pub counted_next : q.records.keeping ≡ m.part.records.keeping → IsCounted t (one_list (net_of t) (suc h.events)) q m.traffic
-    counted_next keeping = counted_step t (one_list (net_of t) h.events) m.part q m.traffic h.counted h.all after keeping
-
     -- one event later
-    pub measuring_next : (p : PartValue Held) (traffic : List IfaceTraffic) (seen : List Seen) (own : List (List ℕ)) (sent : List ℕ)
-        → IsCounted t (one_list (net_of t) (suc h.events)) p traffic → HasCountedAll p (one_list (net_of t) (suc h.events))
-        → p.steps ≡ m.part.steps + 1 → AreSeen t first (suc h.events) seen → own ≡ m.own → sent ≡ sent_later key.place m.sent
-        → IsMeasuring t first until (record { part = p; traffic = traffic; seen = seen; own = own; sent = sent })
-    measuring_next p traffic seen own sent counted all steps sees same made = record {
-      events = suc h.events;
-      early = λ n l. ⊎_elim
-          (λ before. h.early n before)
-          (λ last. let is : h.events ≡ n = omega (arith, l, last) in subst (λ k. pends_before until (one_list (net_of t) k) ≡ true) is due)
-          (cases_lt n h.events);
-      counted = counted;
-      all = all;
-      steps = let s = h.steps in omega (arith, steps, s);
-      seen = sees;
-      own = subst (AreOwn t) (sym same) h.own;
-      sent = subst (AreSent t (suc h.events)) (sym made)
-          (sent_next t h.events m.sent h.sent the_event.0 key.place the_event.1 (ap (λ k. k.place) the_event.2));
-    }
+    pub measuring_next : (traffic : List IfaceTraffic) (seen : List Seen) (sent : List ℕ)
+        → ((before : List (Record (List ℕ))) (time : ℕ) (came went : Option (ℕ × List ℕ)) → IsCame came what.arrived → IsWent went what.started
+        → AreTraffic t m.traffic before → AreTraffic t traffic ((before ++ in_record time came) ++ out_record time went))
+        → q.records.keeping ≡ m.part.records.keeping → q.steps ≡ m.part.steps + 1 → AreSeen t first (suc h.events) seen → sent ≡ sent_later key.place m.sent
+        → IsMeasuring t first until (record { part = q; traffic = traffic; seen = seen; sent = sent })
+    measuring_next traffic seen sent counts keeping steps sees made =
+        let e = the_event.0 in
+        let s = one_list (net_of t) h.events in
+        let did = effect_at (net_of t) h.events e the_event.1 in
+        record {
+          events = suc h.events;
+          early = λ n l. ⊎_elim
+              (λ before. h.early n before)
+              (λ last. let is : h.events ≡ n = omega (arith, l, last) in subst (λ k. pends_before until (one_list (net_of t) k) ≡ true) is due)
+              (cases_lt n h.events);
+          counted = record {
+            represents = after;
+            counted = subst (AreTraffic t traffic) (append_assoc s.records (in_record e.0.time did.came) (out_record e.0.time did.transmission) ∙ sym (next_records (net_of t) h.events e the_event.1))
+                (counts s.records e.0.time did.came did.transmission
+                (came_is t Nothing s e what happened_is) (went_is t Nothing s e what happened_is) h.counted.counted);
+            keeps = keeping ∙ h.counted.keeps;
+          };
+          steps = let s = h.steps in omega (arith, steps, s);
+          seen = sees;
+          sent = subst (AreSent t (suc h.events)) (sym made)
+              (sent_next t h.events m.sent h.sent e key.place the_event.1 (ap (λ k. k.place) the_event.2));
+        }

@@ -21,20 +21,11 @@ use Rattle.nm_sim.specs.Network.{net_of}
 use Rattle.nm_sim.specs.Part.{PartValue, Represents}
 use Rattle.nm_measure.specs.declared.amounts.Amount.{Amount}
 use Rattle.nm_measure.specs.declared.amounts.IfaceTraffic.{IfaceTraffic}
-use Rattle.nm_measure.specs.Amounts.{AreTraffic, amount_after, amount_of, came_to, is_in, traffic_after, iface_traffic_of, went_from}
-use Rattle.nm_measure.specs.Measured.{HasCountedAll, IsCounted}
-use Rattle.nm_sim.specs.Records.{cut}
-
--- one more of a list
-pub take_one_more : {X : Type 0} (xs : List X) (i : ℕ) (x : X) → slice_get xs i ≡ Some x → take (i + 1) xs ≡ take i xs ++ x ∷ []
-take_one_more [] i x h = absurd cc
-take_one_more (y ∷ xs) zero x h = ap (λ z. z ∷ []) (some_inj y x h)
-take_one_more (y ∷ xs) (suc i) x h = let e : suc i + 1 ≡ suc (i + 1) = omega arith in ap (λ n. take n (y ∷ xs)) e ∙ ap (λ l. y ∷ l) (take_one_more xs i x h)
-
--- what was recorded before an event stays at the front
-stays_in_step : {P N : Type 0} (net : Net P N) (s : State P N) (o : Option (Key × Event P)) → take (length s.records) (step_at net (λ x. true) s o).records ≡ s.records
-stays_in_step net s None = take-length s.records
-stays_in_step net s (Some e) = take-append_seam s.records _
+use Rattle.nm_measure.specs.Amounts.{AreTraffic, IsCame, IsWent, amount_after, amount_of, came_after, came_to, is_in, traffic_after, iface_traffic_of, went_after, went_from}
+use Rattle.nm_base.specs.declared.record.Dir.TheVariants.{In, Out}
+use Rattle.nm_model.specs.Run.{in_record, out_record}
+use Rattle.nm_sim.specs.declared.told.Arrived.{Arrived}
+use Rattle.nm_sim.specs.declared.told.Started.{Started}
 
 -- no event is before time 0
 pub none_before : {P : Type 0} (o : Option (Key × Event P)) → is_before 0 o ≡ false
@@ -105,36 +96,31 @@ module _ (t : TopologyValue) where
         ((slice_get_cases old i).1);
   }
 
-  -- those that were left are counted, and let go
-  pub counted_all : (s : State (List ℕ) NodeStateValue) (p q : PartValue Held) (old new : List IfaceTraffic) → IsCounted t s p old → Represents pending_of t None q s
-      → q.records.keeping ≡ record p.records.keeping { handed = length (cut p.records.keeping.wanted s.records) }
-      → AreTraffic t new (take p.records.keeping.handed s.records ++ drop p.records.keeping.handed s.records)
-      → IsCounted t s q new × HasCountedAll q s
-  counted_all s p q old new h represents handed counted =
-      let all : HasCountedAll q s = handed ∙ (λ k. record { wanted = h.wanted k; handed = length (cut (h.wanted k) s.records) }) in (
-        record {
-          represents = represents;
-          counted = subst (AreTraffic t new) (take-append-drop p.records.keeping.handed s.records ∙ sym (ap (λ k. take k.handed s.records) all ∙ take-length s.records)) counted;
-          wanted = ap (λ k. k.wanted) all;
-        },
-        all,
-      )
+  -- a packet came
+  pub came_on : (old new : List IfaceTraffic) (records : List (Record (List ℕ))) (time : ℕ) (came : Option (ℕ × List ℕ)) (a : Arrived) → IsCame came (Some a) → length new ≡ length old
+      → ((i : ℕ) → slice_get new i ≡ option_map (λ x. cond (i == a.iface) (came_after x a.octets) x) (slice_get old i))
+      → AreTraffic t old records → AreTraffic t new (records ++ in_record time came)
+  came_on old new records time None a is count each h = absurd is
+  came_on old new records time (Some p) a is count each h =
+      traffic_on old new records (record { time = time; iface = p.0; dir = In; packet = p.1 }) count
+      (λ i. each i ∙ (λ k. option_map (λ x. cond (i == is.0 k) (came_after x (is.1 k)) x) (slice_get old i))) h
 
-  pub counted_whole : (s : State (List ℕ) NodeStateValue) (p : PartValue Held) (all : List IfaceTraffic) → IsCounted t s p all
-      → HasCountedAll p s → AreTraffic t all s.records
-  counted_whole s p all h whole = subst (λ l. AreTraffic t all l) (ap (λ k. take k.handed s.records) whole ∙ take-length s.records) h.counted
+  pub came_none : (old : List IfaceTraffic) (records : List (Record (List ℕ))) (time : ℕ) (came : Option (ℕ × List ℕ)) → IsCame came None → AreTraffic t old records → AreTraffic t old (records ++ in_record time came)
+  came_none old records time None is h = subst (AreTraffic t old) (sym (nothing_more records)) h
+  came_none old records time (Some p) is h = absurd is
 
-  -- one event more, whose records are not handed out yet
-  pub counted_step : (s : State (List ℕ) NodeStateValue) (p q : PartValue Held) (all : List IfaceTraffic) → IsCounted t s p all
-      → HasCountedAll p s → Represents pending_of t None q (step (net_of t) (λ x. true) s) → q.records.keeping ≡ p.records.keeping
-      → IsCounted t (step (net_of t) (λ x. true) s) q all
-  counted_step s p q all h whole represents handed = record {
-    represents = represents;
-    counted = subst (λ l. AreTraffic t all l)
-        (sym (ap (λ k. take k.handed (step (net_of t) (λ x. true) s).records) (handed ∙ whole) ∙ stays_in_step (net_of t) s (least s.pending)))
-        (counted_whole s p all h whole);
-    wanted = ap (λ k. k.wanted) (handed ∙ whole);
-  }
+  -- one went
+  pub went_on : (old new : List IfaceTraffic) (records : List (Record (List ℕ))) (time : ℕ) (went : Option (ℕ × List ℕ)) (a : Started) → IsWent went (Some a) → length new ≡ length old
+      → ((i : ℕ) → slice_get new i ≡ option_map (λ x. cond (i == a.iface) (went_after x a.octets) x) (slice_get old i))
+      → AreTraffic t old records → AreTraffic t new (records ++ out_record time went)
+  went_on old new records time None a is count each h = absurd is
+  went_on old new records time (Some p) a is count each h =
+      traffic_on old new records (record { time = time; iface = p.0; dir = Out; packet = p.1 }) count
+      (λ i. each i ∙ (λ k. option_map (λ x. cond (i == is.0 k) (went_after x (is.1 k)) x) (slice_get old i))) h
+
+  pub went_none : (old : List IfaceTraffic) (records : List (Record (List ℕ))) (time : ℕ) (went : Option (ℕ × List ℕ)) → IsWent went None → AreTraffic t old records → AreTraffic t old (records ++ out_record time went)
+  went_none old records time None is h = subst (AreTraffic t old) (sym (nothing_more records)) h
+  went_none old records time (Some p) is h = absurd is
 
   -- before any record
   pub traffic_first : (none : IfaceTraffic) → none ≡ iface_traffic_of 0 [] → AreTraffic t (replicate (length t.ifaces) none) []

@@ -9,6 +9,7 @@ mod Readings
 mod Rounding
 mod Rows
 mod Turns
+mod Telling
 mod Turned
 mod Waitings
 mod Transmitting

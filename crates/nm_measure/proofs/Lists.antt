@@ -7,7 +7,7 @@ use Rattle.nm_model.specs.Run.{in_record, out_record}
 use Rattle.nm_model.proofs.ListLemmas.{not_some, same_number, some_inj}
 use Rattle.nm_measure.specs.declared.queue.Queue.{Queue}
 use Rattle.nm_measure.specs.declared.seen.Seen.{Seen}
-use Rattle.nm_measure.specs.Interfaces.{OneChanges, started_record}
+use Rattle.nm_measure.specs.Interfaces.{OneChanges}
 use Rattle.nm_measure.specs.Waiting.{queue_begun}
 
 module _ {X : Type 0} where
@@ -110,26 +110,6 @@ mapped_is items all v j same x l at is = some_inj (items x) l (sym (mapped all j
     mapped [] k y e = absurd (not_some y e)
     mapped (z ∷ xs) zero y e = ap (λ w. Some (items w)) (some_inj z y e)
     mapped (z ∷ xs) (suc k) y e = mapped xs k y e
-
--- the last record of an event says whether a transmission starts
-module _ (time : ℕ) where
-  pub none_started : (came start : Option (ℕ × List ℕ)) (kept : List (Record (List ℕ))) → kept ≡ in_record time came ++ out_record time start → length kept ≡ 0
-      → None ≡ started_record time start
-  none_started came None kept is none = refl
-  none_started None (Some a) kept is none = absurd (let e = ap length is in omega (arith, e, none))
-  none_started (Some c) (Some a) kept is none = absurd (let e = ap length is in omega (arith, e, none))
-
-  last_of_event : (came start : Option (ℕ × List ℕ)) (r : Record (List ℕ)) → slice_get (in_record time came ++ out_record time start) (length (in_record time came ++ out_record time start) - 1) ≡ Some r
-      → (r.dir ≡ Out → Some r ≡ started_record time start) × (r.dir ≡ In → None ≡ started_record time start)
-  last_of_event None None r at = absurd (not_some r at)
-  last_of_event (Some c) None r at = let e = some_inj _ r at in ((λ d. absurd (let f = ap (λ (z : Record (List ℕ)). z.dir) e in cc)), λ d. refl)
-  last_of_event None (Some a) r at = let e = some_inj _ r at in ((λ d. ap Some (sym e)), λ d. absurd (let f = ap (λ (z : Record (List ℕ)). z.dir) e in cc))
-  last_of_event (Some c) (Some a) r at = let e = some_inj _ r at in ((λ d. ap Some (sym e)), λ d. absurd (let f = ap (λ (z : Record (List ℕ)). z.dir) e in cc))
-
-  pub last_started : (came start : Option (ℕ × List ℕ)) (kept : List (Record (List ℕ))) (r : Record (List ℕ)) → kept ≡ in_record time came ++ out_record time start
-      → slice_get kept (length kept - 1) ≡ Some r
-      → (r.dir ≡ Out → Some r ≡ started_record time start) × (r.dir ≡ In → None ≡ started_record time start)
-  last_started came start kept r is at = last_of_event came start r (subst (λ (l : List (Record (List ℕ))). slice_get l (length l - 1) ≡ Some r) is at)
 
 -- the first n queues are looked at anew
 abbrev pub AreBegun : List Seen → List Seen → ℕ → Type 0

@@ -1,5 +1,5 @@
 -- What one event changes at the interfaces of a network.
-use Rattle.std.proofs.Common.{◌≡◌, ◌≢◌, ℕ, suc, ◌≤◌, true, cond, List, [], ◌∷◌, ◌++◌, Option, Some, None, refl, sym, ap, ◌∙◌, subst, arith, ⊎_elim, ◌⊎◌, inl, inr, zero}
+use Rattle.std.proofs.Common.{◌≡◌, ◌≢◌, ℕ, suc, ◌≤◌, Bool, true, false, cond, List, [], ◌∷◌, ◌++◌, Option, Some, None, refl, sym, ap, ◌∙◌, subst, arith, ⊎_elim, ◌⊎◌, inl, inr, zero}
 use Rattle.std.specs.Option.{option_map_or}
 use Rattle.std.specs.FinMap.{get}
 use Rattle.nm_base.specs.declared.event.Event.{Event}
@@ -13,7 +13,11 @@ use Rattle.nm_base.specs.Event.{event_place}
 use Rattle.nm_model.specs.EventList.{least}
 use Rattle.nm_model.specs.Network.{IsNet, Net, node_of}
 use Rattle.nm_model.specs.Orderly.{IsOrderly}
-use Rattle.nm_model.specs.Port.{Port, completed, offered}
+use Rattle.nm_base.specs.declared.event.Origin.{Origin}
+use Rattle.nm_model.specs.Offers.{offering_at, offering_in, offering_of}
+use Rattle.nm_model.specs.declared.offering.Offering.TheVariants.{Waits, Dropped}
+use Rattle.nm_measure.specs.Interfaces.{offered_at}
+use Rattle.nm_model.specs.Port.{Busy, Port, completed, offered}
 use Rattle.nm_model.specs.Run.{Effect, apply, at_iface, by_source, effect, in_record, one_list, out_record, sent_on, step_at, turned}
 use Rattle.nm_model.specs.RunLaws.{KeysRise}
 use Rattle.nm_model.specs.Trace.{passed}
@@ -21,6 +25,14 @@ use Rattle.nm_model.proofs.Keys.{key_at, least_has, up_to_time}
 use Rattle.nm_model.proofs.ListLemmas.{not_some, number_apart, number_tied, option_cases, same_number, set_there, some_inj}
 use Rattle.nm_model.proofs.Traces.{passed-append}
 use Rattle.nm_measure.specs.Queues.{time_after}
+
+offered_is : {P : Type 0} (room : List P → P → Bool) (i : ℕ) (x : P) (b : Option (Busy P)) → offered_at (offering_at room i x b) ≡ Some i
+offered_is room i x None = refl
+offered_is room i x (Some b) = go (room b.waiting x)
+  where
+    go : (q : Bool) → offered_at (cond q (Waits i) (Dropped i)) ≡ Some i
+    go true = refl
+    go false = refl
 
 at_is : {P : Type 0} (i : ℕ) (o : Option P) (a : ℕ × P) → at_iface i o ≡ Some a → i ≡ a.0
 at_is i None a h = absurd (not_some a h)
@@ -69,6 +81,17 @@ module _ {P N : Type 0} (net : Net P N) where
     starts_there (Completion i) a h =
         let r = completed (net.tx i) time (ports i).dropped (ports i).busy in
         ((i, r.0), refl, at_is i r.1 a h)
+
+    -- and the one to which a packet is offered
+    pub delivery_turns : (o : Origin) (x : P) (w : ℕ × Port P) → (effect net nodes ports time number (Delivery o x)).turn ≡ Some w → offered_at (offering_in net nodes ports (Delivery o x)) ≡ Some w.0
+    delivery_turns (Arrival i) x w h =
+        let r = net.react (net.owner i) (nodes (net.owner i)) (Arrival i) x in
+        let z = sent_turns ports time (Some (i, x)) r.0 r.1 None w h in
+        ap (λ s. offered_at (offering_of net ports s)) z.1 ∙ offered_is (net.room z.0.0) z.0.0 z.0.1 (ports z.0.0).busy ∙ ap Some z.2
+    delivery_turns (Source j) x w h =
+        let r = net.react (net.source_node j) (nodes (net.source_node j)) (Source j) x in
+        let z = sent_turns ports time None r.0 r.1 (by_source j (net.source j (suc number))) w h in
+        ap (λ s. offered_at (offering_of net ports s)) z.1 ∙ offered_is (net.room z.0.0) z.0.0 z.0.1 (ports z.0.0).busy ∙ ap Some z.2
 
   -- of two ports with a turn one is as before
   turned_same : (ports : ℕ → Port P) (o : Option (ℕ × Port P)) (i : ℕ) → ((w : ℕ × Port P) → o ≡ Some w → i ≢ w.0) → turned ports o i ≡ ports i
@@ -140,6 +163,12 @@ module _ {P N : Type 0} (net : Net P N) where
     completion_is orderly a at =
         let there = least_has (one_list net n).pending e first in
         (orderly.completion a e.0.time e.0.number e.1 (subst (λ k. get (one_list net n).pending k ≡ Some e.1) (key_at e.0 (Complete a) at) there)).1
+
+-- there is one event of a number, and what it starts is what that starts
+pub event_only : {P N : Type 0} (net : Net P N) (n : ℕ) (e f : Key × Event P) → least (one_list net n).pending ≡ Some e → least (one_list net n).pending ≡ Some f
+    → (effect net (one_list net n).node (one_list net n).port e.0.time e.0.number e.1).transmission ≡ None
+    → (effect net (one_list net n).node (one_list net n).port f.0.time f.0.number f.1).transmission ≡ None
+event_only net n e f a b h = subst (λ z. (effect net (one_list net n).node (one_list net n).port z.0.time z.0.number z.1).transmission ≡ None) (some_inj e f (sym a ∙ b)) h
 
 -- the starts in records, and one more
 pub no_starts_in : {P : Type 0} (i time : ℕ) (came : Option (ℕ × P)) → passed Out i (in_record time came) ≡ []

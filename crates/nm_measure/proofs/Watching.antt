@@ -1,6 +1,5 @@
 -- All interfaces, one event later.
 use Rattle.std.proofs.Common.{◌≡◌, ◌≢◌, ℕ, suc, ◌+◌, ◌-◌, ◌^◌, ◌<◌, ◌≤◌, max, min, List, [], ◌∷◌, ◌++◌, length, drop, Option, Some, None, slice_get, inl, refl, sym, ap, ◌∙◌, subst, arith, ⊎_elim, append-nil, length-append}
-use Rattle.std.proofs.Math.Seq.{drop-append_seam}
 use Rattle.std.proofs.lemmas.Option.{slice_get_cases, slice_get_within}
 use Rattle.nm_base.specs.declared.event.Event.{Event}
 use Rattle.nm_base.specs.declared.key.Key.{Key}
@@ -20,9 +19,10 @@ use Rattle.nm_model.proofs.ListLemmas.{not_some, nth_cong, nth_front, nth_last, 
 use Rattle.nm_topology.specs.TopologyValue.{TopologyValue}
 use Rattle.nm_sim.specs.Network.{far_of, net_of}
 use Rattle.nm_sim.specs.Part.{PartValue}
+use Rattle.nm_sim.specs.declared.told.Happened.{Happened}
 use Rattle.nm_measure.specs.declared.seen.Seen.{Seen}
 use Rattle.nm_measure.specs.Busy.{part_before}
-use Rattle.nm_measure.specs.Interfaces.{AreSeen, HasQueue, HasStarted, IsNext, IsTurn, OneChanges, StartsNone, queue_in, started_record, waits_at}
+use Rattle.nm_measure.specs.Interfaces.{AreSeen, HasQueue, HasStarted, IsNext, IsTurn, OneChanges, StartsNone, queue_in, waits_at}
 use Rattle.nm_measure.specs.Queues.{time_after}
 use Rattle.nm_measure.specs.Seen.{IsQueue, IsSeen}
 use Rattle.nm_measure.specs.Usage.{IsUsed}
@@ -34,12 +34,12 @@ use Rattle.nm_measure.proofs.Turns.{effect_at, next_records, port_beside_start, 
 
 module _ (t : TopologyValue) where
   -- how long a packet's transmission takes
-  pub tx_is : (i : ℕ) (x : List ℕ) → 1 ≤ length x → transmission_time (far_of t i).rate (length x) ≡ (net_of t).tx i x
+  pub tx_is : (i : ℕ) (x : List ℕ) → transmission_time (far_of t i).rate (max 1 (length x)) ≡ (net_of t).tx i x
   unfolding net_of
-  tx_is i x h = let e : max 1 (length x) ≡ length x = omega arith in ap (λ n. transmission_time (far_of t i).rate n) (sym e)
+  tx_is i x = refl
 
-  module _ (first n now : ℕ) (place : Place) (p : PartValue Held) (old : List Seen) (seen : AreSeen t first n old) (network : IsNet (net_of t))
-      (rises : (m : ℕ) → KeysRise (net_of t) m) (next : IsNext t n now place p) where
+  module _ (first n now : ℕ) (place : Place) (p : PartValue Held) (what : Happened) (old : List Seen) (seen : AreSeen t first n old) (network : IsNet (net_of t))
+      (rises : (m : ℕ) → KeysRise (net_of t) m) (next : IsNext t n now place p what) where
     abbrev effect_of : Effect (List ℕ) NodeStateValue
     effect_of = effect_at (net_of t) n next.event next.first
 
@@ -136,34 +136,34 @@ module _ (t : TopologyValue) where
           (λ i x apart at. stays i x at (turn i (let w = slice_get_within old i x at in let c = seen.count in omega (arith, w, c)) (λ e. apart (sym (some_inj k i e)))) (same i))
 
       -- a transmission starts at interface k
-      pub seen_started : StartsArrive (net_of t) → t.stop < 2 ^ 64 → (x : List ℕ) → effect_of.transmission ≡ Some (k, x) → 1 ≤ length x
-          → OneChanges k (HasStarted (length x) now (t.stop - now) (queue_in k (one_list (net_of t) (suc n)))) old new
+      pub seen_started : StartsArrive (net_of t) → t.stop < 2 ^ 64 → (x : List ℕ) → effect_of.transmission ≡ Some (k, x)
+          → OneChanges k (HasStarted (max 1 (length x)) now (t.stop - now) (queue_in k (one_list (net_of t) (suc n)))) old new
           → AreSeen t first (suc n) new
-      seen_started arrive few x starts octets one =
-          all_seen (HasStarted (length x) now (t.stop - now) (queue_in k (one_list (net_of t) (suc n)))) one
+      seen_started arrive few x starts one =
+          all_seen (HasStarted (max 1 (length x)) now (t.stop - now) (queue_in k (one_list (net_of t) (suc n)))) one
           (λ u y at changes. (
             record {
               queue = queue_is k u y at changes.queue;
-              used = used_now arrive few x starts octets u y at changes;
+              used = used_now arrive few x starts u y at changes;
             },
             changes.rate ∙ (seen.each k u at).1,
           ))
           (λ i u apart at. stays i u at (ap waits_at (port_beside_start (net_of t) n next.event next.first (k, x) starts i apart))
           (starts_same i (λ a e. subst (λ (z : ℕ × List ℕ). i ≢ z.0) (some_inj (k, x) a (sym starts ∙ e)) apart)))
         where
-          used_now : StartsArrive (net_of t) → t.stop < 2 ^ 64 → (x : List ℕ) → effect_of.transmission ≡ Some (k, x) → 1 ≤ length x
-              → (u y : Seen) → slice_get old k ≡ Some u → HasStarted (length x) now (t.stop - now) (queue_in k (one_list (net_of t) (suc n))) u y
+          used_now : StartsArrive (net_of t) → t.stop < 2 ^ 64 → (x : List ℕ) → effect_of.transmission ≡ Some (k, x)
+              → (u y : Seen) → slice_get old k ≡ Some u → HasStarted (max 1 (length x)) now (t.stop - now) (queue_in k (one_list (net_of t) (suc n))) u y
               → IsUsed (net_of t) k t.stop (time_after (net_of t) (suc n)) (passed Out k (one_list (net_of t) (suc n)).records) y.usage.busy y.usage.last_busy y.usage.starts
-          used_now arrive few x starts octets u y at changes =
+          used_now arrive few x starts u y at changes =
               let h = seen.each k u at in
               let l = passed Out k (one_list (net_of t) n).records in
               let early = next.early in
               let same_time : next.event.0.time ≡ now = next.at_time in
               let is : passed Out k (one_list (net_of t) (suc n)).records ≡ l ++ (now, x) ∷ [] = starts_are k
               ∙ (λ j. l ++ passed Out k (out_record (same_time j) (starts j))) ∙ ap (λ z. l ++ z) (starts_here k now x) in
-              let takes : transmission_time u.usage.rate (length x) ≡ (net_of t).tx k x = ap (λ r. transmission_time r (length x)) h.1 ∙ tx_is k x octets in
-              let more : min (transmission_time u.usage.rate (length x)) (t.stop - now) ≡ part_before (net_of t) k t.stop (now, x) = ap (λ z. min z (t.stop - now)) takes in
-              let used = used_more (net_of t) k t.stop now u.usage.busy u.usage.last_busy (min (transmission_time u.usage.rate (length x)) (t.stop - now)) u.usage.starts l x (time_after (net_of t) n) h.0.used
+              let takes : transmission_time u.usage.rate (max 1 (length x)) ≡ (net_of t).tx k x = ap (λ r. transmission_time r (max 1 (length x))) h.1 ∙ tx_is k x in
+              let more : min (transmission_time u.usage.rate (max 1 (length x))) (t.stop - now) ≡ part_before (net_of t) k t.stop (now, x) = ap (λ z. min z (t.stop - now)) takes in
+              let used = used_more (net_of t) k t.stop now u.usage.busy u.usage.last_busy (min (transmission_time u.usage.rate (max 1 (length x))) (t.stop - now)) u.usage.starts l x (time_after (net_of t) n) h.0.used
               (λ front last split. apart_from arrive x is front last split) (omega (arith, early)) few more in
               subst (λ (z : ℕ × List (ℕ × List ℕ) × ℕ × ℕ × Option (ℕ × ℕ)). IsUsed (net_of t) k t.stop z.0 z.1 z.2 z.3 z.4)
               (λ j. (sym now_is j, sym is j, sym changes.busy j, sym changes.last j, sym changes.starts j)) used
@@ -177,33 +177,6 @@ module _ (t : TopologyValue) where
                   arrive.apart (suc n) k (length front) (length all) last.0 now last.1 x (omega (arith, e))
                   (nth_cong _ _ (length front) last (sym whole) (nth_front all ((now, x) ∷ []) (length front) last (nth_last front last)))
                   (nth_cong _ _ (length all) (now, x) (sym whole) (nth_last all (now, x)))
-
--- the records of an event, and what they say of a transmission
-module _ (t : TopologyValue) (n now : ℕ) (place : Place) (p : PartValue Held) (next : IsNext t n now place p) where
-  kept_are : (e : Key × Event (List ℕ)) (f : least (one_list (net_of t) n).pending ≡ Some e)
-      → p.records.kept ≡ in_record e.0.time (effect_at (net_of t) n e f).came ++ out_record e.0.time (effect_at (net_of t) n e f).transmission
-  kept_are e f = next.kept ∙ ap (drop (length (one_list (net_of t) n).records)) (next_records (net_of t) n e f)
-      ∙ drop-append_seam (one_list (net_of t) n).records _
-
-  pub none_starts : ((time : ℕ) (came start : Option (ℕ × List ℕ)) → p.records.kept ≡ in_record time came ++ out_record time start → None ≡ started_record time start) → StartsNone t n
-  none_starts h = λ e f. go e.0.time (effect_at (net_of t) n e f).transmission (h e.0.time (effect_at (net_of t) n e f).came (effect_at (net_of t) n e f).transmission (kept_are e f))
-    where
-      go : (time : ℕ) (o : Option (ℕ × List ℕ)) → None ≡ started_record time o → o ≡ None
-      go time None e = refl
-      go time (Some a) e = absurd (not_some _ e)
-
-  pub one_starts : (r : Record (List ℕ)) → ((time : ℕ) (came start : Option (ℕ × List ℕ)) → p.records.kept ≡ in_record time came ++ out_record time start → Some r ≡ started_record time start)
-      → ((effect_at (net_of t) n next.event next.first).transmission ≡ Some (r.iface, r.packet)) × (r.time ≡ now)
-  one_starts r h =
-      let z = go next.event.0.time (effect_at (net_of t) n next.event next.first).transmission
-      (h next.event.0.time (effect_at (net_of t) n next.event next.first).came (effect_at (net_of t) n next.event next.first).transmission (kept_are next.event next.first)) in
-      (z.0, z.1 ∙ next.at_time)
-    where
-      go : (time : ℕ) (o : Option (ℕ × List ℕ)) → Some r ≡ started_record time o → (o ≡ Some (r.iface, r.packet)) × (r.time ≡ time)
-      go time None e = absurd (not_some r (sym e))
-      go time (Some a) e =
-          let is = some_inj r _ e in
-          ((λ k. Some ((sym is k).iface, (sym is k).packet)), ap (λ (z : Record (List ℕ)). z.time) is)
 
 -- nothing happened yet
 pub seen_first : (t : TopologyValue) (all : List Seen) → length all ≡ length t.ifaces

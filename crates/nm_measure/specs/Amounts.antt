@@ -1,6 +1,6 @@
 -- How many packets arrived at an interface and how many it transmitted, with their octets, and how
 -- many were dropped at its queue.
-use Rattle.std.specs.Prelude.{◌≡◌, ℕ, ◌+◌, ◌==◌, ◌&&◌, Bool, true, false, not, if◌then◌else◌, List, length, sum_by, slice_get, Some}
+use Rattle.std.specs.Prelude.{◌≡◌, ℕ, ◌+◌, ◌==◌, ◌&&◌, Bool, true, false, not, if◌then◌else◌, List, length, sum_by, slice_get, Option, None, Some}
 use Rattle.nm_base.specs.Count.{saturated}
 use Rattle.nm_base.specs.declared.record.Dir.{Dir}
 use Rattle.nm_base.specs.declared.record.Dir.TheVariants.{In, Out}
@@ -8,6 +8,8 @@ use Rattle.nm_base.specs.declared.record.Record.{Record}
 use Rattle.nm_forward.specs.State.{NodeStateValue}
 use Rattle.nm_model.specs.Lists.{keep_where}
 use Rattle.nm_model.specs.Run.{State}
+use Rattle.nm_sim.specs.declared.told.Arrived.{Arrived}
+use Rattle.nm_sim.specs.declared.told.Started.{Started}
 use Rattle.nm_topology.specs.TopologyValue.{TopologyValue}
 use Rattle.nm_measure.specs.declared.amounts.Amount.{Amount}
 use Rattle.nm_measure.specs.declared.amounts.IfaceTraffic.{IfaceTraffic}
@@ -44,11 +46,28 @@ amount_after a octets = record {
   octets = saturated (a.octets + octets);
 }
 
+abbrev pub came_after : IfaceTraffic → ℕ → IfaceTraffic
+came_after x octets = record { came = amount_after x.came octets; went = x.went }
+
+abbrev pub went_after : IfaceTraffic → ℕ → IfaceTraffic
+went_after x octets = record { came = x.came; went = amount_after x.went octets }
+
 abbrev pub traffic_after : IfaceTraffic → Record (List ℕ) → IfaceTraffic
 traffic_after x r =
-    if is_in r.dir
-    then record { came = amount_after x.came (length r.packet); went = x.went }
-    else record { came = x.came; went = amount_after x.went (length r.packet) }
+    if is_in r.dir then came_after x (length r.packet) else went_after x (length r.packet)
+
+-- a packet that came to an interface, or went from one, as it is told
+abbrev pub IsCame : Option (ℕ × List ℕ) → Option Arrived → Type 0
+IsCame None None = Unit {0}
+IsCame None (Some a) = ⊥
+IsCame (Some p) None = ⊥
+IsCame (Some p) (Some a) = (a.iface ≡ p.0) × (a.octets ≡ length p.1)
+
+abbrev pub IsWent : Option (ℕ × List ℕ) → Option Started → Type 0
+IsWent None None = Unit {0}
+IsWent None (Some s) = ⊥
+IsWent (Some p) None = ⊥
+IsWent (Some p) (Some s) = (s.iface ≡ p.0) × (s.octets ≡ length p.1)
 
 -- each interface's, by number
 pub record AreTraffic (t : TopologyValue) (found : List IfaceTraffic)

@@ -13,6 +13,12 @@ use Rattle.nm_model.specs.EventList.{least}
 use Rattle.nm_model.specs.Port.{Port, waiting_of}
 use Rattle.nm_model.specs.Run.{State, effect, one_list}
 use Rattle.nm_topology.specs.TopologyValue.{TopologyValue}
+use Rattle.nm_base.specs.declared.wanted.Wanted.TheVariants.{Nothing}
+use Rattle.nm_base.specs.declared.key.Place.TheVariants.{Arrive, Complete, Fire}
+use Rattle.nm_model.specs.declared.offering.Offering.{Offering}
+use Rattle.nm_model.specs.declared.offering.Offering.TheVariants as became
+use Rattle.nm_sim.specs.Told.{Happens}
+use Rattle.nm_sim.specs.declared.told.Happened.{Happened}
 use Rattle.nm_sim.specs.Network.{far_of, net_of}
 use Rattle.nm_sim.specs.Part.{PartValue, Represents}
 use Rattle.nm_measure.specs.declared.queue.Waits.{Waits}
@@ -29,10 +35,12 @@ pub record AreSeen (t : TopologyValue) (first n : ℕ) (all : List Seen) : Type 
   pub each : (i : ℕ) (x : Seen) → slice_get all i ≡ Some x
       → IsSeen (net_of t) i first n t.stop x × (x.usage.rate ≡ (far_of t i).rate)
 
--- each interface is among those of its node
-abbrev pub AreOwn : TopologyValue → List (List ℕ) → Type 0
-AreOwn t own = (i : ℕ) → i < length t.ifaces → (l : List ℕ)
-    × (slice_get own ((net_of t).owner i) ≡ Some l) × (k : ℕ) × (slice_get l k ≡ Some i)
+-- the interface to which a packet was offered
+abbrev pub offered_at : Offering → Option ℕ
+offered_at became.Nothing = None
+offered_at (became.Started i) = Some i
+offered_at (became.Waits i) = Some i
+offered_at (became.Dropped i) = Some i
 
 -- what waits at a port, and how many were dropped there
 abbrev pub waits_at : Port (List ℕ) → Waits
@@ -50,16 +58,10 @@ queue_in i s = waits_at (s.port i)
 abbrev pub seen_queue : Seen → Waits
 seen_queue x = waits_of x.queue
 
--- the record of a transmission that starts
-abbrev pub started_record : ℕ → Option (ℕ × List ℕ) → Option (Record (List ℕ))
-started_record time None = None
-started_record time (Some a) =
-    Some (record { time = time; iface = a.0; dir = Out; packet = a.1 })
-
--- the part is the whole network after event n, which happened now and at this place, and has its
--- records alone
+-- the part is the whole network after event n, which happened now and at this place, and in which
+-- this happened
 pub record IsNext (t : TopologyValue) (n now : ℕ) (place : Place) (p : PartValue Held)
-    : Type 0 where
+    (h : Happened) : Type 0 where
   pub event : Key × Event (List ℕ)
   pub first : least (one_list (net_of t) n).pending ≡ Some event
   pub at_time : event.0.time ≡ now
@@ -67,14 +69,19 @@ pub record IsNext (t : TopologyValue) (n now : ℕ) (place : Place) (p : PartVal
   pub early : now < t.stop
   pub before : (q : PartValue Held) × Represents pending_of t None q (one_list (net_of t) n)
   pub represents : Represents pending_of t None p (one_list (net_of t) (suc n))
-  pub kept : p.records.kept
-      ≡ drop (length (one_list (net_of t) n).records) (one_list (net_of t) (suc n)).records
+  pub happened : Happens t Nothing (one_list (net_of t) n) event h
 
 -- event n starts no transmission
 abbrev pub StartsNone : TopologyValue → ℕ → Type 0
 StartsNone t n = (e : Key × Event (List ℕ)) → least (one_list (net_of t) n).pending ≡ Some e
     → (effect (net_of t) (one_list (net_of t) n).node (one_list (net_of t) n).port e.0.time
     e.0.number e.1).transmission ≡ None
+
+-- the interface whose queue an event at this place may change, by what became of what was sent
+abbrev pub turned_by : Place → Offering → Option ℕ
+turned_by (Complete i) offering = Some i
+turned_by (Arrive i) offering = offered_at offering
+turned_by (Fire j) offering = offered_at offering
 
 -- event n leaves all queues but this one as they are
 abbrev pub IsTurn : TopologyValue → ℕ → Option ℕ → Type 0

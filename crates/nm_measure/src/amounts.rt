@@ -1,18 +1,16 @@
 //! How many packets came to an interface and how many it transmitted, with their octets.
 
-ghost use Rattle.std.specs.Prelude.{◌≡◌, ◌≤◌, ◌^◌, ◌==◌, ◌++◌, IfOk, List, [], ℕ};
+ghost use Rattle.std.specs.Prelude.{◌≡◌, ◌==◌, ◌++◌, IfOk, List, Option, [], ℕ};
 ghost use Rattle.std.specs.Prelude.{if◌then◌else◌, length, slice_get};
 ghost use Rattle.std.specs.Option.{option_map};
-ghost use Rattle.nm_base.specs.declared.record.Record.{Record as TraceRecord};
-ghost use Rattle.nm_forward.specs.State.{NodeStateValue};
-ghost use Rattle.nm_model.specs.Run.{State};
-ghost use Rattle.nm_measure.specs.Amounts.{AreTraffic, amount_after, traffic_after};
-ghost use Rattle.nm_measure.specs.Measured.{HasCountedAll, IsCounted};
+ghost use Rattle.nm_base.specs.declared.record.Record.{Record};
+ghost use Rattle.nm_measure.specs.Amounts.{AreTraffic, amount_after, came_after, went_after};
+ghost use Rattle.nm_measure.specs.Amounts.{IsCame, IsWent};
+ghost use Rattle.nm_model.specs.Run.{in_record, out_record};
 ghost use Rattle.nm_topology.specs.TopologyValue.{TopologyValue};
 
-use nm_base::{Dir, Record};
-use nm_events::HeapList;
-use nm_sim::Part;
+use nm_base::IfaceNo;
+use nm_sim::{Arrived, Happened, Started};
 use nm_topology::Topology;
 use std::alloc::{AllocError, Global};
 
@@ -37,43 +35,80 @@ pub(crate) const NONE: Amount = Amount {
 };
 
 /// The amount with one packet more, of so many octets.
-fn one_more(amount: Amount, octets: usize) -> Amount
-    requires { octets ≤ 2 ^ 16 }
+fn one_more(amount: Amount, octets: u16) -> Amount
     ensures { result ≡ amount_after amount octets }
 {
     Amount {
         packets: amount.packets.saturating_add(1),
-        octets: amount.octets.saturating_add(octets as u64),
+        octets: amount.octets.saturating_add(u64::from(octets)),
     }
 }
 
-/// The traffic of an interface with one record of it more.
-fn with_record(traffic: IfaceTraffic, record: &Record) -> IfaceTraffic
-    ensures { result ≡ traffic_after traffic «record».now }
+/// The traffic of an interface with one packet more that came.
+fn with_came(traffic: IfaceTraffic, octets: u16) -> IfaceTraffic
+    ensures { result ≡ came_after traffic octets }
 {
-    let octets = record.packet.octet_count();
-    match record.dir {
-        Dir::In => IfaceTraffic {
-            came: one_more(traffic.came, octets),
-            went: traffic.went,
-        },
-        Dir::Out => IfaceTraffic {
-            came: traffic.came,
-            went: one_more(traffic.went, octets),
-        },
+    IfaceTraffic {
+        came: one_more(traffic.came, octets),
+        went: traffic.went,
     }
 }
 
-/// Counts a record at its interface.
-fn count(all: &mut Vec<IfaceTraffic>, record: &Record)
+/// The traffic of an interface with one packet more that went.
+fn with_went(traffic: IfaceTraffic, octets: u16) -> IfaceTraffic
+    ensures { result ≡ went_after traffic octets }
+{
+    IfaceTraffic {
+        came: traffic.came,
+        went: one_more(traffic.went, octets),
+    }
+}
+
+/// Counts a packet that arrived.
+fn add_came(all: &mut Vec<IfaceTraffic>, arrived: &Arrived)
     ensures count { length all.new.items ≡ length all.old.items }
     ensures each { (i : ℕ) → slice_get all.new.items i ≡ option_map
-        (λ x. if i == «record».now.iface then traffic_after x «record».now else x)
+        (λ x. if i == arrived.now.iface then came_after x arrived.now.octets else x)
         (slice_get all.old.items i) }
 {
-    let place = record.iface.index();
+    let place = arrived.iface.index();
     if place < all.len() {
-        all[place] = with_record(all[place], record);
+        all[place] = with_came(all[place], arrived.octets);
+    }
+}
+
+/// Counts a packet whose transmission started.
+fn add_went(all: &mut Vec<IfaceTraffic>, started: &Started)
+    ensures count { length all.new.items ≡ length all.old.items }
+    ensures each { (i : ℕ) → slice_get all.new.items i ≡ option_map
+        (λ x. if i == started.now.iface then went_after x started.now.octets else x)
+        (slice_get all.old.items i) }
+{
+    let place = started.iface.index();
+    if place < all.len() {
+        all[place] = with_went(all[place], started.octets);
+    }
+}
+
+/// Counts a packet that arrived, if one did.
+fn count_came(all: &mut Vec<IfaceTraffic>, arrived: &Option<Arrived>)
+    ensures { (t : TopologyValue) (before : List (Record (List ℕ))) (time : ℕ)
+        (came : Option (ℕ × List ℕ)) → IsCame came arrived.now → AreTraffic t all.old.items before
+        → AreTraffic t all.new.items (before ++ in_record time came) }
+{
+    if let Some(arrived) = arrived {
+        add_came(all, arrived);
+    }
+}
+
+/// Counts a packet whose transmission started, if one did.
+fn count_went(all: &mut Vec<IfaceTraffic>, started: &Option<Started>)
+    ensures { (t : TopologyValue) (before : List (Record (List ℕ))) (time : ℕ)
+        (went : Option (ℕ × List ℕ)) → IsWent went started.now → AreTraffic t all.old.items before
+        → AreTraffic t all.new.items (before ++ out_record time went) }
+{
+    if let Some(started) = started {
+        add_went(all, started);
     }
 }
 
@@ -91,26 +126,14 @@ pub(crate) fn no_traffic(
     vec![in alloc; none; topology.ifaces().len()]
 }
 
-/// Counts records at their interfaces.
-fn count_each(all: &mut Vec<IfaceTraffic>, records: &[Record])
-    ensures { (t : TopologyValue) (before : List (TraceRecord (List ℕ)))
-        → AreTraffic t all.old.items before
-        → AreTraffic t all.new.items (before ++ records.now) }
+/// Counts the packet that arrived in an event and the one whose transmission started.
+pub(crate) fn count(all: &mut Vec<IfaceTraffic>, happened: &Happened)
+    ensures { (t : TopologyValue) (before : List (Record (List ℕ))) (time : ℕ)
+        (came went : Option (ℕ × List ℕ))
+        → IsCame came happened.now.arrived → IsWent went happened.now.started
+        → AreTraffic t all.old.items before → AreTraffic t all.new.items
+        ((before ++ in_record time came) ++ out_record time went) }
 {
-    for number in 0..records.len() {
-        count(all, &records[number]);
-    }
-}
-
-/// Counts the records that a part keeps, and drops them.
-pub(crate) fn count_all(part: &mut Part<HeapList>, all: &mut Vec<IfaceTraffic>)
-    requires { (t : TopologyValue) × (s : State (List ℕ) NodeStateValue)
-        × IsCounted t s part.old all.old.items }
-    ensures counted { (t : TopologyValue) (s : State (List ℕ) NodeStateValue)
-        → IsCounted t s part.old all.old.items → IsCounted t s part.new all.new.items
-        × HasCountedAll part.new s }
-    ensures steps { part.new.steps ≡ part.old.steps }
-{
-    count_each(all, part.trace());
-    part.let_go();
+    count_came(all, &happened.arrived);
+    count_went(all, &happened.started);
 }

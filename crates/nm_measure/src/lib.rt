@@ -9,7 +9,6 @@ mod fates;
 pub mod flow_counts;
 pub mod flow_times;
 mod flows;
-mod guesses;
 mod interfaces;
 mod lane;
 pub mod level;

@@ -1,9 +1,14 @@
 //! A network at a time of its run, with its measurements.
 
-ghost use Rattle.std.specs.Prelude.{◌≡◌, ℕ, ◌-◌, ◌<◌, ◌≤◌, ◌^◌, min, None, Some};
+ghost use Rattle.std.specs.Prelude.{◌≡◌, ℕ, suc, ◌-◌, ◌<◌, ◌≤◌, ◌^◌, ◌++◌, min, List, None, Option, Some};
 ghost use Rattle.std.specs.Prelude.{IfOk, IfSome, IsSomeAnd, OnOk, length};
 ghost use Rattle.nm_base.specs.Count.{saturated};
-ghost use Rattle.nm_measure.specs.Sent.{sent_in};
+ghost use Rattle.nm_base.specs.declared.record.Record.{Record};
+ghost use Rattle.nm_model.specs.Run.{in_record, out_record};
+ghost use Rattle.nm_sim.specs.Effects.{IsPlaceIn};
+ghost use Rattle.nm_measure.specs.Amounts.{AreTraffic, IsCame, IsWent};
+ghost use Rattle.nm_measure.specs.Interfaces.{AreSeen, IsNext};
+ghost use Rattle.nm_measure.specs.Sent.{sent_in, sent_later};
 ghost use Rattle.nm_model.specs.Run.{one_list};
 ghost use Rattle.nm_measure.specs.Amounts.{iface_traffic_of, drops_of};
 ghost use Rattle.nm_measure.specs.Busy.{busy_before, busy_share};
@@ -14,7 +19,7 @@ ghost use Rattle.nm_sim.specs.Network.{net_of};
 ghost use Rattle.nm_sim.specs.Part.{count_at, drops_at};
 ghost use Rattle.nm_topology.specs.TopologyValue.{TopologyValue};
 
-use crate::amounts::{Amount, IfaceTraffic, count_all, no_traffic};
+use crate::amounts::{Amount, IfaceTraffic, count, no_traffic};
 use crate::courses::{Course, Ended};
 use crate::flow_counts::FlowCounts;
 use crate::flow_times::FlowTimes;
@@ -22,15 +27,18 @@ use crate::interfaces::Interfaces;
 use crate::totals::{FlowTotals, IfaceTotals};
 use crate::watched::Watched;
 use nm_base::limits::MAX_PART_STEPS;
-use nm_base::{IfaceNo, NodeNo, SourceNo, Time};
+use nm_base::{IfaceNo, NodeNo, Place, SourceNo, Time, Wanted};
 use nm_events::HeapList;
 use nm_forward::Counter;
 use nm_progress::Progress;
-use nm_sim::Part;
+use nm_sim::{Happened, Part};
 use nm_topology::Topology;
 use nm_topology::topology::accepted_topologies_are_in_order;
 use std::alloc::{AllocError, Global};
 use std::marker::Model;
+
+/// The most records of one event: a packet arrives, and a transmission starts.
+const RECORDS_OF_AN_EVENT: usize = 2;
 
 /// A whole network at a time of its run, with its measurements. Counters, drops, traffic, queues
 /// and busy times are those of the one event list; flows are observed event by event.
@@ -52,7 +60,6 @@ struct OverTime {
 }
 
 impl Model for Measured {
-    ghost use Rattle.std.specs.Prelude.{map};
     ghost use Rattle.nm_measure.specs.Flows.{sent_numbers};
     ghost use Rattle.nm_measure.specs.Measured.{MeasuredValue};
 
@@ -62,7 +69,6 @@ impl Model for Measured {
       part = m.part;
       traffic = m.traffic.items;
       seen = m.interfaces.all.items;
-      own = map (λ l. l.items) m.interfaces.own.items;
       sent = sent_numbers m.watched.flows.counts.items;
     } };
 }
@@ -85,7 +91,7 @@ impl Measured {
         let traffic = no_traffic(alloc, topology)?;
         let interfaces = Interfaces::new(alloc, topology)?;
         let watched = Watched::new(alloc, topology, followed)?;
-        let part = Part::<HeapList>::start(alloc, topology, None)?;
+        let part = Part::<HeapList>::start_with(alloc, topology, None, Wanted::Nothing)?;
         Ok(Measured {
             part,
             traffic,
@@ -115,19 +121,57 @@ impl Measured {
         accepted_topologies_are_in_order(topology); // law: `stop` is within its limit
         self.interfaces.begin_recent();
         for done in 0..MAX_PART_STEPS + 1 {
-            let Some(key) = self.part.step(alloc, topology, until)? else {
+            let Some(told) = self.part.step_and_tell(alloc, topology, until)? else {
                 return Ok(());
             };
-            progress.note_records(self.part.handed(), self.part.trace().len(), key.time);
-            let guess = self.watched.guess(topology, &key.place);
-            let happened = self
-                .interfaces
-                .see(topology, &self.part, key.time, &key.place, guess);
-            self.watched
-                .see(topology, &self.part, key.time, &key.place, happened)?;
-            count_all(&mut self.part, &mut self.traffic);
+            let (time, place) = (told.key.time, told.key.place);
+            let Happened {
+                arrived,
+                offering,
+                started,
+            } = told.happened;
+            let happened = Happened {
+                arrived,
+                offering,
+                started,
+            };
+            self.see(topology, progress, time, place, happened)?;
         }
         Err(AllocError)
+    }
+
+    /// Sees an event, which the part has just done.
+    ///
+    /// # Errors
+    ///
+    /// If memory was refused.
+    fn see(
+        &mut self,
+        topology: &Topology,
+        progress: &Progress,
+        now: Time,
+        place: Place,
+        happened: Happened,
+    ) -> Result<(), AllocError>
+        requires { IsPlaceIn topology.now place }
+        ensures part { self.new.part ≡ self.old.part }
+        ensures traffic { OnOk result ((t : TopologyValue) (before : List (Record (List ℕ)))
+            (time : ℕ) (came went : Option (ℕ × List ℕ))
+            → IsCame came happened.arrived → IsWent went happened.started
+            → AreTraffic t self.old.traffic before → AreTraffic t self.new.traffic
+            ((before ++ in_record time came) ++ out_record time went)) }
+        ensures seen { OnOk result ((first n : ℕ) → AreSeen topology.now first n self.old.seen
+            → IsNext topology.now n now place self.old.part happened
+            → AreSeen topology.now first (suc n) self.new.seen) }
+        ensures sent { OnOk result (self.new.sent ≡ sent_later place self.old.sent) }
+    {
+        progress.note_records(self.part.made(), RECORDS_OF_AN_EVENT, now);
+        self.interfaces
+            .see(topology, &self.part, now, &place, &happened);
+        self.watched
+            .see(topology, &self.part, now, &place, &happened)?;
+        count(&mut self.traffic, &happened);
+        Ok(())
     }
 
     /// The value of a node's counter. `None` if there is no such node.

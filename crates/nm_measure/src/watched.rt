@@ -6,29 +6,26 @@ ghost use Rattle.nm_measure.specs.Flows.{sent_numbers};
 ghost use Rattle.nm_measure.specs.Sent.{AreSent, sent_later, with_sent};
 
 use crate::courses::{Course, Courses, End, EndPlace, Ended, Hop, Reason};
-use crate::fates::{Fate, Tallies, Told};
+use crate::fates::{Fate, Refusals, fate_of};
 use crate::flow_counts::{FlowCounts, PacketOutcome};
 use crate::flow_times::FlowTimes;
 use crate::flows::{Arrival, Flows};
-use crate::guesses::Guesses;
-use crate::interfaces::{Happened, start_in};
 use crate::lane::Lane;
 use crate::tag::Tag;
-use nm_base::{Dir, IfaceNo, NodeNo, Place, Record, SourceNo, Time};
+use nm_base::{Dir, IfaceNo, NodeNo, Place, SourceNo, Time};
 use nm_events::HeapList;
-use nm_sim::Part;
+use nm_model::Offering;
+use nm_sim::{Arrived, Happened, Part};
 use nm_topology::Topology;
-use nm_topology::traffic::Traffic;
 use std::alloc::{AllocError, Global};
 
 /// What is seen of the packets of sources.
 #[derive(Drop)]
 pub(crate) struct Watched {
-    tallies: Tallies,
+    refusals: Refusals,
     flows: Flows,
     /// The direction of each interface's link that it sends on.
     lanes: Vec<Lane>,
-    guesses: Guesses,
     /// The ways of one source's packets, if they are asked for.
     courses: Option<Courses>,
 }
@@ -50,20 +47,16 @@ fn lanes_of(alloc: Global, topology: &Topology) -> Result<Vec<Lane>, AllocError>
     Ok(all)
 }
 
-/// The octets of the packet that arrived in the last event. Its record is the event's first.
-fn octets_of_arrival(part: &Part<HeapList>) -> u64 {
-    match part.trace().first() {
-        Some(record) => record.packet.octet_count() as u64,
-        None => 0,
-    }
+/// A packet passes an interface.
+fn hop(iface: IfaceNo, dir: Dir, time: Time) -> Hop {
+    Hop { iface, dir, time }
 }
 
-/// The hop of a record: its packet passed its interface.
-fn hop_of(record: &Record) -> Hop {
-    Hop {
-        iface: record.iface,
-        dir: record.dir,
-        time: record.time,
+/// What is said of a packet that arrived, and why.
+fn said_of(arrived: &Arrived) -> (Fate, Reason) {
+    match arrived.counter {
+        Some(counter) => (fate_of(counter), Reason::Counted(counter)),
+        None => (Fate::Discarded, Reason::Unknown),
     }
 }
 
@@ -91,10 +84,9 @@ impl Watched {
             None => None,
         };
         Ok(Watched {
-            tallies: Tallies::new(alloc, topology.nodes().len())?,
+            refusals: Refusals::new(alloc, topology.nodes().len())?,
             flows: Flows::new(alloc, topology)?,
             lanes: lanes_of(alloc, topology)?,
-            guesses: Guesses::new(alloc, topology.sources().len())?,
             courses,
         })
     }
@@ -158,38 +150,7 @@ impl Watched {
         self.flows.times(source)
     }
 
-    /// A guess of the interface to which the next event's packet is offered, if it does not start
-    /// there.
-    pub(crate) fn guess(&self, topology: &Topology, place: &Place) -> IfaceNo {
-        match place {
-            Place::Complete(iface) => *iface,
-            Place::Arrive(iface) => self.guess_at(topology, *iface),
-            Place::Fire(source) => match topology.sources().get(source.index()) {
-                Some(from) => self.guesses.guess(
-                    from.node,
-                    &Tag::of_source(*source, 0, Time::from_nanoseconds(0)),
-                ),
-                None => IfaceNo::new(0),
-            },
-        }
-    }
-
-    /// The same for a packet that arrives at this interface.
-    fn guess_at(&self, topology: &Topology, number: IfaceNo) -> IfaceNo {
-        let Some(iface) = topology.ifaces().get(number.index()) else {
-            return number;
-        };
-        let Some(lane) = self.lanes.get(iface.far().iface.index()) else {
-            return number;
-        };
-        match lane.front() {
-            Some(tag) => self.guesses.guess(iface.node(), tag),
-            None => number,
-        }
-    }
-
-    /// Sees the event of this time and place, which was just done, and what happened at an
-    /// interface. The part keeps only this event's records.
+    /// Sees an event, which was just done.
     ///
     /// # Errors
     ///
@@ -200,31 +161,31 @@ impl Watched {
         part: &Part<HeapList>,
         now: Time,
         place: &Place,
-        happened: Happened,
+        happened: &Happened,
     ) -> Result<(), AllocError>
         requires { IsPlaceIn topology.now place.now }
         ensures { OnOk result (sent_numbers self.new.flows.counts.items
             ≡ sent_later place.now (sent_numbers self.old.flows.counts.items)) }
     {
         match place {
-            Place::Complete(_) => self.see_completion(part),
-            Place::Arrive(iface) => self.see_arrival(topology, part, *iface, now, happened),
+            Place::Complete(_) => self.see_completion(now, happened),
+            Place::Arrive(iface) => self.see_arrival(topology, *iface, now, happened),
             Place::Fire(source) => self.see_source(topology, part, *source, now, happened),
         }
     }
 
-    /// Sees an interface complete a transmission. What waited longest there starts.
-    fn see_completion(&mut self, part: &Part<HeapList>) -> Result<(), AllocError>
+    /// Sees an interface complete a transmission. What waited longest there starts, if it did.
+    fn see_completion(&mut self, now: Time, happened: &Happened) -> Result<(), AllocError>
         ensures { self.new.flows ≡ self.old.flows }
     {
-        let Some(record) = start_in(part) else {
+        let Some(started) = &happened.started else {
             return Ok(());
         };
-        let Some(lane) = self.lanes.get_mut(record.iface.index()) else {
+        let Some(lane) = self.lanes.get_mut(started.iface.index()) else {
             return Ok(());
         };
         let passed = match (&mut self.courses, lane.first_waiting()) {
-            (Some(courses), Some(tag)) => courses.pass(tag, hop_of(record)),
+            (Some(courses), Some(tag)) => courses.pass(tag, hop(started.iface, Dir::Out, now)),
             _ => Ok(()),
         };
         lane.send_next();
@@ -235,10 +196,9 @@ impl Watched {
     fn see_arrival(
         &mut self,
         topology: &Topology,
-        part: &Part<HeapList>,
         number: IfaceNo,
         now: Time,
-        happened: Happened,
+        happened: &Happened,
     ) -> Result<(), AllocError>
         ensures { sent_numbers self.new.flows.counts.items ≡ sent_numbers self.old.flows.counts.items }
     {
@@ -247,22 +207,21 @@ impl Watched {
         };
         let node = iface.node();
         let tag = self.leave_link(iface.far().iface);
-        self.pass(
-            &tag,
-            Hop {
-                iface: number,
-                dir: Dir::In,
-                time: now,
-            },
-        )?;
-        let told = self.tallies.fate(part, node);
-        if let Fate::SentOn = told.fate {
-            let offer = Offer { node, tag, now };
-            return self.see_offer(part, offer, happened);
+        self.pass(&tag, hop(number, Dir::In, now))?;
+        let Some(arrived) = &happened.arrived else {
+            return Ok(());
+        };
+        let (fate, reason) = said_of(arrived);
+        if let Fate::SentOn = fate {
+            return self.see_offer(Offer { node, tag, now }, happened.offering);
         }
-        let octets = octets_of_arrival(part);
-        self.see_end(&tag, told, Arrival { node, octets, now })?;
-        let answer = match told.fate {
+        let arrival = Arrival {
+            node,
+            octets: u64::from(arrived.octets),
+            now,
+        };
+        self.see_end(&tag, fate, reason, arrival)?;
+        let answer = match fate {
             Fate::Requested => tag.of_reply(),
             _ => Tag::of_nobody(),
         };
@@ -271,7 +230,7 @@ impl Watched {
             tag: answer,
             now,
         };
-        self.see_answer(part, offer, happened)
+        self.see_offer(offer, happened.offering)
     }
 
     /// The packet that is longest on the link from an interface leaves it.
@@ -285,20 +244,26 @@ impl Watched {
     }
 
     /// Sees the way of a packet end at a node.
-    fn see_end(&mut self, tag: &Tag, told: Told, arrival: Arrival) -> Result<(), AllocError>
+    fn see_end(
+        &mut self,
+        tag: &Tag,
+        fate: Fate,
+        reason: Reason,
+        arrival: Arrival,
+    ) -> Result<(), AllocError>
         ensures { sent_numbers self.new.flows.counts.items ≡ sent_numbers self.old.flows.counts.items }
     {
-        let Some(outcome) = outcome_of(told.fate) else {
+        let Some(outcome) = outcome_of(fate) else {
             return Ok(());
         };
         let end = End {
             outcome,
-            reason: told.reason,
+            reason,
             place: EndPlace::Node(arrival.node),
             time: arrival.now,
         };
         self.end(tag, end)?;
-        match told.fate {
+        match fate {
             Fate::Told => self.flows.tell(tag, arrival),
             Fate::Delivered | Fate::Requested => self.flows.deliver(tag, arrival),
             Fate::SentOn | Fate::Refused | Fate::Discarded => {
@@ -308,31 +273,14 @@ impl Watched {
         }
     }
 
-    /// Sees the answer of a node to a packet that ended there, if there is one.
-    fn see_answer(
-        &mut self,
-        part: &Part<HeapList>,
-        answer: Offer,
-        happened: Happened,
-    ) -> Result<(), AllocError>
-        ensures { sent_numbers self.new.flows.counts.items ≡ sent_numbers self.old.flows.counts.items }
-    {
-        if self.tallies.has_originated(part, answer.node) {
-            self.see_offer(part, answer, happened)
-        } else {
-            Ok(())
-        }
-    }
-
-    /// Sees a source make a packet. Raw ones are always offered to an interface, others if a route
-    /// leads to another node.
+    /// Sees a source make a packet. What its node does not send is discarded.
     fn see_source(
         &mut self,
         topology: &Topology,
         part: &Part<HeapList>,
         source: SourceNo,
         now: Time,
-        happened: Happened,
+        happened: &Happened,
     ) -> Result<(), AllocError>
         requires there { source < length topology.now.sources }
         ensures { OnOk result (sent_numbers self.new.flows.counts.items
@@ -345,65 +293,40 @@ impl Watched {
         if let Some(courses) = &mut self.courses {
             courses.begin(&tag)?;
         }
-        let is_raw = matches!(from.traffic, Traffic::Raw(_));
-        if is_raw || self.tallies.has_originated(part, from.node) {
-            let offer = Offer {
-                node: from.node,
-                tag,
-                now,
+        let node = from.node;
+        if let Offering::Nothing = happened.offering {
+            self.flows.end(&tag, PacketOutcome::Discarded);
+            let end = End {
+                outcome: PacketOutcome::Discarded,
+                reason: Reason::Counted(self.refusals.reason(part, node)),
+                place: EndPlace::Node(node),
+                time: now,
             };
-            return self.see_offer(part, offer, happened);
+            return self.end(&tag, end);
         }
-        self.flows.end(&tag, PacketOutcome::Discarded);
-        let end = End {
-            outcome: PacketOutcome::Discarded,
-            reason: Reason::Counted(self.tallies.refusal(part, from.node)),
-            place: EndPlace::Node(from.node),
-            time: now,
-        };
-        self.end(&tag, end)
+        self.see_offer(Offer { node, tag, now }, happened.offering)
     }
 
-    /// Sees a packet offered to an interface of a node: it starts, waits, or is dropped.
-    fn see_offer(
-        &mut self,
-        part: &Part<HeapList>,
-        offer: Offer,
-        happened: Happened,
-    ) -> Result<(), AllocError>
+    /// Sees what becomes of a packet that a node sends: it starts, waits, or is dropped.
+    fn see_offer(&mut self, offer: Offer, offering: Offering) -> Result<(), AllocError>
         ensures { sent_numbers self.new.flows.counts.items ≡ sent_numbers self.old.flows.counts.items }
     {
-        match happened {
-            Happened::Started(iface) => self.see_start(part, offer, iface),
-            Happened::Waits(iface) => {
-                self.guesses.note(offer.node, &offer.tag, iface);
-                match self.lanes.get_mut(iface.index()) {
-                    Some(lane) => lane.wait(offer.tag),
-                    None => Ok(()),
-                }
-            }
-            Happened::Dropped(iface) => {
-                self.guesses.note(offer.node, &offer.tag, iface);
-                self.see_drop(&offer.tag, EndPlace::Iface(iface), offer.now)
-            }
-            Happened::Nothing => {
-                self.see_drop(&offer.tag, EndPlace::Node(offer.node), offer.now)
-            }
+        match offering {
+            Offering::Started(iface) => self.see_start(offer, iface),
+            Offering::Waits(iface) => match self.lanes.get_mut(iface.index()) {
+                Some(lane) => lane.wait(offer.tag),
+                None => Ok(()),
+            },
+            Offering::Dropped(iface) => self.see_drop(&offer.tag, iface, offer.now),
+            Offering::Nothing => Ok(()),
         }
     }
 
     /// Sees the transmission of a packet start that was offered to this interface.
-    fn see_start(
-        &mut self,
-        part: &Part<HeapList>,
-        offer: Offer,
-        iface: IfaceNo,
-    ) -> Result<(), AllocError>
+    fn see_start(&mut self, offer: Offer, iface: IfaceNo) -> Result<(), AllocError>
         ensures { self.new.flows ≡ self.old.flows }
     {
-        if let Some(record) = start_in(part) {
-            self.pass(&offer.tag, hop_of(record))?;
-        }
+        self.pass(&offer.tag, hop(iface, Dir::Out, offer.now))?;
         match self.lanes.get_mut(iface.index()) {
             Some(lane) => lane.send(offer.tag),
             None => Ok(()),
@@ -411,14 +334,14 @@ impl Watched {
     }
 
     /// Sees a packet dropped at a queue.
-    fn see_drop(&mut self, tag: &Tag, place: EndPlace, now: Time) -> Result<(), AllocError>
+    fn see_drop(&mut self, tag: &Tag, iface: IfaceNo, now: Time) -> Result<(), AllocError>
         ensures { sent_numbers self.new.flows.counts.items ≡ sent_numbers self.old.flows.counts.items }
     {
         self.flows.end(tag, PacketOutcome::Dropped);
         let end = End {
             outcome: PacketOutcome::Dropped,
             reason: Reason::NoRoom,
-            place,
+            place: EndPlace::Iface(iface),
             time: now,
         };
         self.end(tag, end)

@@ -26,6 +26,7 @@ mod Certifying
 mod CertifyFaults
 mod SameKnowledge
 mod Orders
+mod Untagging
 mod TwoHosts
 mod NeverFalling
 mod Queues

@@ -3,6 +3,7 @@ pub mod EventList
 pub mod Port
 pub mod Network
 pub mod Run
+pub mod Offers
 pub mod Knowledge
 pub mod Accept
 pub mod Join
@@ -12,6 +13,7 @@ pub mod Replica
 pub mod Promise
 pub mod Before
 pub mod Trace
+pub mod Tags
 pub mod World
 pub mod WorldLaws
 pub mod StepLaws

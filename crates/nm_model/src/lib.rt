@@ -8,6 +8,7 @@
 pub mod certificate;
 pub mod example;
 pub mod knowledge;
+pub mod offering;
 pub mod orderly;
 pub mod port;
 pub mod promise;
@@ -15,5 +16,8 @@ pub mod replica;
 pub mod rounds;
 pub mod run;
 pub mod steps;
+pub mod tags;
 pub mod trace;
 pub mod world;
+
+pub use offering::Offering;

@@ -23,6 +23,7 @@ use Rattle.nm_sim.specs.Effects.{IsBusy, Does, Done, IsEffect, Reacts, Sends, Tr
 use Rattle.nm_iface.specs.PortValue.{PortValue, takes, with_port}
 use Rattle.nm_iface.specs.Offers.{IsTransmission, transmitted_packet}
 use Rattle.nm_sim.proofs.Sendings.{transmission_of_at, transmits_here}
+use Rattle.nm_sim.specs.declared.sending.Sending.{Sending}
 use Rattle.nm_sim.specs.Tables.{IsMember}
 use Rattle.nm_sim.proofs.Tables.{at_there}
 use Rattle.nm_sim.proofs.Represents.{port_after, port_turned, same_done, set_same}
@@ -56,7 +57,7 @@ follows_at net nodes ports time number P (Delivery (Source j) x) p =
 follows_at net nodes ports time number P (Completion i) p = tt
 
 module _ (t : TopologyValue) (states : DeviceStates) (time v : ℕ) (o : Origin) (x : List ℕ) (d e : DevicesValue)
-    (sent : Option (ℕ × List ℕ)) (sending : Option (ℕ × Start)) (r : Reacts t states v (o, x) d sent)
+    (sent : Option (ℕ × List ℕ)) (sending : Sending) (r : Reacts t states v (o, x) d sent)
     (s : Sends t (states_reacted t states v (o, x)) time sent e sending) (came : Option (ℕ × List ℕ)) (follows : Option (ℕ × ℕ × List ℕ)) where
   abbrev effect_is : Effect (List ℕ) NodeStateValue
   effect_is = sent_on (net_of t) states.port time came (reaction t v (states.node v) o x).0 (reaction t v (states.node v) o x).1 follows
@@ -68,7 +69,7 @@ module _ (t : TopologyValue) (states : DeviceStates) (time v : ℕ) (o : Origin)
       (subst (λ z. DevicesRepresent t (record states { node = set_at states.node v (reaction t v (states.node v) o x).0; port = turned states.port (sent_on (net_of t) states.port time came (reaction t v (states.node v) o x).0 z follows).turn }) e)
       r.sends (s.represented (reaction t v (states.node v) o x).0 came follows))
 
-  reacted_does : (done : Done) → done.came ≡ came → done.transmission ≡ sending → done.follows ≡ follows → IsEffect t states.part time done effect_is
+  reacted_does : (done : Done) → done.came ≡ came → done.transmission ≡ sending.start → done.follows ≡ follows → IsEffect t states.part time done effect_is
   reacted_does done a b c = record {
     came = a ∙ sym (came_is (net_of t) states.port time came (reaction t v (states.node v) o x).0 follows (reaction t v (states.node v) o x).1);
     transmission = ap transmission_of b ∙ s.transmission (reaction t v (states.node v) o x).0 came follows
@@ -79,9 +80,9 @@ module _ (t : TopologyValue) (states : DeviceStates) (time v : ℕ) (o : Origin)
 
 -- a packet arrived at interface i of node v
 pub arrives_by : (t : TopologyValue) (states : DeviceStates) (time v i number : ℕ) (x : List ℕ) (d e : DevicesValue)
-    (sent : Option (ℕ × List ℕ)) (sending : Option (ℕ × Start)) (done : Done) → (net_of t).owner i ≡ v
+    (sent : Option (ℕ × List ℕ)) (sending : Sending) (done : Done) → (net_of t).owner i ≡ v
     → Reacts t states v (Arrival i, x) d sent → Sends t (states_reacted t states v (Arrival i, x)) time sent e sending
-    → done.came ≡ Some (i, x) → done.transmission ≡ sending → done.follows ≡ None → Does t states (keyed time number (Delivery (Arrival i) x)) e done
+    → done.came ≡ Some (i, x) → done.transmission ≡ sending.start → done.follows ≡ None → Does t states (keyed time number (Delivery (Arrival i) x)) e done
 unfolding net_of
 arrives_by t states time v i number x d e sent sending done owner r s a b c =
     subst (λ w. Reacts t states w (Arrival i, x) d sent → Sends t (states_reacted t states w (Arrival i, x)) time sent e sending
@@ -93,9 +94,9 @@ arrives_by t states time v i number x d e sent sending done owner r s a b c =
 
 -- source j of node v handed a packet over
 pub fires_by : (t : TopologyValue) (states : DeviceStates) (time v j number : ℕ) (x : List ℕ) (d e : DevicesValue)
-    (sent : Option (ℕ × List ℕ)) (sending : Option (ℕ × Start)) (done : Done) → (net_of t).source_node j ≡ v
+    (sent : Option (ℕ × List ℕ)) (sending : Sending) (done : Done) → (net_of t).source_node j ≡ v
     → Reacts t states v (Source j, x) d sent → Sends t (states_reacted t states v (Source j, x)) time sent e sending
-    → done.came ≡ None → done.transmission ≡ sending → done.follows ≡ by_source j (source_at t j (suc number)) → Does t states (keyed time number (Delivery (Source j) x)) e done
+    → done.came ≡ None → done.transmission ≡ sending.start → done.follows ≡ by_source j (source_at t j (suc number)) → Does t states (keyed time number (Delivery (Source j) x)) e done
 unfolding net_of
 fires_by t states time v j number x d e sent sending done owner r s a b c =
     subst (λ w. Reacts t states w (Source j, x) d sent → Sends t (states_reacted t states w (Source j, x)) time sent e sending

@@ -4,6 +4,7 @@ use Rattle.std.proofs.lemmas.Bool.Decides.{nat_tests}
 use Rattle.nm_topology.specs.PartValues.{IfaceValue}
 use Rattle.nm_topology.specs.TopologyValue.{TopologyValue}
 use Rattle.nm_model.specs.Lists.{set_at}
+use Rattle.nm_model.specs.Offers.{offering_at}
 use Rattle.nm_model.specs.Port.{Busy, Port, idle_port, offered, completed, next_transmitting}
 use Rattle.nm_forward.specs.State.{NodeStateValue, table_of}
 use Rattle.nm_traffic.specs.Source.{source_of}
@@ -60,6 +61,11 @@ module _ (t : TopologyValue) (i : ℕ) (w : PortValue) (P : Port (List ℕ)) (is
   same_offer x = subst (λ a. IsSameTurn a (offered (has_room (queue_of t i)) (takes (far_of t i).rate) now x P.dropped P.busy))
       (sym (λ k. offered (has_room (is.limit k)) (takes (is.rate k)) now x (is.dropped k) (is.busy k)))
       (offered_counted (has_room (queue_of t i)) (takes (far_of t i).rate) now x P.dropped P.busy)
+
+  -- and it becomes the same of a packet
+  pub same_offering : (x : List ℕ) → offering_at (has_room w.limit) i x w.busy ≡ offering_at ((net_of t).room i) i x P.busy
+  unfolding net_of
+  same_offering x = λ k. offering_at (has_room (is.limit k)) i x (is.busy k)
 
   -- and go on alike
   pub same_done : IsSameTurn (completed (takes w.rate) now w.dropped w.busy) (completed ((net_of t).tx i) now P.dropped P.busy)

@@ -76,3 +76,8 @@ pub here_set : {X : Type 0} (here : ℕ → Bool) (P Q : ℕ → X → Type 0) (
 here_set here P Q xs k x all f e q = all_set (λ i o. IsThere (here i) (Q i) o) xs k (Some x)
     (λ i o h g. weaker (P i) (Q i) (here i) o (λ y p. f i y h p) (all i o g))
     (there (Q k) (here k) x e q)
+
+-- what is not some member is none
+pub not_member : {X : Type 0} (o : Option X) → ((x : X) → o ≢ Some x) → IsMember (Some o) → ⊥
+not_member None h m = m
+not_member (Some x) h m = h x refl

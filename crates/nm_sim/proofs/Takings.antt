@@ -1,7 +1,9 @@
 -- An event is taken out of a part, and goes on.
 use Rattle.std.specs.declared.alloc.AllocError.{AllocError}
-use Rattle.std.specs.Result.{OnErr, OnOk}
-use Rattle.std.proofs.Common.{Result, Ok, Err, ◌+◌, ◌≤◌, ◌^◌, ◌≡◌, ◌≢◌, ℕ, suc, ◌<◌, ◌++◌, List, [], Option, Some, None, refl, sym, ap, ◌∙◌, subst, arith, append-nil}
+use Rattle.std.specs.Result.{IfOk, OnErr, OnOk}
+use Rattle.std.specs.Bool.{if◌then◌else◌}
+use Rattle.nm_forward.specs.declared.counter.Counter.{Counter}
+use Rattle.std.proofs.Common.{Bool, true, false, true≢false, Result, Ok, Err, ◌+◌, ◌≤◌, ◌^◌, ◌≡◌, ◌≢◌, ℕ, suc, ◌<◌, ◌++◌, List, [], Option, Some, None, refl, sym, ap, ◌∙◌, subst, arith, append-nil}
 use Rattle.std.specs.FinMap.{FinMap, get, remove}
 use Rattle.nm_base.specs.declared.event.Event.{Event}
 use Rattle.nm_base.specs.declared.event.Event.TheVariants.{Delivery}
@@ -13,6 +15,7 @@ use Rattle.nm_base.specs.Key.{key_cmp, key_of}
 use Rattle.nm_topology.specs.TopologyValue.{TopologyValue}
 use Rattle.nm_model.specs.EventList.{least, schedule}
 use Rattle.nm_model.specs.Lists.{nth}
+use Rattle.nm_model.specs.Offers.{offering_in, offering_of}
 use Rattle.nm_model.specs.Run.{Effect, State, by_source, effect, in_record, keyed, made, next_events, transmission_events}
 use Rattle.nm_forward.specs.State.{NodeStateValue}
 use Rattle.nm_forward.specs.Reaction.{reaction}
@@ -24,7 +27,12 @@ use Rattle.nm_sim.specs.Network.{net_of}
 use Rattle.nm_sim.specs.Outgoing.{OutgoingRepresents}
 use Rattle.nm_sim.specs.Records.{RecordsRepresent, RecordsValue}
 use Rattle.nm_base.specs.declared.record.Record.{Record}
-use Rattle.nm_sim.specs.Part.{Doing, HasMemory, HasReacted, IsReady, IsUnderWay, PartValue, Performed, Represents, RepresentsNext, IsTaken, states_in, to_do}
+use Rattle.nm_sim.specs.Devices.{DevicesValue}
+use Rattle.nm_sim.specs.Told.{Happens, HappensNext, octets_of_start, started_octets}
+use Rattle.nm_sim.specs.declared.sending.Sending.{Sending}
+use Rattle.nm_sim.specs.declared.told.Happened.{Happened}
+use Rattle.nm_sim.specs.declared.told.Started.{Started}
+use Rattle.nm_sim.specs.Part.{Doing, HasHappened, HasMemory, HasReacted, IsReady, IsUnderWay, PartValue, Performed, Represents, RepresentsNext, IsTaken, states_in, to_do}
 use Rattle.nm_sim.specs.Timelines.{AreFresh, TimelineValue, everywhere}
 use Rattle.nm_sim.proofs.Beginnings.{numbered_same}
 use Rattle.nm_sim.proofs.Kept.{Kept}
@@ -131,6 +139,19 @@ fires_next t s time j number x =
     let v = (net_of t).source_node j in
     sym (follows_is (net_of t) s.port time None (reaction t v (s.node v) (Source j) x).0 (by_source j (source_at t j (suc number))) (reaction t v (s.node v) (Source j) x).1)
 
+-- what a node sends is what its reaction sends
+arrives_offering : (t : TopologyValue) (s : State (List ℕ) NodeStateValue) (i : ℕ) (x : List ℕ) (sent : Option (ℕ × List ℕ))
+    → sent ≡ (reaction t ((net_of t).owner i) (s.node ((net_of t).owner i)) (Arrival i) x).1
+    → offering_of (net_of t) s.port sent ≡ offering_in (net_of t) s.node s.port (Delivery (Arrival i) x)
+unfolding net_of
+arrives_offering t s i x sent is = ap (offering_of (net_of t) s.port) is
+
+fires_offering : (t : TopologyValue) (s : State (List ℕ) NodeStateValue) (j : ℕ) (x : List ℕ) (sent : Option (ℕ × List ℕ))
+    → sent ≡ (reaction t ((net_of t).source_node j) (s.node ((net_of t).source_node j)) (Source j) x).1
+    → offering_of (net_of t) s.port sent ≡ offering_in (net_of t) s.node s.port (Delivery (Source j) x)
+unfolding net_of
+fires_offering t s j x sent is = ap (offering_of (net_of t) s.port) is
+
 module _ {L : Type 0} (pending : L → FinMap key_cmp (Event (List ℕ))) (t : TopologyValue) (part : Option ℕ) (time number : ℕ) (p q : PartValue L) (kept : Kept p q)
     (s : State (List ℕ) NodeStateValue) (x : List ℕ) (r : Reaction) where
   -- a packet arrived, and its node reacted
@@ -147,7 +168,8 @@ module _ {L : Type 0} (pending : L → FinMap key_cmp (Event (List ℕ))) (t : T
         taken = taken_came pending t part (keyed time number (Delivery (Arrival i) x)) p q kept s ready.taken (Some (i, x)) events records;
         is_sent = with_this.1;
         represented = reacts.represented;
-        does = λ d start o. arrives_by t (states_in part s) time ((net_of t).owner i) i number x q.devices d with_this.0 start _ refl reacts o refl refl refl;
+        does = λ d sending o. arrives_by t (states_in part s) time ((net_of t).owner i) i number x q.devices d with_this.0 sending _ refl reacts o refl refl refl;
+        offers = arrives_offering t s i x with_this.0 reacts.sends;
       }
 
   -- a source handed a packet over, and its node reacted
@@ -165,16 +187,41 @@ module _ {L : Type 0} (pending : L → FinMap key_cmp (Event (List ℕ))) (t : T
         taken = taken_follows pending t part (keyed time number (Delivery (Source j) x)) p q kept s ready.taken (by_source j follows) events records;
         is_sent = with_this.1;
         represented = reacts.represented;
-        does = λ d start o. fires_by t (states_in part s) time ((net_of t).source_node j) j number x q.devices d with_this.0 start _ refl reacts o refl refl (ap (by_source j) next);
+        does = λ d sending o. fires_by t (states_in part s) time ((net_of t).source_node j) j number x q.devices d with_this.0 sending _ refl reacts o refl refl (ap (by_source j) next);
+        offers = fires_offering t s j x with_this.0 reacts.sends;
       }
 
 -- and what it sends was offered to a port
-pub sends_on : {L : Type 0} (pending : L → FinMap key_cmp (Event (List ℕ))) (t : TopologyValue) (time : ℕ) (r : Reaction) (start : Option (ℕ × Start)) (doing : Doing) (p q : PartValue L) → Kept p q
-    → (h : HasReacted pending t time r doing p) → Sends t (record (states_in doing.part doing.state) { node = h.node }) time h.sent q.devices start
-    → pending q.timeline.events ≡ pending p.timeline.events → q.records ≡ p.records → IsUnderWay pending t time start doing q
-sends_on pending t time r start doing p q kept h o events records = record {
+pub sends_on : {L : Type 0} (pending : L → FinMap key_cmp (Event (List ℕ))) (t : TopologyValue) (time : ℕ) (r : Reaction) (sending : Sending) (doing : Doing) (p q : PartValue L) → Kept p q
+    → (h : HasReacted pending t time r doing p) → Sends t (record (states_in doing.part doing.state) { node = h.node }) time h.sent q.devices sending
+    → pending q.timeline.events ≡ pending p.timeline.events → q.records ≡ p.records → IsUnderWay pending t time sending.start doing q
+sends_on pending t time r sending doing p q kept h o events records = record {
   taken = taken_same pending t time doing p q kept h.taken events records;
-  does = h.does q.devices start o;
+  does = h.does q.devices sending o;
+}
+
+-- the counter of an arrival is told if its record is not kept
+pub is_told : (b : Bool) (k : Counter) → b ≡ false → Some k ≡ (if b then None else Some k)
+is_told true k e = absurd (true≢false e)
+is_told false k e = refl
+
+pub is_untold : (b : Bool) (k : Counter) → b ≡ true → None ≡ (if b then None else Some k)
+is_untold true k e = refl
+is_untold false k e = absurd (true≢false (sym e))
+
+pub octets_are : (start : Option (ℕ × Start)) → octets_of_start start ≡ started_octets (transmission_of start)
+octets_are None = refl
+octets_are (Some s) = refl
+
+-- and this has happened
+pub has_happened : {L : Type 0} (pending : L → FinMap key_cmp (Event (List ℕ))) (t : TopologyValue) (time : ℕ) (r : Reaction) (sending : Sending) (doing : Doing) (p : PartValue L) (d : DevicesValue)
+    → (h : HasReacted pending t time r doing p) → Sends t (record (states_in doing.part doing.state) { node = h.node }) time h.sent d sending
+    → (started : Option Started) → started ≡ octets_of_start sending.start
+    → HasHappened t time doing (record { arrived = None; offering = sending.offering; started = started })
+has_happened pending t time r sending doing p d h o started is = record {
+  arrived = refl;
+  offering = o.offered ∙ h.offers;
+  started = is ∙ octets_are sending.start ∙ ap started_octets (h.does d sending o).does.transmission;
 }
 
 -- the event of the least key comes before the end
@@ -204,19 +251,27 @@ memory_at room_of p after memory more = record { ports = memory.ports; room = le
 
 module _ {L : Type 0} (pending : L → FinMap key_cmp (Event (List ℕ))) (t : TopologyValue) (entry : Key × Event (List ℕ)) (p q new : PartValue L)
     (ready : (part : Option ℕ) (s : State (List ℕ) NodeStateValue) → Represents pending t part p s → IsReady pending t part entry q s) where
-  pub performed_ok : (r : Result Unit AllocError) → Performed pending t entry q new r
+  pub performed_ok : (r : Result Happened AllocError) → Performed pending t entry q new r
       → OnOk r ((part : Option ℕ) (s : State (List ℕ) NodeStateValue) → Represents pending t part p s → RepresentsNext pending t part new s)
-  performed_ok (Ok u) h = λ part s z. h.0 part s (ready part s z)
+  performed_ok (Ok u) h = λ part s z. (h.0 part s (ready part s z)).0
   performed_ok (Err x) h = tt
 
-  pub performed_err : (r : Result Unit AllocError) → Performed pending t entry q new r
+  -- what happened is what is said
+  pub performed_told : (r : Result Happened AllocError) → Performed pending t entry q new r → entry ≡ keyed entry.0.time entry.0.number entry.1
+      → IfOk r (λ h. (part : Option ℕ) (s : State (List ℕ) NodeStateValue) → Represents pending t part p s → HappensNext t q.records.keeping.wanted s h)
+  performed_told (Ok u) h is = λ part s z e first.
+      let same : entry ≡ e = is ∙ some_inj (keyed entry.0.time entry.0.number entry.1) e (sym (ready part s z).taken.first ∙ first) in
+      subst (λ y. Happens t q.records.keeping.wanted s y u) same (h.0 part s (ready part s z)).1
+  performed_told (Err x) h is = tt
+
+  pub performed_err : (r : Result Happened AllocError) → Performed pending t entry q new r
       → OnErr r ((part : Option ℕ) (s : State (List ℕ) NodeStateValue) → Represents pending t part p s → Represents pending t part new s)
   performed_err (Ok u) h = tt
   performed_err (Err x) h = λ part s z. h.0 part s (ready part s z)
 
 -- how many events were done, and that no record was handed out
 pub performed_one : {L : Type 0} (pending : L → FinMap key_cmp (Event (List ℕ))) (t : TopologyValue) (entry : Key × Event (List ℕ)) (q new : PartValue L)
-    (r : Result Unit AllocError) → Performed pending t entry q new r
+    (r : Result Happened AllocError) → Performed pending t entry q new r
     → OnOk r (new.steps ≡ q.steps + 1) × OnErr r (new.steps ≡ q.steps) × (new.records.keeping ≡ q.records.keeping)
 performed_one pending t entry q new (Ok u) h = (h.1, tt, h.2)
 performed_one pending t entry q new (Err x) h = (tt, h.1, h.2)

@@ -12,6 +12,7 @@ use Rattle.nm_base.specs.declared.event.Origin.TheVariants.{Arrival, Source}
 use Rattle.nm_topology.specs.TopologyValue.{TopologyValue}
 use Rattle.nm_model.specs.Lists.{set_at}
 use Rattle.nm_model.specs.Network.{node_of}
+use Rattle.nm_model.specs.Offers.{offering_of}
 use Rattle.nm_model.specs.Run.{Effect, effect, sent_on, turned}
 use Rattle.nm_forward.specs.State.{NodeStateValue}
 use Rattle.nm_forward.specs.declared.reaction.Reaction.{Reaction}
@@ -24,6 +25,7 @@ use Rattle.nm_base.specs.Wanted.{is_wanted}
 use Rattle.nm_base.specs.declared.wanted.Wanted.{Wanted}
 use Rattle.nm_sim.specs.Devices.{DeviceStates, DevicesValue, DevicesRepresent}
 use Rattle.nm_sim.specs.Network.{IsIfaceHere, far_of, net_of}
+use Rattle.nm_sim.specs.declared.sending.Sending.{Sending}
 
 -- the place is one of the topology's
 abbrev pub IsPlaceIn : TopologyValue → Place → Type 0
@@ -101,7 +103,7 @@ pub record Does (t : TopologyValue) (states : DeviceStates) (entry : Key × Even
 
 -- after a node has sent this, or nothing
 pub record Sends (t : TopologyValue) (states : DeviceStates) (time : ℕ)
-    (sent : Option (ℕ × List ℕ)) (d : DevicesValue) (sending : Option (ℕ × Start)) : Type 0 where
+    (sent : Option (ℕ × List ℕ)) (d : DevicesValue) (sending : Sending) : Type 0 where
   pub represented : (n : NodeStateValue) (came : Option (ℕ × List ℕ))
       (follows : Option (ℕ × ℕ × List ℕ))
       → DevicesRepresent t (record states {
@@ -110,9 +112,10 @@ pub record Sends (t : TopologyValue) (states : DeviceStates) (time : ℕ)
       }) d
   pub transmission : (n : NodeStateValue) (came : Option (ℕ × List ℕ))
       (follows : Option (ℕ × ℕ × List ℕ))
-      → transmission_of sending
+      → transmission_of sending.start
       ≡ (sent_on (net_of t) states.port time came n sent follows).transmission
-  pub transmits : IfSome sending (TransmitsAt t states.part time)
+  pub transmits : IfSome sending.start (TransmitsAt t states.part time)
+  pub offered : sending.offering ≡ offering_of (net_of t) states.port sent
 
 -- what node v does with its input: where a packet came from, and the packet
 abbrev pub reaction_in : TopologyValue → DeviceStates → ℕ → Origin × List ℕ

@@ -6,6 +6,7 @@ pub mod Effects
 pub mod Outgoing
 pub mod Totals
 pub mod Records
+pub mod Told
 pub mod Part
 pub mod Trace
 pub mod Tracing

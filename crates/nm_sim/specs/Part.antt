@@ -15,7 +15,8 @@ use Rattle.nm_topology.specs.TopologyValue.{TopologyValue}
 use Rattle.nm_model.specs.EventList.{least, schedule}
 use Rattle.nm_model.specs.Orderly.{IsOrderly}
 use Rattle.nm_model.specs.Port.{Busy, waiting_of}
-use Rattle.nm_model.specs.Run.{State, in_record, keyed, next_events, pends_before, step}
+use Rattle.nm_model.specs.Offers.{offering_in, offering_of}
+use Rattle.nm_model.specs.Run.{State, effect, in_record, keyed, next_events, pends_before, step}
 use Rattle.nm_forward.specs.declared.counter.Counter.{Counter}
 use Rattle.nm_forward.specs.Counter.{counter_number}
 use Rattle.nm_forward.specs.State.{NodeStateValue}
@@ -29,6 +30,10 @@ use Rattle.nm_sim.specs.Outgoing.{HaveSpare, OutgoingRepresents, OutgoingValue}
 use Rattle.nm_sim.specs.Records.{RecordsRepresent, RecordsValue}
 use Rattle.nm_sim.specs.Effects.{Does, Done, IsPlaceIn, Sends}
 use Rattle.nm_sim.specs.Tables.{AllSome}
+use Rattle.nm_sim.specs.Told.{Happens, HappensNext, started_octets}
+use Rattle.nm_sim.specs.declared.sending.Sending.{Sending}
+use Rattle.nm_sim.specs.declared.told.Happened.{Happened}
+use Rattle.nm_sim.specs.declared.told.Told.{Told}
 use Rattle.nm_base.specs.declared.limits.TheConstants.{MAX_TIME}
 use Rattle.nm_sim.specs.Timelines.{TimelineValue, TimelineRepresents, everywhere}
 
@@ -167,10 +172,20 @@ pub record HasReacted {L : Type 0} (pending : L → FinMap key_cmp (Event (List 
   pub represented : DevicesRepresent t (record (states_in doing.part doing.state) {
     node = node;
   }) p.devices
-  pub does : (d : DevicesValue) (start : Option (ℕ × Start))
-      → Sends t (record (states_in doing.part doing.state) { node = node }) time sent d start
+  pub does : (d : DevicesValue) (sending : Sending)
+      → Sends t (record (states_in doing.part doing.state) { node = node }) time sent d sending
       → Does t (states_in doing.part doing.state) (keyed time doing.number doing.event) d
-      (done_with doing start)
+      (done_with doing sending.start)
+  pub offers : offering_of (net_of t) doing.state.port sent
+      ≡ offering_in (net_of t) doing.state.node doing.state.port doing.event
+
+-- this happened in it, when its node sent what it did
+pub record HasHappened (t : TopologyValue) (time : ℕ) (doing : Doing) (h : Happened) : Type 0 where
+  pub arrived : h.arrived ≡ None
+  pub offering : h.offering
+      ≡ offering_in (net_of t) doing.state.node doing.state.port doing.event
+  pub started : h.started ≡ started_octets
+      (effect (net_of t) doing.state.node doing.state.port time doing.number doing.event).transmission
 
 -- it was done, but the transmission that starts with it, if one does, is not pending yet
 pub record IsUnderWay {L : Type 0} (pending : L → FinMap key_cmp (Event (List ℕ)))
@@ -182,10 +197,10 @@ pub record IsUnderWay {L : Type 0} (pending : L → FinMap key_cmp (Event (List 
 
 -- the result: it was done, or is back where it was
 abbrev pub Performed : {L : Type 0} → (L → FinMap key_cmp (Event (List ℕ))) → TopologyValue
-    → Key × Event (List ℕ) → PartValue L → PartValue L → Result Unit AllocError → Type 0
-Performed pending t entry old new (Ok u) =
+    → Key × Event (List ℕ) → PartValue L → PartValue L → Result Happened AllocError → Type 0
+Performed pending t entry old new (Ok h) =
     ((part : Option ℕ) (s : State (List ℕ) NodeStateValue) → IsReady pending t part entry old s
-    → RepresentsNext pending t part new s)
+    → RepresentsNext pending t part new s × Happens t old.records.keeping.wanted s entry h)
     × (new.steps ≡ old.steps + 1) × (new.records.keeping ≡ old.records.keeping)
 Performed pending t entry old new (Err x) =
     ((part : Option ℕ) (s : State (List ℕ) NodeStateValue) → IsReady pending t part entry old s
@@ -202,6 +217,21 @@ pub record RunUntil : Type 0 where
 abbrev pub is_event_due : RunUntil → Bool
 is_event_due run = pends_before run.until run.state
 
+-- the same as of `Stepped`, but for the key
+abbrev pub AdvancedAndTold : {L : Type 0} → (L → FinMap key_cmp (Event (List ℕ))) → TopologyValue
+    → RunUntil → PartValue L → PartValue L → Result (Option Happened) AllocError → Type 0
+AdvancedAndTold pending t run old new (Ok None) = (new ≡ old) × (is_event_due run ≡ false)
+AdvancedAndTold pending t run old new (Ok (Some h)) =
+    RepresentsNext pending t run.part new run.state × (is_event_due run ≡ true)
+    × HappensNext t old.records.keeping.wanted run.state h
+AdvancedAndTold pending t run old new (Err e) =
+    Represents pending t run.part new run.state × (is_event_due run ≡ true)
+
+abbrev pub events_happened : Result (Option Happened) AllocError → ℕ
+events_happened (Ok None) = 0
+events_happened (Ok (Some h)) = 1
+events_happened (Err e) = 0
+
 -- what a step answers, and what the part represents after it: memory was refused only if an event
 -- was due
 abbrev pub Stepped : {L : Type 0} → (L → FinMap key_cmp (Event (List ℕ))) → TopologyValue → RunUntil
@@ -217,6 +247,22 @@ abbrev pub events_done : Result (Option Key) AllocError → ℕ
 events_done (Ok None) = 0
 events_done (Ok (Some k)) = 1
 events_done (Err e) = 0
+
+-- the same with what happened in the event
+abbrev pub SteppedAndTold : {L : Type 0} → (L → FinMap key_cmp (Event (List ℕ))) → TopologyValue
+    → RunUntil → PartValue L → PartValue L → Result (Option Told) AllocError → Type 0
+SteppedAndTold pending t run old new (Ok None) = (new ≡ old) × (is_event_due run ≡ false)
+SteppedAndTold pending t run old new (Ok (Some k)) =
+    RepresentsNext pending t run.part new run.state × (is_event_due run ≡ true)
+    × (option_map (λ e. e.0) (least run.state.pending) ≡ Some k.key)
+    × HappensNext t old.records.keeping.wanted run.state k.happened
+SteppedAndTold pending t run old new (Err e) =
+    Represents pending t run.part new run.state × (is_event_due run ≡ true)
+
+abbrev pub events_told : Result (Option Told) AllocError → ℕ
+events_told (Ok None) = 0
+events_told (Ok (Some k)) = 1
+events_told (Err e) = 0
 
 -- how many events were done if the answer is only whether there was one
 abbrev pub events_counted : Result Bool AllocError → ℕ

@@ -9,7 +9,8 @@ ghost use Rattle.nm_base.specs.declared.event.Event.TheVariants.{Completion};
 ghost use Rattle.nm_model.specs.Network.{node_of};
 ghost use Rattle.nm_model.specs.Port.{idle_port, waiting_of};
 ghost use Rattle.nm_model.specs.Run.{keyed};
-ghost use Rattle.nm_forward.specs.State.{first_state};
+ghost use Rattle.nm_forward.specs.Row.{arrival_row, row_counter};
+ghost use Rattle.nm_forward.specs.State.{first_state, table_of};
 ghost use Rattle.nm_forward.specs.Reaction.{FitsOrigin};
 ghost use Rattle.nm_base.specs.Wanted.{is_wanted};
 ghost use Rattle.nm_forward.specs.Reacting.{IsSent, PassesNone, PassesUnwanted, iface_of};
@@ -29,10 +30,12 @@ ghost use Rattle.nm_sim.specs.Effects.{transmission_at as transmission_at_iface}
 
 use crate::fired::Fired;
 use crate::here::{is_iface_here, is_node_here, is_source_here, node_of_source};
+use crate::sending::Sending;
 use nm_base::{IfaceNo, NodeNo, Origin, Packet, PartNo, SourceNo, Time, Twin, Wanted};
 use nm_forward::laws::a_node_sends_by_its_own_interfaces;
-use nm_forward::{Counter, NodeState, Reaction, react, react_in_place};
+use nm_forward::{Counter, Handled, NodeState, Reaction, react, react_in_place};
 use nm_iface::{Port, Start};
+use nm_model::Offering;
 use nm_topology::Topology;
 use nm_topology::topology::accepted_topologies_are_in_order;
 use nm_traffic::{Source, SourcePacket};
@@ -335,15 +338,9 @@ impl Devices {
         Ok(())
     }
 
-    /// Offers what a node sends to its interface: the transmission that starts, and where, if one
-    /// does.
+    /// Offers what a node sends to its interface. Answers what becomes of it.
     #[inline(always)]
-    pub fn offer(
-        &mut self,
-        topology: &Topology,
-        time: Time,
-        reaction: Reaction,
-    ) -> Option<(IfaceNo, Start)>
+    pub fn offer(&mut self, topology: &Topology, time: Time, reaction: Reaction) -> Sending
         requires time { time ≤ MAX_TIME }
         requires own { IfSome (iface_of reaction) (λ i. IsMember (slice_get self.old.ports i)) }
         requires room { AllSome (λ i w. 1 ≤ w.room) self.old.ports }
@@ -352,21 +349,21 @@ impl Devices {
             → DevicesRepresent topology.now states self.old
             → IsSent self.old.ports reaction sent
             → Sends topology.now states time sent self.new result }
-        ensures copied { IfSome result (IsCopied self.old.wanted) }
+        ensures copied { IfSome result.start (IsCopied self.old.wanted) }
         ensures wanted { self.new.wanted ≡ self.old.wanted }
     {
         match reaction {
-            Reaction::Nothing => None,
+            Reaction::Nothing => Sending {
+                offering: Offering::Nothing,
+                start: None,
+            },
             Reaction::Send(iface, twin) => self.offer_packet(topology, time, iface, twin),
             Reaction::Pass(iface, packet) => self.offer_alone(topology, time, iface, packet),
-            Reaction::Refused(iface) => {
-                self.drop_at(topology, iface);
-                None
-            }
+            Reaction::Refused(iface) => self.drop_at(topology, iface),
         }
     }
 
-    /// Offers a packet to an interface: the transmission that starts, and where, if one does.
+    /// Offers a packet to an interface.
     #[inline(always)]
     fn offer_packet(
         &mut self,
@@ -374,22 +371,30 @@ impl Devices {
         time: Time,
         iface: IfaceNo,
         twin: Twin,
-    ) -> Option<(IfaceNo, Start)>
+    ) -> Sending
         requires time { time ≤ MAX_TIME }
         requires own { IsMember (slice_get self.old.ports iface) }
         requires room { AllSome (λ i w. 1 ≤ w.room) self.old.ports }
         ensures sends { (states : DeviceStates)
             → DevicesRepresent topology.now states self.old
             → Sends topology.now states time (Some (iface, twin.packet)) self.new result }
-        ensures copied { IfSome result (IsCopied self.old.wanted) }
+        ensures copied { IfSome result.start (IsCopied self.old.wanted) }
         ensures wanted { self.new.wanted ≡ self.old.wanted }
     {
         self.used = Some(iface);
         let Some(port) = &mut self.ports[iface.index()] else {
-            return None;
+            return Sending {
+                offering: Offering::Nothing,
+                start: None,
+            };
         };
-        let start = port.offer(time, twin).started();
-        transmission_at(iface, start)
+        let offered = port.offer(time, twin);
+        let offering = offered.offering(iface);
+        let start = offered.started();
+        Sending {
+            offering,
+            start: transmission_at(iface, start),
+        }
     }
 
     /// The same for a packet without a wanted record.
@@ -400,7 +405,7 @@ impl Devices {
         time: Time,
         iface: IfaceNo,
         packet: Packet,
-    ) -> Option<(IfaceNo, Start)>
+    ) -> Sending
         requires time { time ≤ MAX_TIME }
         requires own { IsMember (slice_get self.old.ports iface) }
         requires room { AllSome (λ i w. 1 ≤ w.room) self.old.ports }
@@ -408,31 +413,47 @@ impl Devices {
         ensures sends { (states : DeviceStates)
             → DevicesRepresent topology.now states self.old
             → Sends topology.now states time (Some (iface, packet)) self.new result }
-        ensures copied { IfSome result (IsCopied self.old.wanted) }
+        ensures copied { IfSome result.start (IsCopied self.old.wanted) }
         ensures wanted { self.new.wanted ≡ self.old.wanted }
     {
         self.used = Some(iface);
         let Some(port) = &mut self.ports[iface.index()] else {
-            return None;
+            return Sending {
+                offering: Offering::Nothing,
+                start: None,
+            };
         };
-        let start = port.offer_alone(time, packet);
-        transmission_at(iface, start)
+        let offered = port.offer_alone(time, packet);
+        let offering = offered.offering(iface);
+        let start = offered.started();
+        Sending {
+            offering,
+            start: transmission_at(iface, start),
+        }
     }
 
     /// A packet that the port of this interface would drop now is dropped.
     #[inline(always)]
-    fn drop_at(&mut self, topology: &Topology, iface: IfaceNo)
+    fn drop_at(&mut self, topology: &Topology, iface: IfaceNo) -> Sending
         requires { IsMember (slice_get self.old.ports iface) }
         ensures drops { (states : DeviceStates) (time : ℕ) (packet : List ℕ)
             → DevicesRepresent topology.now states self.old
             → IsRefusedAt self.old.ports iface packet
-            → Sends topology.now states time (Some (iface, packet)) self.new None }
+            → Sends topology.now states time (Some (iface, packet)) self.new result }
+        ensures none { result.start ≡ None }
         ensures wanted { self.new.wanted ≡ self.old.wanted }
     {
         let Some(port) = &mut self.ports[iface.index()] else {
-            return;
+            return Sending {
+                offering: Offering::Nothing,
+                start: None,
+            };
         };
         port.count_drop();
+        Sending {
+            offering: Offering::Dropped(iface),
+            start: None,
+        }
     }
 
     /// What a node does with a packet. An `Err` changes nothing.
@@ -517,7 +538,7 @@ impl Devices {
         node: NodeNo,
         iface: IfaceNo,
         packet: Packet,
-    ) -> Result<Reaction, Packet>
+    ) -> Result<Handled, Packet>
         // The node is here.
         requires node { IsMember (slice_get self.old.nodes node) }
         requires represented { DevicesRepresentSome topology.now self.old }
@@ -528,18 +549,25 @@ impl Devices {
         ensures ports { self.new.ports ≡ self.old.ports }
 
         // It reacts as its rules say, and sends by an interface that is here.
-        ensures passes { IfOk result (PassesUnwanted self.old.wanted) }
+        ensures passes { IfOk result (λ h. PassesUnwanted self.old.wanted h.reaction) }
         ensures wanted { self.new.wanted ≡ self.old.wanted }
         ensures own { IfOk result
-            (λ r. IfSome (iface_of r) (λ i. IsMember (slice_get self.new.ports i))) }
+            (λ h. IfSome (iface_of h.reaction) (λ i. IsMember (slice_get self.new.ports i))) }
         ensures reacts { (states : DeviceStates)
             → DevicesRepresent topology.now states self.old
             → IfOk result
-            (ReactsWith topology.now states node (Arrival iface, packet) self.new) }
+            (λ h. ReactsWith topology.now states node (Arrival iface, packet) self.new h.reaction) }
+        ensures counter { (states : DeviceStates)
+            → DevicesRepresent topology.now states self.old
+            → IfOk result (λ h. h.counter
+            ≡ row_counter (arrival_row (table_of topology.now node) packet)) }
     {
         a_node_sends_by_its_own_interfaces(topology); // law: what is sent leaves by an interface
         let Some(state) = &mut self.nodes[node.index()] else {
-            return Ok(Reaction::Nothing);
+            return Ok(Handled {
+                reaction: Reaction::Nothing,
+                counter: Counter::Header,
+            });
         };
         let ports = &self.ports[..];
         react_in_place(alloc, topology, ports, state, &self.wanted, iface, packet)
@@ -554,7 +582,7 @@ impl Devices {
         topology: &Topology,
         iface: IfaceNo,
         packet: Packet,
-    ) -> Result<Reaction, Packet>
+    ) -> Result<Handled, Packet>
         // The interface is here.
         requires place { IsMember (slice_get self.old.ports iface) }
         requires represented { DevicesRepresentSome topology.now self.old }
@@ -565,15 +593,19 @@ impl Devices {
         ensures ports { self.new.ports ≡ self.old.ports }
 
         // Its node reacts as its rules say, and sends by an interface that is here.
-        ensures passes { IfOk result (PassesUnwanted self.old.wanted) }
+        ensures passes { IfOk result (λ h. PassesUnwanted self.old.wanted h.reaction) }
         ensures wanted { self.new.wanted ≡ self.old.wanted }
         ensures own { IfOk result
-            (λ r. IfSome (iface_of r) (λ i. IsMember (slice_get self.new.ports i))) }
+            (λ h. IfSome (iface_of h.reaction) (λ i. IsMember (slice_get self.new.ports i))) }
         ensures reacts { (states : DeviceStates)
             → DevicesRepresent topology.now states self.old
             → IfOk result
-            (ReactsWith topology.now states ((net_of topology.now).owner iface)
-            (Arrival iface, packet) self.new) }
+            (λ h. ReactsWith topology.now states ((net_of topology.now).owner iface)
+            (Arrival iface, packet) self.new h.reaction) }
+        ensures counter { (states : DeviceStates)
+            → DevicesRepresent topology.now states self.old
+            → IfOk result (λ h. h.counter ≡ row_counter
+            (arrival_row (table_of topology.now ((net_of topology.now).owner iface)) packet)) }
     {
         accepted_topologies_are_in_order(topology); // law: an interface's node is there
         let node = topology.iface(iface).node();

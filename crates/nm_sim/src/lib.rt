@@ -11,11 +11,14 @@ pub mod network;
 mod outgoing;
 pub mod part;
 mod records;
+mod sending;
 mod timeline;
+pub mod told;
 pub mod trace;
 pub mod tracer;
 mod transmitted;
 
 pub use part::Part;
+pub use told::{Arrived, Happened, Started, Told};
 pub use trace::one_list;
 pub use tracer::Tracer;

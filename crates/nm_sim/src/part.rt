@@ -23,7 +23,9 @@ ghost use Rattle.nm_sim.specs.Effects.{IsCopied};
 ghost use Rattle.nm_sim.specs.Records.{cut};
 ghost use Rattle.nm_sim.specs.Network.{here_of, net_of};
 ghost use Rattle.nm_sim.specs.Outgoing.{HaveSpare};
-ghost use Rattle.nm_sim.specs.Part.{Advanced, Doing, HasMemory, HasReacted, IsReady, IsUnderWay};
+ghost use Rattle.nm_sim.specs.Part.{Advanced, AdvancedAndTold, Doing, HasHappened, HasMemory, HasReacted, IsReady, IsUnderWay};
+ghost use Rattle.nm_sim.specs.Part.{SteppedAndTold, events_happened, events_told};
+ghost use Rattle.nm_sim.specs.Told.{HappensNext};
 ghost use Rattle.nm_sim.specs.Part.{IsOfARun, IsOfARunIn, OfTheRun, OfTheRunIn};
 ghost use Rattle.nm_sim.specs.Part.{Performed, Represents, RepresentsNext, Stepped};
 ghost use Rattle.nm_sim.specs.Part.{busy_at, count_at, drops_at};
@@ -41,7 +43,9 @@ use crate::due::Due;
 use crate::network::{channels_are_those_of_the_network, every_topology_is_a_network};
 use crate::outgoing::Outgoing;
 use crate::records::Records;
+use crate::sending::Sending;
 use crate::timeline::Timeline;
+use crate::told::{Arrived, Happened, Told, octets_of_start};
 use nm_base::limits::MAX_PART_STEPS;
 use nm_base::{
     ChanNo, Event, IfaceNo, Key, NodeNo, Origin, Packet, PartNo, Record, SourceNo, Time, Wanted,
@@ -49,6 +53,7 @@ use nm_base::{
 use nm_events::EventList;
 use nm_forward::{Counter, NodeState, Reaction};
 use nm_iface::Start;
+use nm_model::Offering;
 use nm_model::orderly::{a_message_keeps_order, every_state_is_orderly, new_keys_are_new};
 use nm_topology::Topology;
 use nm_topology::topology::{
@@ -275,6 +280,66 @@ impl<L: EventList> Part<L> {
         }
     }
 
+    /// Does an event as `step` does, and says what happened in it.
+    ///
+    /// # Errors
+    ///
+    /// Those of `step`.
+    pub fn step_and_tell(
+        &mut self,
+        alloc: Global,
+        topology: &Topology,
+        before: Time,
+    ) -> Result<Option<Told>, AllocError>
+        requires before { before ≤ topology.now.stop }
+        requires represents { IsOfARunIn L.pending topology.now self.old }
+        ensures step { OfTheRunIn L.pending topology.now self.old
+            (λ part s. SteppedAndTold L.pending topology.now (record {
+              part = part;
+              state = s;
+              until = before;
+            }) self.old self.new result) }
+        ensures steps { self.new.steps ≡ self.old.steps + events_told result }
+        ensures keeping { self.new.records.keeping ≡ self.old.records.keeping }
+    {
+        let Some(key) = self.timeline.least() else {
+            return Ok(None);
+        };
+        match self.advance_and_tell(alloc, topology, before)? {
+            Some(happened) => Ok(Some(Told { key, happened })),
+            None => Ok(None),
+        }
+    }
+
+    /// Does an event as `step` does, and says what happened in it, if there was one.
+    #[inline(always)]
+    fn advance_and_tell(
+        &mut self,
+        alloc: Global,
+        topology: &Topology,
+        before: Time,
+    ) -> Result<Option<Happened>, AllocError>
+        requires before { before ≤ topology.now.stop }
+        requires represents { IsOfARunIn L.pending topology.now self.old }
+        ensures advance { OfTheRunIn L.pending topology.now self.old
+            (λ part s. AdvancedAndTold L.pending topology.now (record {
+              part = part;
+              state = s;
+              until = before;
+            }) self.old self.new result) }
+        ensures steps { self.new.steps ≡ self.old.steps + events_happened result }
+        ensures keeping { self.new.records.keeping ≡ self.old.records.keeping }
+    {
+        if !self.timeline.is_due(before) {
+            return Ok(None);
+        }
+        if self.steps == MAX_PART_STEPS {
+            return Err(AllocError);
+        }
+        self.reserve_event()?;
+        Ok(Some(self.perform(alloc, topology)?))
+    }
+
     /// Does an event as `step` does, and answers whether there was one.
     pub fn advance(
         &mut self,
@@ -293,15 +358,10 @@ impl<L: EventList> Part<L> {
         ensures steps { self.new.steps ≡ self.old.steps + events_counted result }
         ensures keeping { self.new.records.keeping ≡ self.old.records.keeping }
     {
-        if !self.timeline.is_due(before) {
-            return Ok(false);
+        match self.advance_and_tell(alloc, topology, before)? {
+            Some(_) => Ok(true),
+            None => Ok(false),
         }
-        if self.steps == MAX_PART_STEPS {
-            return Err(AllocError);
-        }
-        self.reserve_event()?;
-        self.perform(alloc, topology)?;
-        Ok(true)
     }
 
     /// Makes memory for all that one event may do. An `Err` changes nothing else.
@@ -497,7 +557,7 @@ impl<L: EventList> Part<L> {
     /// Does the event of the least key, for which there is memory. An `Err` leaves the event where
     /// it was.
     #[inline(always)]
-    fn perform(&mut self, alloc: Global, topology: &Topology) -> Result<(), AllocError>
+    fn perform(&mut self, alloc: Global, topology: &Topology) -> Result<Happened, AllocError>
         // An event is due, and there is memory for what it may do.
         requires least { (part : Option ℕ) × (s : State (List ℕ) NodeStateValue)
             × (e : EventKey × PendingEvent (List ℕ))
@@ -512,6 +572,10 @@ impl<L: EventList> Part<L> {
         ensures err { OnErr result (OfTheRunIn L.pending topology.now self.old
             (λ part s. Represents L.pending topology.now part self.new s)) }
 
+        // It says what happened.
+        ensures happened { IfOk result (λ h. OfTheRunIn L.pending topology.now self.old
+            (λ part s. HappensNext topology.now self.old.records.keeping.wanted s h)) }
+
         // It is counted.
         ensures one { OnOk result (self.new.steps ≡ self.old.steps + 1) }
         ensures none { OnErr result (self.new.steps ≡ self.old.steps) }
@@ -521,7 +585,11 @@ impl<L: EventList> Part<L> {
     {
         accepted_topologies_are_in_order(topology); // law: `stop` is within its limit
         let Some(entry) = self.timeline.take_least() else {
-            return Ok(());
+            return Ok(Happened {
+                arrived: None,
+                offering: Offering::Nothing,
+                started: None,
+            });
         };
         let (time, number, event) = entry;
         self.dispatch(alloc, topology, Due { time, number }, event)
@@ -535,7 +603,7 @@ impl<L: EventList> Part<L> {
         topology: &Topology,
         due: Due,
         event: Event,
-    ) -> Result<(), AllocError>
+    ) -> Result<Happened, AllocError>
         requires ready { (part : Option ℕ) × (s : State (List ℕ) NodeStateValue)
             × IsReady L.pending topology.now part (keyed due.time due.number event) self.old s }
         requires memory { HasMemory L.room self.old }
@@ -545,10 +613,7 @@ impl<L: EventList> Part<L> {
         accepted_topologies_are_in_order(topology); // law: the far end is there
         source_times_rise(topology); // law: packets have octets
         match event {
-            Event::Completion(iface) => {
-                self.complete(topology, due, iface);
-                Ok(())
-            }
+            Event::Completion(iface) => Ok(self.complete(topology, due, iface)),
             Event::Delivery(origin, packet) => match origin {
                 Origin::Arrival(iface) => self.arrive(alloc, topology, due, iface, packet),
                 Origin::Source(source) => self.fire(alloc, topology, due, source, packet),
@@ -565,7 +630,7 @@ impl<L: EventList> Part<L> {
         due: Due,
         iface: IfaceNo,
         packet: Packet,
-    ) -> Result<(), AllocError>
+    ) -> Result<Happened, AllocError>
         requires ready { (part : Option ℕ) × (s : State (List ℕ) NodeStateValue)
             × IsReady L.pending topology.now part
             (keyed due.time due.number (Delivery (Arrival iface) packet)) self.old s }
@@ -590,7 +655,7 @@ impl<L: EventList> Part<L> {
         due: Due,
         iface: IfaceNo,
         packet: Packet,
-    ) -> Result<(), AllocError>
+    ) -> Result<Happened, AllocError>
         requires unwanted { is_wanted self.old.records.keeping.wanted iface ≡ false }
         requires ready { (part : Option ℕ) × (s : State (List ℕ) NodeStateValue)
             × IsReady L.pending topology.now part
@@ -602,10 +667,18 @@ impl<L: EventList> Part<L> {
     {
         let octets = packet.octet_count() as u16;
         match self.devices.react_in_place(alloc, topology, iface, packet) {
-            Ok(reaction) => {
+            Ok(handled) => {
                 self.records.count_arrival(iface, octets);
-                self.send(topology, due.time, reaction);
-                Ok(())
+                let sent = self.send(topology, due.time, handled.reaction);
+                Ok(Happened {
+                    arrived: Some(Arrived {
+                        iface,
+                        octets,
+                        counter: Some(handled.counter),
+                    }),
+                    offering: sent.offering,
+                    started: sent.started,
+                })
             }
             Err(packet) => {
                 let event = Event::Delivery(Origin::Arrival(iface), packet);
@@ -624,7 +697,7 @@ impl<L: EventList> Part<L> {
         due: Due,
         iface: IfaceNo,
         packet: Packet,
-    ) -> Result<(), AllocError>
+    ) -> Result<Happened, AllocError>
         requires wanted { is_wanted self.old.records.keeping.wanted iface ≡ true }
         requires ready { (part : Option ℕ) × (s : State (List ℕ) NodeStateValue)
             × IsReady L.pending topology.now part
@@ -642,23 +715,38 @@ impl<L: EventList> Part<L> {
             self.timeline.put(due.time, due.number, event);
             return Err(AllocError);
         };
+        let octets = packet.octet_count() as u16;
         self.records.record_arrival(due.time, iface, packet);
-        self.send(topology, due.time, reaction);
-        Ok(())
+        let sent = self.send(topology, due.time, reaction);
+        Ok(Happened {
+            arrived: Some(Arrived {
+                iface,
+                octets,
+                counter: None,
+            }),
+            offering: sent.offering,
+            started: sent.started,
+        })
     }
 
     /// A transmission is complete.
     #[inline(always)]
-    fn complete(&mut self, topology: &Topology, due: Due, iface: IfaceNo)
+    fn complete(&mut self, topology: &Topology, due: Due, iface: IfaceNo) -> Happened
         requires ready { (part : Option ℕ) × (s : State (List ℕ) NodeStateValue)
             × IsReady L.pending topology.now part
             (keyed due.time due.number (Completion iface)) self.old s }
         requires memory { HasMemory L.room self.old }
         ensures { Performed L.pending topology.now
-            (keyed due.time due.number (Completion iface)) self.old self.new (Ok tt) }
+            (keyed due.time due.number (Completion iface)) self.old self.new (Ok result) }
     {
         let start = self.devices.complete(topology, due.time, iface);
+        let started = octets_of_start(&start);
         self.finish(topology, due.time, start);
+        Happened {
+            arrived: None,
+            offering: Offering::Nothing,
+            started,
+        }
     }
 
     /// A source makes a packet. An `Err` puts the event back.
@@ -670,7 +758,7 @@ impl<L: EventList> Part<L> {
         due: Due,
         source: SourceNo,
         packet: Packet,
-    ) -> Result<(), AllocError>
+    ) -> Result<Happened, AllocError>
         requires fits { FitsOrigin topology.now (FromSource source) packet }
         requires number { due.number < 2 ^ 63 }
         requires ready { (part : Option ℕ) × (s : State (List ℕ) NodeStateValue)
@@ -693,14 +781,13 @@ impl<L: EventList> Part<L> {
         };
         self.timeline
             .schedule_next(source, due.number, fired.follows);
-        self.send(topology, due.time, fired.reaction);
-        Ok(())
+        Ok(self.send(topology, due.time, fired.reaction))
     }
 
     /// The event that is under way is done: what its node sends is offered to a port, and a
     /// transmission starts, if one does.
     #[inline(always)]
-    fn send(&mut self, topology: &Topology, time: Time, reaction: Reaction)
+    fn send(&mut self, topology: &Topology, time: Time, reaction: Reaction) -> Happened
         // What the node sends leaves by an interface that is here, in time.
         requires time { time ≤ MAX_TIME }
         requires own { IfSome (iface_of reaction)
@@ -721,12 +808,24 @@ impl<L: EventList> Part<L> {
             → HasReacted L.pending topology.now time reaction doing self.old
             → RepresentsNext L.pending topology.now doing.part self.new doing.state }
 
+        // It says what happened.
+        ensures happened { (doing : Doing)
+            → HasReacted L.pending topology.now time reaction doing self.old
+            → HasHappened topology.now time doing result }
+
         // It is counted, and no record was handed out.
         ensures steps { self.new.steps ≡ self.old.steps + 1 }
         ensures keeping { self.new.records.keeping ≡ self.old.records.keeping }
     {
-        let start = self.devices.offer(topology, time, reaction);
+        let sending = self.devices.offer(topology, time, reaction);
+        let Sending { offering, start } = sending;
+        let started = octets_of_start(&start);
         self.finish(topology, time, start);
+        Happened {
+            arrived: None,
+            offering,
+            started,
+        }
     }
 
     /// The event that is under way is done, with the transmission that starts, if one does.

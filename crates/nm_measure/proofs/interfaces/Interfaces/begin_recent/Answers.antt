@@ -6,7 +6,6 @@ use Rattle.nm_measure.proofs.interfaces.Interfaces.begin_recent.Goals as goal
 pub loop-number-init : goal.loop-number-init
 loop-number-init c = record {
   within = omega arith;
-  own = refl;
   count = refl;
   each = λ i y e. (y, e, refl, (λ h. absurd (omega (arith, h))), λ h. refl);
 }
@@ -23,13 +22,12 @@ loop-number-preserved c =
     let here : n < length mid = omega (arith, low, count) in
     record {
       within = omega (arith, low);
-      own = m.own;
       count = length-set mid n (record { queue = c.begin_recent.new.self; usage = x.usage }) ∙ m.count;
       each = begun_more old mid n x c.begin_recent.new.self here (read_at mid n n x refl here c.index_mut.ensures.value) c.begin_recent.ensures m.each;
     }
 
-pub returns-clause-seen : goal.returns-clause-seen
-returns-clause-seen c = λ t first n h.
+pub returns : goal.returns
+returns c = λ t first n h.
     let old = c.args.self.now.all.items in
     let new = c.loop-number.self.all.items in
     let m = c.loop-number.invariant in

@@ -5,7 +5,6 @@ use Rattle.nm_measure.proofs.interfaces.Interfaces.begin_recent.Given as goal
 abbrev pub invariant-loop-number : goal.invariant-loop-number
 invariant-loop-number l = record {
   within : l.number ≤ length l.fn.self.all.items;
-  own : l.self.own ≡ l.fn.self.own;
   count : length l.self.all.items ≡ length l.fn.self.all.items;
   each : AreBegun l.fn.self.all.items l.self.all.items l.number;
 }

@@ -1,28 +1,44 @@
-use Rattle.std.proofs.Common.{◌^◌, ◌<◌, ℕ, suc, length, sym, ap, ◌∙◌, subst, arith}
-use Rattle.std.specs.Option.{option_map}
+use Rattle.std.proofs.Common.{◌≡◌, ◌^◌, ◌<◌, ℕ, suc, Some, None, length, max, sym, ap, ◌∙◌, subst, arith}
 use Rattle.nm_model.specs.Run.{one_list}
 use Rattle.nm_sim.specs.Network.{net_of}
-use Rattle.nm_measure.specs.Interfaces.{HasStarted, OneChanges, queue_in}
-use Rattle.nm_measure.proofs.Watching.{none_starts, one_starts, seen_started}
+use Rattle.nm_base.specs.declared.wanted.Wanted.TheVariants.{Nothing}
+use Rattle.nm_measure.specs.Interfaces.{HasStarted, IsTurn, OneChanges, StartsNone, queue_in}
+use Rattle.nm_measure.proofs.Telling.{none_went, one_went}
+use Rattle.nm_measure.proofs.Turned.{turn_told}
+use Rattle.nm_measure.proofs.Turns.{event_only}
+use Rattle.nm_measure.proofs.Watching.{seen_same, seen_started, seen_turned}
 use Rattle.nm_measure.proofs.interfaces.Interfaces.see.Goals as goal
 
-pub returns-in_default-clause-seen : goal.returns-in_default-clause-seen
-returns-in_default-clause-seen c = λ first n seen own next.
-    c.see_no_start.ensures.seen first n seen own next
-    (none_starts c.args.topology.now n c.args.now c.args.place.now c.args.part.now next
-    (λ time came start kept. sym (ap (option_map (λ r. r.now)) c.in_default.is) ∙ c.start_in.ensures time came start kept))
-
-pub returns-clause-seen : goal.returns-clause-seen
-returns-clause-seen c = λ first n seen own next.
+pub returns-in-Some : goal.returns-in-Some
+returns-in-Some c = λ first n seen next.
     let t = c.args.topology.now in
     let net = net_of t in
     let network = c.every_topology_is_a_network.ensures.network in
-    let r = c.in-Some.record.now in
+    let z = c.in-Some.started in
     let limit = c.accepted_topologies_are_in_order.ensures.limits.greatest_stop in
-    let starts = one_starts t n c.args.now c.args.place.now c.args.part.now next r
-    (λ time came start kept. sym (ap (option_map (λ r. r.now)) c.in-Some.is) ∙ c.start_in.ensures time came start kept) in
+    let starts = one_went t Nothing (one_list net n) next.event c.args.happened.now next.happened z c.in-Some.is in
     let few : t.stop < 2 ^ 64 = omega (arith, limit) in
-    seen_started t first n c.args.now c.args.place.now c.args.part.now c.args.self.now.all.items seen network (c.keys_rise.ensures net network) next
-    c.start.new.self.all.items r.iface (c.what_starts_arrives.ensures net network) few r.packet starts.0 c.start.ensures.octets
-    (subst (λ (z : ℕ × ℕ). OneChanges r.iface (HasStarted (length r.packet) z.0 z.1 (queue_in r.iface (one_list net (suc n)))) c.args.self.now.all.items c.start.new.self.all.items)
-    (λ k. (starts.1 k, c.time_left-left.ensures k)) (c.start.ensures.one t (one_list net (suc n)) next.represents seen.count))
+    seen_started t first n c.args.now c.args.place.now c.args.part.now c.args.happened.now c.args.self.now.all.items seen network (c.keys_rise.ensures net network) next
+    c.start.new.self.all.items z.iface (c.what_starts_arrives.ensures net network) few starts.0 starts.1
+    (subst (λ (y : ℕ × ℕ). OneChanges z.iface (HasStarted (max 1 y.0) c.args.now y.1 (queue_in z.iface (one_list net (suc n)))) c.args.self.now.all.items c.start.new.self.all.items)
+    (λ k. (starts.2 k, c.time_left.ensures k)) (c.start.ensures t (one_list net (suc n)) next.represents seen.count))
+
+pub returns-in-Some-turned_by : goal.returns-in-Some-turned_by
+returns-in-Some-turned_by c = λ first n seen next.
+    let t = c.args.topology.now in
+    let net = net_of t in
+    let network = c.every_topology_is_a_network.ensures.network in
+    let none : StartsNone t n = λ e f. event_only net n next.event e next.first f (none_went t Nothing (one_list net n) next.event c.args.happened.now next.happened c.in_default.is) in
+    seen_turned t first n c.args.now c.args.place.now c.args.part.now c.args.happened.now c.args.self.now.all.items seen network (c.keys_rise.ensures net network) next
+    c.change.new.self.all.items c.in-Some-turned_by.iface none
+    (subst (IsTurn t n) (sym c.turned_by.ensures ∙ c.in-Some-turned_by.is) (turn_told t n c.args.now c.args.place.now c.args.part.now c.args.happened.now next.before.1.orderly next))
+    (c.change.ensures t (one_list net (suc n)) next.represents seen.count)
+
+pub returns-in_default-turned_by : goal.returns-in_default-turned_by
+returns-in_default-turned_by c = λ first n seen next.
+    let t = c.args.topology.now in
+    let net = net_of t in
+    let network = c.every_topology_is_a_network.ensures.network in
+    let none : StartsNone t n = λ e f. event_only net n next.event e next.first f (none_went t Nothing (one_list net n) next.event c.args.happened.now next.happened c.in_default.is) in
+    seen_same t first n c.args.now c.args.place.now c.args.part.now c.args.happened.now c.args.self.now.all.items seen network (c.keys_rise.ensures net network) next
+    none (subst (IsTurn t n) (sym c.turned_by.ensures ∙ c.in_default-turned_by.is) (turn_told t n c.args.now c.args.place.now c.args.part.now c.args.happened.now next.before.1.orderly next))

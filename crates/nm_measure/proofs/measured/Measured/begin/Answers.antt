@@ -14,12 +14,11 @@ returns c = record {
   };
   represents = c.in_ok-part.ensures.represents;
   traffic = c.in_ok-traffic.ensures;
-  all = c.in_ok-part.ensures.keeping;
+  keeps = c.in_ok-part.ensures.keeping;
   within = omega arith;
   stops = c.accepted_topologies_are_in_order.ensures.limits.greatest_stop;
   steps = c.in_ok-part.ensures.steps;
   first = 0;
-  seen = c.in_ok-interfaces.ensures.seen;
-  own = c.in_ok-interfaces.ensures.own;
+  seen = c.in_ok-interfaces.ensures;
   sent = c.in_ok-watched.ensures;
 }

@@ -1,6 +1,7 @@
 use Rattle.std.proofs.Common.{None, sym, subst}
 use Rattle.nm_forward.specs.Reacting.{IsSent, PassesUnwanted}
-use Rattle.nm_sim.specs.Effects.{Sends}
+use Rattle.std.specs.Option.{IfSome}
+use Rattle.nm_sim.specs.Effects.{IsCopied, Sends}
 use Rattle.nm_sim.proofs.devices.Devices.offer.Goals as goal
 
 pub returns-in-Send : goal.returns-in-Send
@@ -28,7 +29,7 @@ pub returns-in-Refused : goal.returns-in-Refused
 returns-in-Refused c = record {
   sends = λ states sent s is.
       let it = subst (λ r. IsSent c.args.self.now.ports r sent) c.in-Refused.is is in
-      subst (λ z. Sends c.args.topology.now states c.args.time z c.drop_at.new.self None) (sym it.1) (c.drop_at.ensures.drops states c.args.time it.0 s it.2);
-  copied = tt;
+      subst (λ z. Sends c.args.topology.now states c.args.time z c.drop_at.new.self c.drop_at.result) (sym it.1) (c.drop_at.ensures.drops states c.args.time it.0 s it.2);
+  copied = subst (λ o. IfSome o (IsCopied c.args.self.now.wanted)) (sym c.drop_at.ensures.none) tt;
   wanted = c.drop_at.ensures.wanted;
 }

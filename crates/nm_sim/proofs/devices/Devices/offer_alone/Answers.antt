@@ -3,6 +3,7 @@ use Rattle.std.specs.Option.{IfSome}
 use Rattle.std.proofs.lemmas.Option.{slice_get_read}
 use Rattle.nm_base.specs.Wanted.{is_wanted}
 use Rattle.nm_iface.specs.PortValue.{PortValue}
+use Rattle.nm_iface.specs.Offers.{IsTransmission, transmitted_packet}
 use Rattle.nm_sim.specs.contracts.devices.Devices.{the_view}
 use Rattle.nm_sim.specs.Effects.{IsCopied, Sends}
 use Rattle.nm_sim.specs.Devices.{DevicesValue}
@@ -12,16 +13,16 @@ use Rattle.nm_sim.proofs.Sound.{sound_used}
 use Rattle.nm_sim.proofs.Tables.{member_within}
 use Rattle.nm_sim.proofs.devices.Devices.offer_alone.Goals as goal
 
-pub offer_alone-start-requires-clause-room : goal.offer_alone-start-requires-clause-room
-offer_alone-start-requires-clause-room c =
+pub offer_alone-offered-requires-clause-room : goal.offer_alone-offered-requires-clause-room
+offer_alone-offered-requires-clause-room c =
     let room = subst (λ (v : DevicesValue). AllSome (λ i w. 1 ≤ w.room) v.ports) (sym c.self.view_is) c.requires.room in
     let member = subst (λ (v : DevicesValue). IsMember (slice_get v.ports c.args.iface)) (sym c.self.view_is) c.requires.own in
     let within : c.args.iface < length c.self.inside.ports.items = member_within c.self.inside.ports.items c.args.iface member in
     let here : slice_get c.self.inside.ports.items c.args.iface ≡ Some c.index_mut.result.now = search (rules, slice_get_read) in
     room c.args.iface (Some c.in-Some.port) (here ∙ ap Some c.in-Some.is)
 
-pub offer_alone-start-requires-clause-alone : goal.offer_alone-start-requires-clause-alone
-offer_alone-start-requires-clause-alone c =
+pub offer_alone-offered-requires-clause-alone : goal.offer_alone-offered-requires-clause-alone
+offer_alone-offered-requires-clause-alone c =
     let room = subst (λ (v : DevicesValue). AllSome (λ i w. 1 ≤ w.room) v.ports) (sym c.self.view_is) c.requires.room in
     let member = subst (λ (v : DevicesValue). IsMember (slice_get v.ports c.args.iface)) (sym c.self.view_is) c.requires.own in
     let within : c.args.iface < length c.self.inside.ports.items = member_within c.self.inside.ports.items c.args.iface member in
@@ -36,7 +37,7 @@ invariant_of-self-2 c =
     let within : c.args.iface < length c.self.inside.ports.items = member_within c.self.inside.ports.items c.args.iface member in
     let here : slice_get c.self.inside.ports.items c.args.iface ≡ Some c.index_mut.result.now = search (rules, slice_get_read) in
     sound_used c.self.inside.wanted c.self.inside.used c.self.inside.ports.items c.self.invariant c.args.iface c.index.result c.index.ensures
-    c.in-Some.port c.offer_alone-start.new.self (here ∙ ap Some c.in-Some.is) (ap (λ (p : PortValue). p.recorded) c.offer_alone-start.ensures.port) room
+    c.in-Some.port c.offer_alone-offered.new.self (here ∙ ap Some c.in-Some.is) (ap (λ (p : PortValue). p.recorded) c.offer_alone-offered.ensures.port) room
 
 pub returns : goal.returns
 returns c = rw (← c.self.view_is) record {
@@ -45,10 +46,10 @@ returns c = rw (← c.self.view_is) record {
       let member = subst (λ (v : DevicesValue). IsMember (slice_get v.ports c.args.iface)) (sym c.self.view_is) c.requires.own in
       let within : c.args.iface < length c.self.inside.ports.items = member_within c.self.inside.ports.items c.args.iface member in
       let here : slice_get c.self.inside.ports.items c.args.iface ≡ Some c.index_mut.result.now = search (rules, slice_get_read) in
-      let after : DevicesValue = record { nodes = c.self.inside.nodes.items; ports = slice_set c.self.inside.ports.items c.index.result (Some c.offer_alone-start.new.self); sources = c.self.inside.sources.items; used = Some c.args.iface; wanted = c.self.inside.wanted } in
-      subst (λ o. Sends c.args.topology.now states c.args.time (Some (c.args.iface, c.args.packet)) after o) (sym c.transmission_at.ensures)
-      (sends_by c.args.topology.now states (the_view c.self.inside) after s c.args.time c.args.iface c.args.packet c.in-Some.port c.offer_alone-start.new.self.room c.offer_alone-start.result (here ∙ ap Some c.in-Some.is)
-      refl (λ k. slice_set c.self.inside.ports.items (c.index.ensures k) (Some (c.offer_alone-start.ensures.port k))) refl c.offer_alone-start.ensures.packet c.offer_alone-start.ensures.start);
-  copied = subst (λ o. IfSome o (IsCopied c.self.inside.wanted)) (sym c.transmission_at.ensures) (copied_at c.self.inside.wanted c.args.iface c.offer_alone-start.result (λ e. absurd (true≢false (sym e ∙ ap (λ (v : DevicesValue). is_wanted v.wanted c.args.iface) c.self.view_is ∙ c.requires.unwanted))));
+      let after : DevicesValue = record { nodes = c.self.inside.nodes.items; ports = slice_set c.self.inside.ports.items c.index.result (Some c.offer_alone-offered.new.self); sources = c.self.inside.sources.items; used = Some c.args.iface; wanted = c.self.inside.wanted } in
+      sends_by c.args.topology.now states (the_view c.self.inside) after s c.args.time c.args.iface c.args.packet c.in-Some.port c.offer_alone-offered.new.self.room c.started-start.result (here ∙ ap Some c.in-Some.is)
+      refl (λ k. slice_set c.self.inside.ports.items (c.index.ensures k) (Some (c.offer_alone-offered.ensures.port k))) refl (ap transmitted_packet c.started-start.ensures ∙ c.offer_alone-offered.ensures.packet) (subst (λ o. IfSome o (IsTransmission c.in-Some.port.rate c.in-Some.port.delay c.args.time c.args.packet)) (sym c.started-start.ensures) c.offer_alone-offered.ensures.start)
+      _ c.transmission_at.ensures (c.offering-offering.ensures ∙ c.offer_alone-offered.ensures.offering c.args.iface);
+  copied = subst (λ o. IfSome o (IsCopied c.self.inside.wanted)) (sym c.transmission_at.ensures) (copied_at c.self.inside.wanted c.args.iface c.started-start.result (λ e. absurd (true≢false (sym e ∙ ap (λ (v : DevicesValue). is_wanted v.wanted c.args.iface) c.self.view_is ∙ c.requires.unwanted))));
   wanted = refl;
 }

@@ -12,8 +12,8 @@ use Rattle.nm_sim.proofs.Sound.{sound_used}
 use Rattle.nm_sim.proofs.Tables.{member_within}
 use Rattle.nm_sim.proofs.devices.Devices.offer_packet.Goals as goal
 
-pub offer-requires-clause-room : goal.offer-requires-clause-room
-offer-requires-clause-room c =
+pub offer-offered-requires-clause-room : goal.offer-offered-requires-clause-room
+offer-offered-requires-clause-room c =
     let room = subst (λ (v : DevicesValue). AllSome (λ i w. 1 ≤ w.room) v.ports) (sym c.self.view_is) c.requires.room in
     let member = subst (λ (v : DevicesValue). IsMember (slice_get v.ports c.args.iface)) (sym c.self.view_is) c.requires.own in
     let within : c.args.iface < length c.self.inside.ports.items = member_within c.self.inside.ports.items c.args.iface member in
@@ -27,7 +27,7 @@ invariant_of-self-2 c =
     let within : c.args.iface < length c.self.inside.ports.items = member_within c.self.inside.ports.items c.args.iface member in
     let here : slice_get c.self.inside.ports.items c.args.iface ≡ Some c.index_mut.result.now = search (rules, slice_get_read) in
     sound_used c.self.inside.wanted c.self.inside.used c.self.inside.ports.items c.self.invariant c.args.iface c.index.result c.index.ensures
-    c.in-Some.port c.offer.new.self (here ∙ ap Some c.in-Some.is) (ap (λ (p : PortValue). p.recorded) c.offer.ensures.port) room
+    c.in-Some.port c.offer-offered.new.self (here ∙ ap Some c.in-Some.is) (ap (λ (p : PortValue). p.recorded) c.offer-offered.ensures.port) room
 
 pub returns : goal.returns
 returns c = rw (← c.self.view_is) record {
@@ -36,10 +36,10 @@ returns c = rw (← c.self.view_is) record {
       let member = subst (λ (v : DevicesValue). IsMember (slice_get v.ports c.args.iface)) (sym c.self.view_is) c.requires.own in
       let within : c.args.iface < length c.self.inside.ports.items = member_within c.self.inside.ports.items c.args.iface member in
       let here : slice_get c.self.inside.ports.items c.args.iface ≡ Some c.index_mut.result.now = search (rules, slice_get_read) in
-      let after : DevicesValue = record { nodes = c.self.inside.nodes.items; ports = slice_set c.self.inside.ports.items c.index.result (Some c.offer.new.self); sources = c.self.inside.sources.items; used = Some c.args.iface; wanted = c.self.inside.wanted } in
-      subst (λ o. Sends c.args.topology.now states c.args.time (Some (c.args.iface, c.args.twin.packet)) after o) (sym c.transmission_at.ensures)
-      (sends_by c.args.topology.now states (the_view c.self.inside) after s c.args.time c.args.iface c.args.twin.packet c.in-Some.port c.offer.new.self.room c.started-start.result (here ∙ ap Some c.in-Some.is)
-      refl (λ k. slice_set c.self.inside.ports.items (c.index.ensures k) (Some (c.offer.ensures.port k))) refl (ap transmitted_packet c.started-start.ensures ∙ c.offer.ensures.packet) (subst (λ o. IfSome o (IsTransmission c.in-Some.port.rate c.in-Some.port.delay c.args.time c.args.twin.packet)) (sym c.started-start.ensures) c.offer.ensures.start));
-  copied = subst (λ o. IfSome o (IsCopied c.self.inside.wanted)) (sym c.transmission_at.ensures) (copied_at c.self.inside.wanted c.args.iface c.started-start.result (λ e. subst (λ o. IfSome o HasCopy) (sym c.started-start.ensures) c.offer.ensures.copied));
+      let after : DevicesValue = record { nodes = c.self.inside.nodes.items; ports = slice_set c.self.inside.ports.items c.index.result (Some c.offer-offered.new.self); sources = c.self.inside.sources.items; used = Some c.args.iface; wanted = c.self.inside.wanted } in
+      sends_by c.args.topology.now states (the_view c.self.inside) after s c.args.time c.args.iface c.args.twin.packet c.in-Some.port c.offer-offered.new.self.room c.started-start.result (here ∙ ap Some c.in-Some.is)
+      refl (λ k. slice_set c.self.inside.ports.items (c.index.ensures k) (Some (c.offer-offered.ensures.port k))) refl (ap transmitted_packet c.started-start.ensures ∙ c.offer-offered.ensures.packet) (subst (λ o. IfSome o (IsTransmission c.in-Some.port.rate c.in-Some.port.delay c.args.time c.args.twin.packet)) (sym c.started-start.ensures) c.offer-offered.ensures.start)
+      _ c.transmission_at.ensures (c.offering-offering.ensures ∙ c.offer-offered.ensures.offering c.args.iface);
+  copied = subst (λ o. IfSome o (IsCopied c.self.inside.wanted)) (sym c.transmission_at.ensures) (copied_at c.self.inside.wanted c.args.iface c.started-start.result (λ e. subst (λ o. IfSome o HasCopy) (sym c.started-start.ensures) c.offer-offered.ensures.copied));
   wanted = refl;
 }

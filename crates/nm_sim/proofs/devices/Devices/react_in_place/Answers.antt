@@ -1,6 +1,8 @@
-use Rattle.std.proofs.Common.{length, ◌<◌, sym, ◌∙◌, subst}
+use Rattle.std.proofs.Common.{length, ◌≡◌, ◌<◌, sym, ◌∙◌, subst}
 use Rattle.std.specs.Result.{IfOk}
 use Rattle.nm_base.specs.declared.event.Origin.TheVariants.{Arrival}
+use Rattle.nm_forward.specs.Row.{arrival_row, row_counter}
+use Rattle.nm_forward.specs.State.{table_of}
 use Rattle.nm_sim.specs.Effects.{ReactsWith}
 use Rattle.nm_sim.proofs.Networks.{all_at, owner_is}
 use Rattle.nm_sim.proofs.Represents.{iface_node}
@@ -17,5 +19,11 @@ react_alone-requires-clause-node c =
 pub returns-clause-reacts : goal.returns-clause-reacts
 returns-clause-reacts c = λ states s.
     let owner = owner_is c.args.topology.now c.args.iface c.iface.result.now c.iface.ensures ∙ sym c.node-node.ensures in
-    subst (λ v. IfOk c.react_alone.result (ReactsWith c.args.topology.now states v (Arrival c.args.iface, c.args.packet) c.react_alone.new.self))
+    subst (λ v. IfOk c.react_alone.result (λ h. ReactsWith c.args.topology.now states v (Arrival c.args.iface, c.args.packet) c.react_alone.new.self h.reaction))
     (sym owner) (c.react_alone.ensures.reacts states s)
+
+pub returns-clause-counter : goal.returns-clause-counter
+returns-clause-counter c = λ states s.
+    let owner = owner_is c.args.topology.now c.args.iface c.iface.result.now c.iface.ensures ∙ sym c.node-node.ensures in
+    subst (λ v. IfOk c.react_alone.result (λ h. h.counter ≡ row_counter (arrival_row (table_of c.args.topology.now v) c.args.packet)))
+    (sym owner) (c.react_alone.ensures.counter states s)

@@ -1,4 +1,4 @@
-use Rattle.std.proofs.Common.{Some, refl, sym, ap, ◌∙◌, subst}
+use Rattle.std.proofs.Common.{Some, refl, sym, ap, ap₂, ◌∙◌, subst}
 use Rattle.nm_base.specs.declared.event.Event.TheVariants.{Delivery}
 use Rattle.nm_base.specs.declared.event.Origin.TheVariants.{Arrival}
 use Rattle.nm_model.specs.Run.{keyed}
@@ -6,10 +6,14 @@ use Rattle.std.specs.FinMap.{insert}
 use Rattle.nm_base.specs.Key.{key_of}
 use Rattle.nm_base.specs.declared.key.Place.TheVariants.{Arrive}
 use Rattle.nm_forward.specs.Reacting.{PassesUnwanted}
-use Rattle.nm_sim.specs.Part.{IsReady, PartValue, states_in, to_do}
+use Rattle.nm_sim.specs.Part.{Doing, IsReady, PartValue, states_in, to_do}
 use Rattle.nm_sim.proofs.Parts.{represents_again}
 use Rattle.nm_sim.proofs.Steps.{least_has, port_is_kept}
-use Rattle.nm_sim.proofs.Takings.{arrives_on, key_is_free}
+use Rattle.nm_base.specs.Wanted.{is_wanted}
+use Rattle.nm_forward.specs.Row.{arrival_row, row_counter}
+use Rattle.nm_forward.specs.State.{table_of}
+use Rattle.nm_sim.specs.Network.{net_of}
+use Rattle.nm_sim.proofs.Takings.{arrives_on, is_told, key_is_free}
 use Rattle.nm_sim.proofs.part.Part.arrive_alone.Goals as goal
 
 pub react_in_place-requires-clause-place : goal.react_in_place-requires-clause-place
@@ -40,18 +44,18 @@ returns-in-Err g c = rw (← c.self.view_is) (
   refl,
 )
 
-pub send-requires-clause-passes : goal.send-requires-clause-passes
-send-requires-clause-passes g c = subst (λ w. PassesUnwanted w c.in-Ok.reaction) (sym c.react_in_place.ensures.wanted) c.in-Ok.ensures.passes
+pub send-sent-requires-clause-passes : goal.send-sent-requires-clause-passes
+send-sent-requires-clause-passes g c = subst (λ w. PassesUnwanted w c.in-Ok.handled.reaction) (sym c.react_in_place.ensures.wanted) c.in-Ok.ensures.passes
 
-pub send-requires-clause-reacted : goal.send-requires-clause-reacted
-send-requires-clause-reacted g c =
+pub send-sent-requires-clause-reacted : goal.send-sent-requires-clause-reacted
+send-sent-requires-clause-reacted g c =
     let part = c.requires.ready.0 in
     let s = c.requires.ready.1 in
     let p : PartValue g.row.L.Denot = record { part = c.self.inside.part; devices = c.self.inside.devices; timeline = c.self.inside.timeline; outgoing = c.self.inside.outgoing; records = c.self.inside.records; steps = c.self.inside.steps } in
     let q : PartValue g.row.L.Denot = record { part = c.self.inside.part; devices = c.react_in_place.new.self; timeline = c.self.inside.timeline; outgoing = c.self.inside.outgoing; records = c.count_arrival.new.self; steps = c.self.inside.steps } in
     let ready = subst (λ (p : PartValue g.row.L.Denot). IsReady g.L.EventList.pending c.args.topology.now part (keyed c.args.due.time c.args.due.number (Delivery (Arrival c.args.iface) c.args.packet)) p s) (sym c.self.view_is) c.requires.ready.2 in (
       record (to_do part (keyed c.args.due.time c.args.due.number (Delivery (Arrival c.args.iface) c.args.packet)) s) { came = Some (c.args.iface, c.args.packet) },
-      arrives_on g.L.EventList.pending c.args.topology.now part c.args.due.time c.args.due.number p q (record { is_part = refl; sent = refl; outgoing = refl; steps = refl; wanted = c.react_in_place.ensures.wanted; keeping = c.count_arrival.ensures.keeping }) s c.args.packet c.in-Ok.reaction c.args.iface
+      arrives_on g.L.EventList.pending c.args.topology.now part c.args.due.time c.args.due.number p q (record { is_part = refl; sent = refl; outgoing = refl; steps = refl; wanted = c.react_in_place.ensures.wanted; keeping = c.count_arrival.ensures.keeping }) s c.args.packet c.in-Ok.handled.reaction c.args.iface
           ready (c.in-Ok.ensures.reacts (states_in part s) ready.devices) refl (λ trace. c.count_arrival.ensures.represents c.args.topology.now trace c.args.due.time c.args.packet c.octet_count-octets.ensures.count),
     )
 
@@ -60,9 +64,19 @@ returns-in-Ok g c = rw (← c.self.view_is) (
   λ part s ready.
       let p : PartValue g.row.L.Denot = record { part = c.self.inside.part; devices = c.self.inside.devices; timeline = c.self.inside.timeline; outgoing = c.self.inside.outgoing; records = c.self.inside.records; steps = c.self.inside.steps } in
       let q : PartValue g.row.L.Denot = record { part = c.self.inside.part; devices = c.react_in_place.new.self; timeline = c.self.inside.timeline; outgoing = c.self.inside.outgoing; records = c.count_arrival.new.self; steps = c.self.inside.steps } in
-      c.send.ensures.represents (record (to_do part (keyed c.args.due.time c.args.due.number (Delivery (Arrival c.args.iface) c.args.packet)) s) { came = Some (c.args.iface, c.args.packet) })
-      (arrives_on g.L.EventList.pending c.args.topology.now part c.args.due.time c.args.due.number p q (record { is_part = refl; sent = refl; outgoing = refl; steps = refl; wanted = c.react_in_place.ensures.wanted; keeping = c.count_arrival.ensures.keeping }) s c.args.packet c.in-Ok.reaction c.args.iface
-      ready (c.in-Ok.ensures.reacts (states_in part s) ready.devices) refl (λ trace. c.count_arrival.ensures.represents c.args.topology.now trace c.args.due.time c.args.packet c.octet_count-octets.ensures.count)),
-  c.send.ensures.steps,
-  c.send.ensures.keeping ∙ c.count_arrival.ensures.keeping,
+      let doing : Doing = record (to_do part (keyed c.args.due.time c.args.due.number (Delivery (Arrival c.args.iface) c.args.packet)) s) { came = Some (c.args.iface, c.args.packet) } in
+      let reacted = arrives_on g.L.EventList.pending c.args.topology.now part c.args.due.time c.args.due.number p q (record { is_part = refl; sent = refl; outgoing = refl; steps = refl; wanted = c.react_in_place.ensures.wanted; keeping = c.count_arrival.ensures.keeping }) s c.args.packet c.in-Ok.handled.reaction c.args.iface
+      ready (c.in-Ok.ensures.reacts (states_in part s) ready.devices) refl (λ trace. c.count_arrival.ensures.represents c.args.topology.now trace c.args.due.time c.args.packet c.octet_count-octets.ensures.count) in
+      let happened = c.send-sent.ensures.happened doing reacted in (
+        c.send-sent.ensures.represents doing reacted,
+        record {
+          arrived = ap₂ (λ octets counter. Some (record { iface = c.args.iface; octets = octets; counter = counter })) c.octet_count-octets.ensures.count
+              (ap Some (c.in-Ok.ensures.counter (states_in part s) ready.devices)
+              ∙ is_told (is_wanted c.self.inside.records.keeping.wanted c.args.iface) (row_counter (arrival_row (table_of c.args.topology.now ((net_of c.args.topology.now).owner c.args.iface)) c.args.packet)) (ap (λ (p : PartValue g.row.L.Denot). is_wanted p.records.keeping.wanted c.args.iface) c.self.view_is ∙ c.requires.unwanted));
+          offering = happened.offering;
+          started = happened.started;
+        },
+      ),
+  c.send-sent.ensures.steps,
+  c.send-sent.ensures.keeping ∙ c.count_arrival.ensures.keeping,
 )

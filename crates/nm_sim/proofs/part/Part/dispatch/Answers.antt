@@ -46,7 +46,7 @@ fire-requires-clause-ready g c = (
 
 pub returns-in-Completion : goal.returns-in-Completion
 returns-in-Completion g c =
-    subst (λ (e : Event (List ℕ)). Performed g.L.EventList.pending c.args.topology.now (keyed c.args.due.time c.args.due.number e) c.args.self.now c.complete.new.self (Ok tt))
+    subst (λ (e : Event (List ℕ)). Performed g.L.EventList.pending c.args.topology.now (keyed c.args.due.time c.args.due.number e) c.args.self.now c.complete.new.self (Ok c.complete.result))
     (sym c.in-Completion.is) c.complete.ensures
 
 pub returns-in-Arrival : goal.returns-in-Arrival

@@ -5,7 +5,7 @@ use Rattle.nm_forward.proofs.Passing.{passes_none}
 use Rattle.nm_model.specs.Run.{by_source, keyed}
 use Rattle.nm_traffic.specs.Source.{source_at}
 use Rattle.nm_sim.specs.Network.{here_of, net_of}
-use Rattle.nm_sim.specs.Part.{IsReady, PartValue, states_in, to_do}
+use Rattle.nm_sim.specs.Part.{Doing, IsReady, PartValue, states_in, to_do}
 use Rattle.nm_sim.proofs.Openings.{here_by_node}
 use Rattle.nm_sim.proofs.Parts.{represents_again}
 use Rattle.nm_sim.proofs.Steps.{least_has, source_is_kept}
@@ -80,9 +80,13 @@ returns g c = rw (← c.self.view_is) (
       let p : PartValue g.row.L.Denot = record { part = c.self.inside.part; devices = c.self.inside.devices; timeline = c.self.inside.timeline; outgoing = c.self.inside.outgoing; records = c.self.inside.records; steps = c.self.inside.steps } in
       let q : PartValue g.row.L.Denot = record { part = c.self.inside.part; devices = c.react_to_source.new.self; timeline = c.schedule_next.new.self; outgoing = c.self.inside.outgoing; records = c.self.inside.records; steps = c.self.inside.steps } in
       let n : c.args.due.number + 1 ≡ suc c.args.due.number = omega arith in
-      c.send.ensures.represents (record (to_do part (keyed c.args.due.time c.args.due.number (Delivery (Source c.args.source) c.args.packet)) s) { follows = by_source c.args.source c.in-Ok.fired.follows })
-      (fires_on g.L.EventList.pending t part c.args.due.time c.args.due.number p q (record { is_part = refl; sent = ap (λ l. l.sent) c.schedule_next.ensures.others; outgoing = refl; steps = refl; wanted = c.react_to_source.ensures.wanted; keeping = refl }) s c.args.packet c.in-Ok.fired.reaction c.args.source c.in-Ok.fired.follows
-      ready (c.in-Ok.ensures.reacts (states_in part s) ready.devices) (c.in-Ok.ensures.follows ∙ ap (source_at t c.args.source) n) c.schedule_next.ensures.events refl),
+      let doing : Doing = record (to_do part (keyed c.args.due.time c.args.due.number (Delivery (Source c.args.source) c.args.packet)) s) { follows = by_source c.args.source c.in-Ok.fired.follows } in
+      let reacted = fires_on g.L.EventList.pending t part c.args.due.time c.args.due.number p q (record { is_part = refl; sent = ap (λ l. l.sent) c.schedule_next.ensures.others; outgoing = refl; steps = refl; wanted = c.react_to_source.ensures.wanted; keeping = refl }) s c.args.packet c.in-Ok.fired.reaction c.args.source c.in-Ok.fired.follows
+      ready (c.in-Ok.ensures.reacts (states_in part s) ready.devices) (c.in-Ok.ensures.follows ∙ ap (source_at t c.args.source) n) c.schedule_next.ensures.events refl in
+      let happened = c.send.ensures.happened doing reacted in (
+        c.send.ensures.represents doing reacted,
+        record { arrived = happened.arrived; offering = happened.offering; started = happened.started },
+      ),
   c.send.ensures.steps,
   c.send.ensures.keeping,
 )
