@@ -267,6 +267,7 @@ impl Bench {
             IfaceNo::new(iface),
             packet,
         )
+        .map(|handled| handled.reaction)
     }
 
     /// How often the node counted this.
