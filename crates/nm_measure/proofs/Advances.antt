@@ -13,7 +13,6 @@ use Rattle.nm_topology.specs.TopologyValue.{TopologyValue}
 use Rattle.nm_sim.specs.Effects.{IsPlaceIn}
 use Rattle.nm_sim.specs.Network.{net_of}
 use Rattle.nm_sim.specs.Part.{PartValue, Represents}
-use Rattle.nm_measure.specs.declared.amounts.IfaceTraffic.{IfaceTraffic}
 use Rattle.nm_measure.specs.declared.seen.Seen.{Seen}
 use Rattle.std.proofs.lemmas.List.{append_assoc}
 use Rattle.nm_base.specs.declared.record.Record.{Record}
@@ -23,7 +22,7 @@ use Rattle.nm_sim.specs.Told.{Happens, HappensNext}
 use Rattle.nm_sim.specs.declared.told.Happened.{Happened}
 use Rattle.nm_measure.specs.Amounts.{AreTraffic, IsCame, IsWent}
 use Rattle.nm_measure.specs.Interfaces.{AreSeen, IsNext}
-use Rattle.nm_measure.specs.Measured.{IsMeasuredBefore, IsMeasuring, MeasuredValue}
+use Rattle.nm_measure.specs.Measured.{HasWatched, IsMeasuredBefore, IsMeasuring, MeasuredValue}
 use Rattle.nm_measure.specs.Sent.{AreSent, sent_later}
 use Rattle.nm_measure.proofs.Telling.{came_is, went_is}
 use Rattle.nm_measure.proofs.Turns.{effect_at, next_records}
@@ -46,6 +45,7 @@ module _ (t : TopologyValue) where
     steps = h.steps;
     seen = subst (λ f. AreSeen t f h.events seen) (sym h.steps) (begins h.first h.events h.seen);
     sent = h.sent;
+    watched = h.watched;
   }
 
   module _ (first until : ℕ) (m : MeasuredValue) (h : IsMeasuring t first until m) (q : PartValue Held) (key : Key) (what : Happened)
@@ -81,12 +81,12 @@ module _ (t : TopologyValue) where
         }
 
     -- one event later
-    pub measuring_next : (traffic : List IfaceTraffic) (seen : List Seen) (sent : List ℕ)
+    pub measuring_next : (new : MeasuredValue)
         → ((before : List (Record (List ℕ))) (time : ℕ) (came went : Option (ℕ × List ℕ)) → IsCame came what.arrived → IsWent went what.started
-        → AreTraffic t m.traffic before → AreTraffic t traffic ((before ++ in_record time came) ++ out_record time went))
-        → q.records.keeping ≡ m.part.records.keeping → q.steps ≡ m.part.steps + 1 → AreSeen t first (suc h.events) seen → sent ≡ sent_later key.place m.sent
-        → IsMeasuring t first until (record { part = q; traffic = traffic; seen = seen; sent = sent })
-    measuring_next traffic seen sent counts keeping steps sees made =
+        → AreTraffic t m.traffic before → AreTraffic t new.traffic ((before ++ in_record time came) ++ out_record time went))
+        → q.records.keeping ≡ m.part.records.keeping → q.steps ≡ m.part.steps + 1 → AreSeen t first (suc h.events) new.seen → new.sent ≡ sent_later key.place m.sent
+        → HasWatched t (suc h.events) new → IsMeasuring t first until (record new { part = q })
+    measuring_next new counts keeping steps sees made watched =
         let e = the_event.0 in
         let s = one_list (net_of t) h.events in
         let did = effect_at (net_of t) h.events e the_event.1 in
@@ -98,7 +98,7 @@ module _ (t : TopologyValue) where
               (cases_lt n h.events);
           counted = record {
             represents = after;
-            counted = subst (AreTraffic t traffic) (append_assoc s.records (in_record e.0.time did.came) (out_record e.0.time did.transmission) ∙ sym (next_records (net_of t) h.events e the_event.1))
+            counted = subst (AreTraffic t new.traffic) (append_assoc s.records (in_record e.0.time did.came) (out_record e.0.time did.transmission) ∙ sym (next_records (net_of t) h.events e the_event.1))
                 (counts s.records e.0.time did.came did.transmission
                 (came_is t Nothing s e what happened_is) (went_is t Nothing s e what happened_is) h.counted.counted);
             keeps = keeping ∙ h.counted.keeps;
@@ -107,4 +107,5 @@ module _ (t : TopologyValue) where
           seen = sees;
           sent = subst (AreSent t (suc h.events)) (sym made)
               (sent_next t h.events m.sent h.sent e key.place the_event.1 (ap (λ k. k.place) the_event.2));
+          watched = watched;
         }

@@ -1,24 +1,17 @@
 -- Traffic as records come, one after another.
-use Rattle.std.proofs.Common.{◌≡◌, ℕ, zero, suc, ◌+◌, ◌==◌, ◌&&◌, Bool, true, false, not, cond, List, [], ◌∷◌, ◌++◌, drop, take, length, replicate, sum_by, Option, Some, None, slice_get, refl, sym, ap, subst, ◌∙◌, arith, ⊎_elim, length-append, option_map}
-use Rattle.std.proofs.Math.Seq.{take-append_seam, take-length}
+use Rattle.std.proofs.Common.{◌≡◌, ℕ, zero, suc, ◌+◌, ◌==◌, ◌&&◌, Bool, true, false, not, cond, List, [], ◌∷◌, ◌++◌, length, replicate, sum_by, Option, Some, None, slice_get, refl, sym, ap, subst, ◌∙◌, arith, ⊎_elim, length-append, option_map}
 use Rattle.std.proofs.lemmas.Bool.Decides.{nat_tests}
-use Rattle.std.proofs.lemmas.List.{length-replicate, take-append-drop}
+use Rattle.std.proofs.lemmas.List.{length-replicate}
 use Rattle.std.proofs.lemmas.List.Sums.{sum_by_push}
 use Rattle.std.proofs.lemmas.Option.{slice_get_cases, slice_get_past}
 use Rattle.nm_base.specs.Count.{saturated}
 use Rattle.nm_base.specs.declared.event.Event.{Event}
 use Rattle.nm_base.specs.declared.key.Key.{Key}
 use Rattle.nm_base.specs.declared.record.Record.{Record}
-use Rattle.nm_events.specs.Held.{Held, pending_of}
-use Rattle.nm_forward.specs.State.{NodeStateValue}
 use Rattle.nm_topology.specs.TopologyValue.{TopologyValue}
-use Rattle.nm_model.specs.EventList.{is_before, least}
+use Rattle.nm_model.specs.EventList.{is_before}
 use Rattle.nm_model.specs.Lists.{keep_where}
-use Rattle.nm_model.specs.Network.{Net}
-use Rattle.nm_model.specs.Run.{State, step, step_at}
 use Rattle.nm_model.proofs.ListLemmas.{kept-append, not_some, some_inj}
-use Rattle.nm_sim.specs.Network.{net_of}
-use Rattle.nm_sim.specs.Part.{PartValue, Represents}
 use Rattle.nm_measure.specs.declared.amounts.Amount.{Amount}
 use Rattle.nm_measure.specs.declared.amounts.IfaceTraffic.{IfaceTraffic}
 use Rattle.nm_measure.specs.Amounts.{AreTraffic, IsCame, IsWent, amount_after, amount_of, came_after, came_to, is_in, traffic_after, iface_traffic_of, went_after, went_from}

@@ -1,6 +1,11 @@
 mod Added
 mod Advances
+mod Completions
 mod Counting
+mod Firings
+mod Flowing
+mod Following
+mod Laning
 mod Lists
 mod Making
 mod Nodes
@@ -9,6 +14,7 @@ mod Readings
 mod Rounding
 mod Rows
 mod Turns
+mod Tagged
 mod Telling
 mod Turned
 mod Waitings

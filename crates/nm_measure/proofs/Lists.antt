@@ -1,9 +1,6 @@
 -- Lists of which one element changes, and the records of an event.
-use Rattle.std.proofs.Common.{◌≡◌, ◌≢◌, ℕ, zero, suc, ◌+◌, ◌-◌, ◌<◌, ◌≤◌, ◌⊎◌, inl, inr, List, [], ◌∷◌, ◌++◌, length, get_or, map, Option, Some, None, slice_get, slice_set, refl, sym, ap, ◌∙◌, subst, arith, length-set, ⊎_elim}
+use Rattle.std.proofs.Common.{◌≡◌, ◌≢◌, ℕ, zero, suc, ◌+◌, ◌<◌, ◌≤◌, ◌⊎◌, inl, inr, List, [], ◌∷◌, ◌++◌, length, get_or, map, Some, slice_get, slice_set, refl, sym, ap, ◌∙◌, subst, arith, length-set, ⊎_elim}
 use Rattle.std.proofs.lemmas.Option.{slice_get-get_or, slice_get_within}
-use Rattle.nm_base.specs.declared.record.Dir.TheVariants.{In, Out}
-use Rattle.nm_base.specs.declared.record.Record.{Record}
-use Rattle.nm_model.specs.Run.{in_record, out_record}
 use Rattle.nm_model.proofs.ListLemmas.{not_some, same_number, some_inj}
 use Rattle.nm_measure.specs.declared.queue.Queue.{Queue}
 use Rattle.nm_measure.specs.declared.seen.Seen.{Seen}

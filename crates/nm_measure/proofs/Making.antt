@@ -1,5 +1,5 @@
 -- How many packets sources have made, one event later.
-use Rattle.std.proofs.Common.{◌≡◌, ◌≢◌, ℕ, suc, ◌+◌, ◌-◌, ◌<◌, ◌≤◌, ◌==◌, ◌^◌, min, if◌then◌else◌, List, length, replicate, get_or, map, Option, Some, None, slice_get, slice_set, sym, ap, ◌∙◌, subst, arith, refl, length-set, ⊎_elim}
+use Rattle.std.proofs.Common.{◌≡◌, ◌≢◌, ℕ, suc, ◌+◌, ◌<◌, ◌≤◌, if◌then◌else◌, List, length, replicate, get_or, Option, Some, None, slice_get, slice_set, sym, ap, ◌∙◌, subst, arith, refl, length-set, ⊎_elim}
 use Rattle.std.specs.Prelude.{IsSomeAnd}
 use Rattle.std.specs.Option.{option_map, unwrap_or}
 use Rattle.std.proofs.Math.Seq.{map-set_same}

@@ -1,5 +1,5 @@
 -- Numbers rounded down to their eight highest bits.
-use Rattle.std.proofs.Common.{◌≡◌, ◌⊎◌, ⊎_elim, ℕ, zero, suc, ◌+◌, ◌-◌, ◌*◌, ◌/◌, ◌%◌, ◌^◌, ◌<◌, ◌≤◌, sym, subst, ap, ◌∙◌, arith}
+use Rattle.std.proofs.Common.{◌≡◌, ⊎_elim, ℕ, zero, suc, ◌+◌, ◌-◌, ◌*◌, ◌/◌, ◌%◌, ◌^◌, ◌<◌, ◌≤◌, sym, subst, ap, ◌∙◌, arith}
 use Rattle.std.proofs.Math.Nat.{div-mul-le_self, le-div_iff_mul-le, le_trans, lt_of_lt_of_le, mod-lt, mul-le-mul_right, one-le-pow, one-mul}
 use Rattle.std.proofs.Math.Pow.{pow_mono, pow_pos, shl_exact}
 use Rattle.std.proofs.lemmas.Bool.{cases_lt}

@@ -1,14 +1,13 @@
 -- Rows of delays: how often each occurs, in rising order.
-use Rattle.std.proofs.Common.{◌≡◌, ◌⊎◌, ⊎_elim, append-nil, append_assoc, ℕ, zero, suc, ◌+◌, ◌*◌, ◌/◌, ◌%◌, ◌<◌, ◌≤◌, min, max, Bool, true, false, cond, eqb, leb, ltb, ne_eqb, List, [], ◌∷◌, ◌++◌, length, get_or, take, map, insert, count_by, sum_by, refl, sym, ap, ◌∙◌, subst, arith, rules}
-use Rattle.std.specs.List.{AllWithin}
+use Rattle.std.proofs.Common.{◌≡◌, ⊎_elim, append-nil, append_assoc, ℕ, zero, suc, ◌+◌, ◌*◌, ◌/◌, ◌%◌, ◌<◌, ◌≤◌, min, max, Bool, true, false, cond, eqb, leb, ltb, ne_eqb, List, [], ◌∷◌, ◌++◌, length, get_or, take, map, insert, count_by, refl, sym, ap, ◌∙◌, subst, arith}
 use Rattle.std.specs.List.Sorted.{IsNonDecreasingBy, IsPartitionPoint}
 use Rattle.std.proofs.Math.Nat.{mul-le-mul_left}
 use Rattle.std.proofs.lemmas.Bool.{cases_lt, le-leb, le-ltb, ltb-false, ltb-true}
 use Rattle.std.proofs.lemmas.List.{get_or_default, length-map, take_all}
 use Rattle.std.proofs.lemmas.List.Sorted.{IsNonDecreasingBy-insert}
-use Rattle.std.proofs.lemmas.List.Sums.{count_by-le-length, sum_by-cons, sum_by_more, sum_by_push}
+use Rattle.std.proofs.lemmas.List.Sums.{sum_by-cons, sum_by_push}
 use Rattle.nm_measure.specs.declared.spread.Row.{Row}
-use Rattle.nm_measure.specs.Spread.{HaveRows, HaveTimes, IsPercentile, IsSpread, different_of, kept, new_after, rank_of, rounded_down, times_of}
+use Rattle.nm_measure.specs.Spread.{HaveRows, IsPercentile, IsSpread, different_of, kept, new_after, rank_of, rounded_down, times_of}
 
 -- a row is put behind those of less delay
 pub inserted_rises : (rows : List Row) (i : ℕ) (row : Row) → IsNonDecreasingBy (λ (r : Row). r.delay) rows → i ≤ length rows

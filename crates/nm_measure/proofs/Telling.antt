@@ -12,7 +12,6 @@ use Rattle.nm_model.specs.Port.{Port}
 use Rattle.nm_model.specs.Run.{State, by_source, effect, sent_on}
 use Rattle.nm_sim.specs.Network.{net_of}
 use Rattle.nm_sim.specs.Told.{Happens, arrived_in, started_octets}
-use Rattle.nm_sim.specs.declared.told.Arrived.{Arrived}
 use Rattle.nm_sim.specs.declared.told.Started.{Started}
 use Rattle.nm_sim.specs.declared.told.Happened.{Happened}
 use Rattle.nm_topology.specs.TopologyValue.{TopologyValue}

@@ -1,5 +1,5 @@
 -- Which queue an event may change.
-use Rattle.std.proofs.Common.{◌≡◌, ◌≢◌, ℕ, suc, ◌<◌, true, List, length, Option, Some, None, refl, sym, ap, ◌∙◌, subst}
+use Rattle.std.proofs.Common.{◌≡◌, ℕ, suc, true, List, Some, refl, sym, ap, ◌∙◌}
 use Rattle.nm_base.specs.declared.event.Event.{Event}
 use Rattle.nm_base.specs.declared.event.Event.TheVariants.{Delivery, Completion}
 use Rattle.nm_base.specs.declared.event.Origin.{Origin}
@@ -12,7 +12,6 @@ use Rattle.nm_model.specs.EventList.{least}
 use Rattle.nm_model.specs.Network.{Net}
 use Rattle.nm_model.specs.Offers.{offering_in}
 use Rattle.nm_model.specs.Orderly.{IsOrderly}
-use Rattle.nm_model.specs.Port.{Port}
 use Rattle.nm_model.specs.Run.{effect, one_list}
 use Rattle.nm_model.specs.declared.offering.Offering.{Offering}
 use Rattle.nm_model.proofs.Keys.{least_has}

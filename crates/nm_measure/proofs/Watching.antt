@@ -1,17 +1,13 @@
 -- All interfaces, one event later.
-use Rattle.std.proofs.Common.{◌≡◌, ◌≢◌, ℕ, suc, ◌+◌, ◌-◌, ◌^◌, ◌<◌, ◌≤◌, max, min, List, [], ◌∷◌, ◌++◌, length, drop, Option, Some, None, slice_get, inl, refl, sym, ap, ◌∙◌, subst, arith, ⊎_elim, append-nil, length-append}
+use Rattle.std.proofs.Common.{◌≡◌, ◌≢◌, ℕ, suc, ◌+◌, ◌-◌, ◌^◌, ◌<◌, ◌≤◌, max, min, List, [], ◌∷◌, ◌++◌, length, Option, Some, None, slice_get, inl, refl, sym, ap, ◌∙◌, subst, arith, ⊎_elim, append-nil, length-append}
 use Rattle.std.proofs.lemmas.Option.{slice_get_cases, slice_get_within}
-use Rattle.nm_base.specs.declared.event.Event.{Event}
-use Rattle.nm_base.specs.declared.key.Key.{Key}
 use Rattle.nm_base.specs.declared.key.Place.{Place}
 use Rattle.nm_base.specs.declared.record.Dir.TheVariants.{Out}
-use Rattle.nm_base.specs.declared.record.Record.{Record}
 use Rattle.nm_events.specs.Held.{Held}
 use Rattle.nm_forward.specs.State.{NodeStateValue}
 use Rattle.nm_iface.specs.Transmission.{transmission_time}
-use Rattle.nm_model.specs.EventList.{least}
 use Rattle.nm_model.specs.Network.{IsNet}
-use Rattle.nm_model.specs.Run.{Effect, in_record, one_list, out_record}
+use Rattle.nm_model.specs.Run.{Effect, one_list, out_record}
 use Rattle.nm_model.specs.RunLaws.{KeysRise}
 use Rattle.nm_model.specs.Trace.{passed}
 use Rattle.nm_model.specs.TraceLaws.{StartsArrive}

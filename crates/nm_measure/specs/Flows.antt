@@ -12,6 +12,10 @@ Balances f = f.sent ≡ f.delivered + f.refused + f.dropped + f.discarded + f.un
 abbrev pub counts_of : FlowCounts → List ℕ
 counts_of f = f.sent ∷ f.delivered ∷ f.refused ∷ f.dropped ∷ f.discarded ∷ f.under_way ∷ []
 
+-- how many were delivered, refused, dropped and discarded
+abbrev pub ended_of : FlowCounts → List ℕ
+ended_of f = f.delivered ∷ f.refused ∷ f.dropped ∷ f.discarded ∷ []
+
 -- how many packets each source made
 abbrev pub sent_numbers : List FlowCounts → List ℕ
 sent_numbers counts = map (λ f. f.sent) counts

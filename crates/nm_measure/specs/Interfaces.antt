@@ -1,11 +1,9 @@
 -- What is seen of all interfaces of a network, event by event.
-use Rattle.std.specs.Prelude.{◌≡◌, ◌≢◌, ℕ, suc, ◌+◌, ◌<◌, ◌≤◌, min, List, drop, length, slice_get, Option, Some, None}
+use Rattle.std.specs.Prelude.{◌≡◌, ◌≢◌, ℕ, suc, ◌+◌, ◌<◌, ◌≤◌, min, List, length, slice_get, Option, Some, None}
 use Rattle.nm_base.specs.Count.{saturated}
 use Rattle.nm_base.specs.declared.event.Event.{Event}
 use Rattle.nm_base.specs.declared.key.Key.{Key}
 use Rattle.nm_base.specs.declared.key.Place.{Place}
-use Rattle.nm_base.specs.declared.record.Dir.TheVariants.{Out}
-use Rattle.nm_base.specs.declared.record.Record.{Record}
 use Rattle.nm_events.specs.Held.{Held, pending_of}
 use Rattle.nm_forward.specs.State.{NodeStateValue}
 use Rattle.nm_iface.specs.Transmission.{transmission_time}

@@ -15,3 +15,7 @@ pub mod Rates
 pub mod Seen
 pub mod Interfaces
 pub mod Lines
+pub mod Ways
+pub mod Tagged
+pub mod Counted
+pub mod Lanes

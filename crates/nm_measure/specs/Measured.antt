@@ -1,5 +1,5 @@
 -- A network at a time of its run, with its measurements.
-use Rattle.std.specs.Prelude.{◌≡◌, ◌<◌, ◌≤◌, ℕ, true, List, None}
+use Rattle.std.specs.Prelude.{◌≡◌, ◌<◌, ◌≤◌, ℕ, true, List, [], length, None}
 use Rattle.nm_base.specs.declared.limits.TheConstants.{MAX_TIME}
 use Rattle.nm_base.specs.declared.wanted.Wanted.TheVariants.{Nothing}
 use Rattle.nm_events.specs.Held.{Held, pending_of}
@@ -13,6 +13,11 @@ use Rattle.nm_measure.specs.Amounts.{AreTraffic}
 use Rattle.nm_measure.specs.Interfaces.{AreSeen}
 use Rattle.nm_measure.specs.declared.amounts.IfaceTraffic.{IfaceTraffic}
 use Rattle.nm_measure.specs.Sent.{AreSent}
+use Rattle.nm_measure.specs.declared.flow_counts.FlowCounts.{FlowCounts}
+use Rattle.nm_measure.specs.declared.flow_times.FlowTimes.{FlowTimes}
+use Rattle.nm_measure.specs.declared.lane.Lane.{Lane}
+use Rattle.nm_measure.specs.Lanes.{AreWatched, lanes_in}
+use Rattle.nm_measure.specs.Ways.{ends_in, tagged_list}
 use Rattle.nm_measure.specs.declared.seen.Seen.{Seen}
 
 pub record MeasuredValue : Type 0 where
@@ -21,6 +26,10 @@ pub record MeasuredValue : Type 0 where
   pub seen : List Seen
   -- how many packets each source made
   pub sent : List ℕ
+  -- what became of them, and where the others are
+  pub counts : List FlowCounts
+  pub times : List FlowTimes
+  pub lanes : List Lane
 
 -- no records are kept
 abbrev pub KeepsNone : PartValue Held → Type 0
@@ -38,6 +47,11 @@ pub record IsCounted (t : TopologyValue) (s : State (List ℕ) NodeStateValue) (
 abbrev pub HasRecent : TopologyValue → ℕ → MeasuredValue → Type 0
 HasRecent t first m = AreSeen t first m.part.steps m.seen
 
+-- what became of the packets of sources after n events
+abbrev pub HasWatched : TopologyValue → ℕ → MeasuredValue → Type 0
+HasWatched t n m =
+    AreWatched (length t.ifaces) (lanes_in t (tagged_list t n)) [] (ends_in t n) m.lanes m.counts m.times
+
 -- the whole network after some events of its one event list, all of them before this time, and
 -- the traffic of these
 pub record IsMeasuring (t : TopologyValue) (first until : ℕ) (m : MeasuredValue) : Type 0 where
@@ -47,6 +61,7 @@ pub record IsMeasuring (t : TopologyValue) (first until : ℕ) (m : MeasuredValu
   pub steps : m.part.steps ≡ events
   pub seen : AreSeen t first events m.seen
   pub sent : AreSent t events m.sent
+  pub watched : HasWatched t events m
 
 -- the whole network after all events of its one event list that are before this time, and the
 -- traffic of all their records
@@ -62,6 +77,7 @@ pub record IsMeasuredBefore (t : TopologyValue) (until : ℕ) (m : MeasuredValue
   pub first : ℕ
   pub seen : AreSeen t first events m.seen
   pub sent : AreSent t events m.sent
+  pub watched : HasWatched t events m
 
 -- the same after a step that began at this time: the most that waited recently count since then
 pub record IsMeasuredStep (t : TopologyValue) (from until : ℕ) (m : MeasuredValue) : Type 0 where

@@ -21,7 +21,7 @@ pub struct Delays {
 }
 
 impl Delays {
-    ghost use Rattle.nm_measure.specs.Delays.{AreDelays};
+    ghost use Rattle.nm_measure.specs.Delays.{AreDelays, lasting_delays};
 
     /// The delays of no packets.
     pub(crate) fn new(alloc: Global) -> Self
@@ -72,7 +72,8 @@ impl Delays {
 
     /// The greatest since this was called last; 0 if there was none.
     pub(crate) fn take_recent(&mut self) -> u64
-        ensures { result ≡ self.old.recent }
+        ensures recent { result ≡ self.old.recent }
+        ensures kept { lasting_delays self.new ≡ lasting_delays self.old }
     {
         let recent = self.recent;
         self.recent = 0;

@@ -1,5 +1,8 @@
 //! What a node did with a packet that arrived, and why it sent none that a source made.
 
+ghost use Rattle.std.specs.Prelude.{◌≡◌};
+ghost use Rattle.nm_measure.specs.Ways.{fate_by};
+
 use nm_base::NodeNo;
 use nm_events::HeapList;
 use nm_forward::Counter;
@@ -24,7 +27,9 @@ pub(crate) enum Fate {
 }
 
 /// What a node did with a packet, by the counter that rose when it arrived.
-pub(crate) fn fate_of(counter: Counter) -> Fate {
+pub(crate) fn fate_of(counter: Counter) -> Fate
+    ensures { result ≡ fate_by counter }
+{
     match counter {
         Counter::Forwarded => Fate::SentOn,
         Counter::Udp => Fate::Delivered,

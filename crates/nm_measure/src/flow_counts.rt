@@ -35,7 +35,7 @@ pub enum PacketOutcome {
 }
 
 impl FlowCounts {
-    ghost use Rattle.nm_measure.specs.Flows.{Ends, counts_of};
+    ghost use Rattle.nm_measure.specs.Flows.{Ends, counts_of, ended_of};
 
     /// No packets.
     pub const NONE: FlowCounts = FlowCounts {
@@ -52,6 +52,7 @@ impl FlowCounts {
     pub(crate) fn send(&mut self)
         ensures sent { self.new.sent ≡ saturated (self.old.sent + 1) }
         ensures way { self.old.sent + 1 < 2 ^ 64 → self.new.under_way ≡ self.old.under_way + 1 }
+        ensures ended { ended_of self.new ≡ ended_of self.old }
     {
         if self.sent < u64::MAX {
             self.sent += 1;

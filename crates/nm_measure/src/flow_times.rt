@@ -50,6 +50,7 @@ pub fn rate_of(octets: u64, from: Option<Time>, until: Time) -> u64
 impl FlowTimes {
     /// Nothing was sent.
     pub(crate) fn new(alloc: Global) -> Self
+        ensures octets { result.octets ≡ 0 }
         ensures delays { AreDelays [] result.delays }
         ensures trips { AreDelays [] result.round_trips }
     {

@@ -1,6 +1,10 @@
 //! What becomes of the packets of all sources.
 
-ghost use Rattle.std.specs.Prelude.{◌≡◌, IfOk, slice_get};
+ghost use Rattle.std.specs.Prelude.{◌≡◌, ℕ, ◌+◌, ◌<◌, ◌++◌, ◌∷◌, [], List, length, map, option_map, true, false, None, Some, ◌^◌, IfOk, IfSome, OnOk, slice_get};
+ghost use Rattle.nm_measure.specs.declared.flow_counts.PacketOutcome.TheVariants.{Delivered};
+ghost use Rattle.nm_measure.specs.Counted.{AreArrivals, AreFlows, AreOutcomes, is_own, is_sent, lasting};
+ghost use Rattle.nm_measure.specs.Lanes.{one_of};
+ghost use Rattle.nm_measure.specs.Ways.{WayEnd, own_tag};
 ghost use Rattle.nm_measure.specs.Flows.{sent_numbers};
 ghost use Rattle.nm_measure.specs.Sent.{AreSent, with_sent};
 
@@ -38,9 +42,12 @@ fn homes_of(alloc: Global, topology: &Topology) -> Result<Vec<NodeNo>, AllocErro
 }
 
 /// Nothing has arrived of so many sources.
-fn no_times(alloc: Global, sources: usize) -> Result<Vec<FlowTimes>, AllocError> {
+fn no_times(alloc: Global, sources: usize) -> Result<Vec<FlowTimes>, AllocError>
+    ensures count { IfOk result (λ times. length times.items ≡ sources) }
+    ensures none { IfOk result (λ times. AreArrivals [] times.items) }
+{
     let mut times = Vec::new(alloc);
-    for _ in 0..sources {
+    for _number in 0..sources {
         times.push(FlowTimes::new(alloc))?;
     }
     Ok(times)
@@ -49,7 +56,8 @@ fn no_times(alloc: Global, sources: usize) -> Result<Vec<FlowTimes>, AllocError>
 impl Flows {
     /// Nothing was sent yet.
     pub(crate) fn new(alloc: Global, topology: &Topology) -> Result<Self, AllocError>
-        ensures { IfOk result (λ f. AreSent topology.now 0 (sent_numbers f.counts.items)) }
+        ensures sent { IfOk result (λ f. AreSent topology.now 0 (sent_numbers f.counts.items)) }
+        ensures flows { IfOk result (λ f. AreFlows [] (λ j. 0) f.counts.items f.times.items) }
     {
         let sources = topology.sources().len();
         Ok(Flows {
@@ -67,29 +75,69 @@ impl Flows {
     }
 
     /// How much of what a source sent arrived, and how late.
-    pub(crate) fn times(&self, source: SourceNo) -> Option<&FlowTimes> {
+    pub(crate) fn times(&self, source: SourceNo) -> Option<&FlowTimes>
+        ensures { option_map (λ x. x.now) result ≡ slice_get self.now.times.items source }
+    {
         self.times.get(source.index())
     }
 
     /// A source makes a packet. Answers its tag.
     pub(crate) fn send(&mut self, source: SourceNo, now: Time) -> Tag
-        ensures { sent_numbers self.new.counts.items ≡ with_sent source (sent_numbers self.old.counts.items) }
+        ensures sent { sent_numbers self.new.counts.items
+            ≡ with_sent source (sent_numbers self.old.counts.items) }
+        ensures tag { (number : ℕ) → slice_get (sent_numbers self.old.counts.items) source ≡ Some number
+            → result ≡ own_tag source number now }
+        ensures flows { (ends : List WayEnd) (under_way : ℕ → ℕ) (number : ℕ)
+            → slice_get (sent_numbers self.old.counts.items) source ≡ Some number
+            → number + 1 < 2 ^ 64
+            → AreFlows ends under_way self.old.counts.items self.old.times.items
+            → AreFlows ends (λ j. one_of j result + under_way j)
+            self.new.counts.items self.new.times.items }
     {
-        let mut number = 0;
-        if let Some(counts) = self.counts.get_mut(source.index()) {
-            number = counts.sent;
-            counts.send();
-        }
+        let number = self.count(source);
+        self.note_begin(source, now);
+        Tag::of_source(source, number, now)
+    }
+
+    /// A source makes a packet. Answers how many it had made.
+    fn count(&mut self, source: SourceNo) -> u64
+        ensures sent { sent_numbers self.new.counts.items
+            ≡ with_sent source (sent_numbers self.old.counts.items) }
+        ensures times { self.new.times ≡ self.old.times }
+        ensures number { (number : ℕ) → slice_get (sent_numbers self.old.counts.items) source ≡ Some number
+            → result ≡ number }
+        ensures flows { (ends : List WayEnd) (under_way : ℕ → ℕ) (number : ℕ)
+            → slice_get (sent_numbers self.old.counts.items) source ≡ Some number
+            → number + 1 < 2 ^ 64
+            → AreFlows ends under_way self.old.counts.items self.old.times.items
+            → AreFlows ends (λ j. one_of j (own_tag source 0 0) + under_way j)
+            self.new.counts.items self.new.times.items }
+    {
+        let Some(counts) = self.counts.get_mut(source.index()) else {
+            return 0;
+        };
+        let number = counts.sent;
+        counts.send();
+        number
+    }
+
+    /// A source has an event.
+    fn note_begin(&mut self, source: SourceNo, now: Time)
+        ensures counts { self.new.counts ≡ self.old.counts }
+        ensures flows { (ends : List WayEnd) (under_way : ℕ → ℕ)
+            → AreFlows ends under_way self.old.counts.items self.old.times.items
+            → AreFlows ends under_way self.new.counts.items self.new.times.items }
+    {
         if let Some(times) = self.times.get_mut(source.index()) {
             times.begin(now);
         }
-        Tag::of_source(source, number, now)
     }
 
     /// The greatest delay of a source's packets that arrived since this was called last; 0 if none
     /// did.
     pub(crate) fn take_greatest(&mut self, source: SourceNo) -> u64
-        ensures { self.new.counts ≡ self.old.counts }
+        ensures counts { self.new.counts ≡ self.old.counts }
+        ensures times { map lasting self.new.times.items ≡ map lasting self.old.times.items }
     {
         match self.times.get_mut(source.index()) {
             Some(times) => times.delays.take_recent(),
@@ -97,30 +145,45 @@ impl Flows {
         }
     }
 
-    /// The packet of a tag ends so, if it is a source's. Answers the source and the time of its
-    /// event, if the packet was under way.
-    pub(crate) fn end(&mut self, tag: &Tag, outcome: PacketOutcome) -> Option<(SourceNo, Time)>
-        ensures { sent_numbers self.new.counts.items ≡ sent_numbers self.old.counts.items }
+    /// The packet of a tag ends so, if it is a source's. Answers whether it is one that was under
+    /// way.
+    pub(crate) fn end(&mut self, tag: &Tag, outcome: PacketOutcome) -> bool
+        ensures times { self.new.times ≡ self.old.times }
+        ensures count { length self.new.counts.items ≡ length self.old.counts.items }
+        ensures outcomes { (ends : List WayEnd) (under_way : ℕ → ℕ) (end : WayEnd) → end.tag ≡ tag.now
+            → end.outcome ≡ outcome
+            → AreOutcomes ends (λ j. one_of j tag.now + under_way j) self.old.counts.items
+            → AreOutcomes (ends ++ end ∷ []) under_way self.new.counts.items }
+        ensures ended { result ≡ true → is_sent tag.now.role ≡ true }
+        ensures none { result ≡ false → (ends : List WayEnd) (under_way : ℕ → ℕ)
+            → AreOutcomes ends (λ j. one_of j tag.now + under_way j) self.old.counts.items
+            → (j : ℕ) → j < length self.old.counts.items → is_own j tag.now ≡ false }
+        ensures sent { sent_numbers self.new.counts.items ≡ sent_numbers self.old.counts.items }
     {
         let Role::Sent = tag.role else {
-            return None;
+            return false;
         };
-        if self.counts.get_mut(tag.source.index())?.end(outcome) {
-            Some((tag.source, tag.at))
-        } else {
-            None
+        match self.counts.get_mut(tag.source.index()) {
+            Some(counts) => counts.end(outcome),
+            None => false,
         }
     }
 
     /// The packet of a tag is delivered, if it is a source's.
     pub(crate) fn deliver(&mut self, tag: &Tag, arrival: Arrival) -> Result<(), AllocError>
-        ensures { sent_numbers self.new.counts.items ≡ sent_numbers self.old.counts.items }
+        ensures flows { OnOk result ((ends : List WayEnd) (under_way : ℕ → ℕ) (end : WayEnd)
+            → end.tag ≡ tag.now → end.outcome ≡ Delivered → end.time ≡ arrival.now
+            → end.octets ≡ arrival.octets
+            → AreFlows ends (λ j. one_of j tag.now + under_way j)
+            self.old.counts.items self.old.times.items
+            → AreFlows (ends ++ end ∷ []) under_way self.new.counts.items self.new.times.items) }
+        ensures sent { sent_numbers self.new.counts.items ≡ sent_numbers self.old.counts.items }
     {
-        let Some((source, at)) = self.end(tag, PacketOutcome::Delivered) else {
+        if !self.end(tag, PacketOutcome::Delivered) {
             return Ok(());
-        };
-        match self.times.get_mut(source.index()) {
-            Some(times) => times.deliver(arrival.octets, at, arrival.now),
+        }
+        match self.times.get_mut(tag.source.index()) {
+            Some(times) => times.deliver(arrival.octets, tag.at, arrival.now),
             None => Ok(()),
         }
     }
@@ -128,7 +191,13 @@ impl Flows {
     /// An ICMP message arrives at the node to which it is addressed: a source's packet is
     /// delivered; the reply to one has reached the source's node or went astray.
     pub(crate) fn tell(&mut self, tag: &Tag, arrival: Arrival) -> Result<(), AllocError>
-        ensures { sent_numbers self.new.counts.items ≡ sent_numbers self.old.counts.items }
+        ensures flows { OnOk result ((ends : List WayEnd) (under_way : ℕ → ℕ) (end : WayEnd)
+            → end.tag ≡ tag.now → end.outcome ≡ Delivered → end.time ≡ arrival.now
+            → end.octets ≡ arrival.octets
+            → AreFlows ends (λ j. one_of j tag.now + under_way j)
+            self.old.counts.items self.old.times.items
+            → AreFlows (ends ++ end ∷ []) under_way self.new.counts.items self.new.times.items) }
+        ensures sent { sent_numbers self.new.counts.items ≡ sent_numbers self.old.counts.items }
     {
         match tag.role {
             Role::Reply => self.answer(tag.source, tag.at, arrival),
@@ -138,7 +207,10 @@ impl Flows {
 
     /// The reply to a packet that a source made at `at` arrives at a node.
     fn answer(&mut self, source: SourceNo, at: Time, arrival: Arrival) -> Result<(), AllocError>
-        ensures { sent_numbers self.new.counts.items ≡ sent_numbers self.old.counts.items }
+        ensures flows { OnOk result ((ends : List WayEnd) (under_way : ℕ → ℕ)
+            → AreFlows ends under_way self.old.counts.items self.old.times.items
+            → AreFlows ends under_way self.new.counts.items self.new.times.items) }
+        ensures sent { sent_numbers self.new.counts.items ≡ sent_numbers self.old.counts.items }
     {
         if self.homes.get(source.index()).copied() == Some(arrival.node) {
             return match self.times.get_mut(source.index()) {

@@ -1,7 +1,8 @@
 //! One direction of a link.
 
-ghost use Rattle.std.specs.Prelude.{◌≡◌, ◌≤◌, ◌<◌, ◌+◌, ◌-◌, ◌∷◌, ◌++◌, OnOk, []};
+ghost use Rattle.std.specs.Prelude.{◌≡◌, ◌≤◌, ◌<◌, ◌+◌, ◌-◌, ◌∷◌, ◌++◌, OnOk, [], length};
 ghost use Rattle.std.specs.VecDeque.{deque_len};
+ghost use Rattle.nm_measure.specs.Ways.{nobodys};
 
 use crate::tag::Tag;
 use std::alloc::{AllocError, Global};
@@ -24,6 +25,7 @@ impl Lane {
     /// No packets.
     pub(crate) fn new(alloc: Global) -> Self
         ensures line { result.line.items ≡ [] }
+        ensures waiting { result.waiting ≡ 0 }
     {
         Lane {
             line: VecDeque::new(alloc),
@@ -47,6 +49,7 @@ impl Lane {
     /// A packet's transmission starts at once. No packet waits.
     pub(crate) fn send(&mut self, tag: Tag) -> Result<(), AllocError>
         ensures line { OnOk result (self.new.line.items ≡ self.old.line.items ++ tag ∷ []) }
+        ensures waiting { self.new.waiting ≡ self.old.waiting }
     {
         self.line.push_back(tag)?;
         Ok(())
@@ -73,8 +76,10 @@ impl Lane {
     /// The packet that has been on the link longest arrives, if there is one.
     pub(crate) fn arrive(&mut self) -> Tag
         ensures waiting { self.new.waiting ≡ self.old.waiting }
-        ensures line { self.old.waiting < deque_len self.old.line
+        ensures line { self.old.waiting < length self.old.line.items
             → self.old.line.items ≡ result ∷ self.new.line.items }
+        ensures none { length self.old.line.items ≤ self.old.waiting
+            → (self.new.line.items ≡ self.old.line.items) × (result ≡ nobodys) }
     {
         if self.line.len() <= self.waiting {
             return Tag::of_nobody();

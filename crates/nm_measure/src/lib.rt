@@ -21,6 +21,7 @@ pub mod share;
 pub mod spread;
 mod sums;
 mod tag;
+mod tags;
 pub mod totals;
 pub mod usage;
 mod watched;

@@ -1,14 +1,17 @@
 //! A network at a time of its run, with its measurements.
 
 ghost use Rattle.std.specs.Prelude.{◌≡◌, ℕ, suc, ◌-◌, ◌<◌, ◌≤◌, ◌^◌, ◌++◌, min, List, None, Option, Some};
-ghost use Rattle.std.specs.Prelude.{IfOk, IfSome, IsSomeAnd, OnOk, length};
+ghost use Rattle.std.specs.Prelude.{◌+◌, IfOk, IfSome, IsSomeAnd, OnOk, length, map, option_map};
 ghost use Rattle.nm_base.specs.Count.{saturated};
 ghost use Rattle.nm_base.specs.declared.record.Record.{Record};
 ghost use Rattle.nm_model.specs.Run.{in_record, out_record};
 ghost use Rattle.nm_sim.specs.Effects.{IsPlaceIn};
 ghost use Rattle.nm_measure.specs.Amounts.{AreTraffic, IsCame, IsWent};
 ghost use Rattle.nm_measure.specs.Interfaces.{AreSeen, IsNext};
-ghost use Rattle.nm_measure.specs.Sent.{sent_in, sent_later};
+ghost use Rattle.nm_measure.specs.Counted.{HasArrivals, HasEnds, lasting};
+ghost use Rattle.nm_measure.specs.Measured.{HasWatched};
+ghost use Rattle.nm_measure.specs.Sent.{AreSent, sent_in, sent_later};
+ghost use Rattle.nm_measure.specs.Ways.{ends_in};
 ghost use Rattle.nm_model.specs.Run.{one_list};
 ghost use Rattle.nm_measure.specs.Amounts.{iface_traffic_of, drops_of};
 ghost use Rattle.nm_measure.specs.Busy.{busy_before, busy_share};
@@ -60,6 +63,8 @@ struct OverTime {
 }
 
 impl Model for Measured {
+    ghost use Rattle.std.specs.Prelude.{map};
+    ghost use Rattle.nm_measure.specs.Counted.{lasting};
     ghost use Rattle.nm_measure.specs.Flows.{sent_numbers};
     ghost use Rattle.nm_measure.specs.Measured.{MeasuredValue};
 
@@ -70,6 +75,9 @@ impl Model for Measured {
       traffic = m.traffic.items;
       seen = m.interfaces.all.items;
       sent = sent_numbers m.watched.flows.counts.items;
+      counts = m.watched.flows.counts.items;
+      times = map lasting m.watched.flows.times.items;
+      lanes = m.watched.lanes.items;
     } };
 }
 
@@ -164,7 +172,12 @@ impl Measured {
             → IsNext topology.now n now place self.old.part happened
             → AreSeen topology.now first (suc n) self.new.seen) }
         ensures sent { OnOk result (self.new.sent ≡ sent_later place self.old.sent) }
+        ensures watched { OnOk result ((n : ℕ) → self.old.part.steps ≡ n + 1
+            → AreSent topology.now n self.old.sent
+            → IsNext topology.now n now place self.old.part happened
+            → HasWatched topology.now n self.old → HasWatched topology.now (suc n) self.new) }
     {
+        self.part.events(); // law: no more than 2^62
         progress.note_records(self.part.made(), RECORDS_OF_AN_EVENT, now);
         self.interfaces
             .see(topology, &self.part, now, &place, &happened);
@@ -371,12 +384,18 @@ impl Measured {
         ensures sent { (t : TopologyValue) (until : ℕ) (m : IsMeasuredBefore t until self.now)
             → source < length t.sources → IsSomeAnd result
             (λ f. f.sent ≡ saturated (sent_in (net_of t) source m.events)) }
+        ensures ended { (t : TopologyValue) (until : ℕ) (m : IsMeasuredBefore t until self.now)
+            → source < length t.sources → IsSomeAnd result (HasEnds source (ends_in t m.events)) }
     {
         self.watched.flow(source)
     }
 
     /// How much of what a source sent arrived, and how late. `None` if there is no such source.
-    pub fn times(&self, source: SourceNo) -> Option<&FlowTimes> {
+    pub fn times(&self, source: SourceNo) -> Option<&FlowTimes>
+        ensures { (t : TopologyValue) (until : ℕ) (m : IsMeasuredBefore t until self.now)
+            → source < length t.sources → IsSomeAnd (option_map (λ x. x.now) result)
+            (HasArrivals source (ends_in t m.events)) }
+    {
         self.watched.times(source)
     }
 }

@@ -1,5 +1,8 @@
 //! The source of a packet.
 
+ghost use Rattle.std.specs.Prelude.{◌≡◌};
+ghost use Rattle.nm_measure.specs.Ways.{nobodys, own_tag, reply_to};
+
 use nm_base::{SourceNo, Time};
 
 /// How a packet counts for a source.
@@ -29,7 +32,9 @@ pub(crate) struct Tag {
 
 impl Tag {
     /// The tag of the packet with this number, which a source makes at this time.
-    pub(crate) fn of_source(source: SourceNo, number: u64, at: Time) -> Tag {
+    pub(crate) fn of_source(source: SourceNo, number: u64, at: Time) -> Tag
+        ensures { result ≡ own_tag source number at }
+    {
         Tag {
             role: Role::Sent,
             source,
@@ -39,7 +44,9 @@ impl Tag {
     }
 
     /// The tag of a packet that counts for no source.
-    pub(crate) fn of_nobody() -> Tag {
+    pub(crate) fn of_nobody() -> Tag
+        ensures { result ≡ nobodys }
+    {
         Tag {
             role: Role::Nothing,
             source: SourceNo::new(0),
@@ -49,7 +56,9 @@ impl Tag {
     }
 
     /// The tag of the echo reply to this packet.
-    pub(crate) fn of_reply(&self) -> Tag {
+    pub(crate) fn of_reply(&self) -> Tag
+        ensures { result ≡ reply_to self.now }
+    {
         match self.role {
             Role::Sent => Tag {
                 role: Role::Reply,

@@ -1,6 +1,21 @@
 //! What becomes of the packets of sources, observed event by event.
 
-ghost use Rattle.std.specs.Prelude.{◌≡◌, ◌<◌, IfOk, OnOk, length, slice_get};
+ghost use Rattle.std.specs.Prelude.{◌≡◌, ◌≢◌, ℕ, suc, ◌+◌, ◌<◌, ◌^◌, ◌++◌, ◌∷◌, [], List, None, Some, IfOk, OnOk, length, map, option_map, slice_get};
+ghost use Rattle.nm_forward.specs.declared.counter.Counter.{Counter};
+ghost use Rattle.nm_base.specs.declared.key.Place.TheVariants.{Arrive, Complete, Fire};
+ghost use Rattle.nm_events.specs.Held.{Held};
+ghost use Rattle.nm_sim.specs.Part.{PartValue};
+ghost use Rattle.nm_measure.specs.Interfaces.{IsNext};
+ghost use Rattle.nm_model.specs.Lists.{set_at};
+ghost use Rattle.nm_model.specs.declared.offering.Offering.TheVariants.{Nothing};
+ghost use Rattle.nm_measure.specs.declared.flow_counts.PacketOutcome.{PacketOutcome};
+ghost use Rattle.nm_measure.specs.declared.flow_counts.PacketOutcome.TheVariants.{Delivered, Dropped};
+ghost use Rattle.nm_measure.specs.declared.lane.Lane.{Lane};
+ghost use Rattle.nm_measure.specs.declared.tag.Tag.{Tag};
+ghost use Rattle.nm_measure.specs.Counted.{lasting};
+ghost use Rattle.nm_measure.specs.Lanes.{CanBe, IsDropOf, IsEndOf, Watches, WatchesRun, left_in_hand, one_of};
+ghost use Rattle.nm_measure.specs.Lanes.{with_offer, with_start};
+ghost use Rattle.nm_measure.specs.Ways.{WayEnd, answer_tag, dropped_as, ended_as, fate_by, outcome_by};
 ghost use Rattle.nm_sim.specs.Effects.{IsPlaceIn};
 ghost use Rattle.nm_measure.specs.Flows.{sent_numbers};
 ghost use Rattle.nm_measure.specs.Sent.{AreSent, sent_later, with_sent};
@@ -12,6 +27,7 @@ use crate::flow_times::FlowTimes;
 use crate::flows::{Arrival, Flows};
 use crate::lane::Lane;
 use crate::tag::Tag;
+use crate::tags::tags_change_no_run;
 use nm_base::{Dir, IfaceNo, NodeNo, Place, SourceNo, Time};
 use nm_events::HeapList;
 use nm_model::Offering;
@@ -39,9 +55,13 @@ struct Offer {
 }
 
 /// The direction of each interface, without packets.
-fn lanes_of(alloc: Global, topology: &Topology) -> Result<Vec<Lane>, AllocError> {
+fn lanes_of(alloc: Global, topology: &Topology) -> Result<Vec<Lane>, AllocError>
+    ensures count { IfOk result (λ all. length all.items ≡ length topology.now.ifaces) }
+    ensures none { IfOk result (λ all. (i : ℕ) (x : Lane) → slice_get all.items i ≡ Some x
+        → (x.line.items ≡ []) × (x.waiting ≡ 0)) }
+{
     let mut all = Vec::new(alloc);
-    for _ in 0..topology.ifaces().len() {
+    for _number in 0..topology.ifaces().len() {
         all.push(Lane::new(alloc))?;
     }
     Ok(all)
@@ -53,7 +73,9 @@ fn hop(iface: IfaceNo, dir: Dir, time: Time) -> Hop {
 }
 
 /// What is said of a packet that arrived, and why.
-fn said_of(arrived: &Arrived) -> (Fate, Reason) {
+fn said_of(arrived: &Arrived) -> (Fate, Reason)
+    ensures { (counter : Counter) → arrived.now.counter ≡ Some counter → result.0 ≡ fate_by counter }
+{
     match arrived.counter {
         Some(counter) => (fate_of(counter), Reason::Counted(counter)),
         None => (Fate::Discarded, Reason::Unknown),
@@ -61,12 +83,25 @@ fn said_of(arrived: &Arrived) -> (Fate, Reason) {
 }
 
 /// The outcome of a fate, if that ends a packet's way.
-fn outcome_of(fate: Fate) -> Option<PacketOutcome> {
+fn outcome_of(fate: Fate) -> Option<PacketOutcome>
+    ensures { result ≡ outcome_by fate }
+{
     match fate {
         Fate::SentOn => None,
         Fate::Told | Fate::Delivered | Fate::Requested => Some(PacketOutcome::Delivered),
         Fate::Refused => Some(PacketOutcome::Refused),
         Fate::Discarded => Some(PacketOutcome::Discarded),
+    }
+}
+
+/// The tag of what a node sends in reaction to a packet, by what it did with that.
+fn answer_to(fate: Fate, tag: Tag) -> Tag
+    ensures { result ≡ answer_tag fate tag }
+{
+    match fate {
+        Fate::SentOn => tag,
+        Fate::Requested => tag.of_reply(),
+        Fate::Delivered | Fate::Told | Fate::Refused | Fate::Discarded => Tag::of_nobody(),
     }
 }
 
@@ -77,7 +112,8 @@ impl Watched {
         topology: &Topology,
         followed: Option<SourceNo>,
     ) -> Result<Self, AllocError>
-        ensures { IfOk result (λ w. AreSent topology.now 0 (sent_numbers w.flows.counts.items)) }
+        ensures sent { IfOk result (λ w. AreSent topology.now 0 (sent_numbers w.flows.counts.items)) }
+        ensures watches { IfOk result (WatchesRun topology.now 0) }
     {
         let courses = match followed {
             Some(source) => Some(Courses::new(alloc, source)),
@@ -93,14 +129,18 @@ impl Watched {
 
     /// The greatest delay of a source's packets that arrived since this was called last.
     pub(crate) fn take_greatest(&mut self, source: SourceNo) -> u64
-        ensures { self.new.flows.counts ≡ self.old.flows.counts }
+        ensures counts { self.new.flows.counts ≡ self.old.flows.counts }
+        ensures times { map lasting self.new.flows.times.items
+            ≡ map lasting self.old.flows.times.items }
+        ensures lanes { self.new.lanes ≡ self.old.lanes }
     {
         self.flows.take_greatest(source)
     }
 
     /// The first followed packet that ended and was not taken yet.
     pub(crate) fn take_ended(&mut self) -> Option<Ended>
-        ensures { self.new.flows ≡ self.old.flows }
+        ensures flows { self.new.flows ≡ self.old.flows }
+        ensures lanes { self.new.lanes ≡ self.old.lanes }
     {
         match &mut self.courses {
             Some(courses) => courses.take_ended(),
@@ -110,7 +150,8 @@ impl Watched {
 
     /// The followed packet with the least number that is under way.
     pub(crate) fn take_open(&mut self) -> Option<Course>
-        ensures { self.new.flows ≡ self.old.flows }
+        ensures flows { self.new.flows ≡ self.old.flows }
+        ensures lanes { self.new.lanes ≡ self.old.lanes }
     {
         match &mut self.courses {
             Some(courses) => courses.take_open(),
@@ -118,9 +159,21 @@ impl Watched {
         }
     }
 
+    /// The way of a packet begins.
+    fn begin(&mut self, tag: &Tag) -> Result<(), AllocError>
+        ensures flows { self.new.flows ≡ self.old.flows }
+        ensures lanes { self.new.lanes ≡ self.old.lanes }
+    {
+        match &mut self.courses {
+            Some(courses) => courses.begin(tag),
+            None => Ok(()),
+        }
+    }
+
     /// A packet passes an interface.
     fn pass(&mut self, tag: &Tag, hop: Hop) -> Result<(), AllocError>
-        ensures { self.new.flows ≡ self.old.flows }
+        ensures flows { self.new.flows ≡ self.old.flows }
+        ensures lanes { self.new.lanes ≡ self.old.lanes }
     {
         match &mut self.courses {
             Some(courses) => courses.pass(tag, hop),
@@ -130,7 +183,8 @@ impl Watched {
 
     /// The way of a packet is over.
     fn end(&mut self, tag: &Tag, end: End) -> Result<(), AllocError>
-        ensures { self.new.flows ≡ self.old.flows }
+        ensures flows { self.new.flows ≡ self.old.flows }
+        ensures lanes { self.new.lanes ≡ self.old.lanes }
     {
         match &mut self.courses {
             Some(courses) => courses.end(tag, end),
@@ -146,7 +200,9 @@ impl Watched {
     }
 
     /// How much of what a source sent arrived, and how late.
-    pub(crate) fn times(&self, source: SourceNo) -> Option<&FlowTimes> {
+    pub(crate) fn times(&self, source: SourceNo) -> Option<&FlowTimes>
+        ensures { option_map (λ x. x.now) result ≡ slice_get self.now.flows.times.items source }
+    {
         self.flows.times(source)
     }
 
@@ -164,20 +220,35 @@ impl Watched {
         happened: &Happened,
     ) -> Result<(), AllocError>
         requires { IsPlaceIn topology.now place.now }
-        ensures { OnOk result (sent_numbers self.new.flows.counts.items
+        ensures watches { OnOk result ((n : ℕ) (p : PartValue Held) → n + 1 < 2 ^ 64
+            → AreSent topology.now n (sent_numbers self.old.flows.counts.items)
+            → IsNext topology.now n now place.now p happened.now
+            → WatchesRun topology.now n self.old → WatchesRun topology.now (suc n) self.new) }
+        ensures sent { OnOk result (sent_numbers self.new.flows.counts.items
             ≡ sent_later place.now (sent_numbers self.old.flows.counts.items)) }
     {
         match place {
-            Place::Complete(_) => self.see_completion(now, happened),
+            Place::Complete(iface) => self.see_completion(topology, *iface, now, happened),
             Place::Arrive(iface) => self.see_arrival(topology, *iface, now, happened),
             Place::Fire(source) => self.see_source(topology, part, *source, now, happened),
         }
     }
 
     /// Sees an interface complete a transmission. What waited longest there starts, if it did.
-    fn see_completion(&mut self, now: Time, happened: &Happened) -> Result<(), AllocError>
-        ensures { self.new.flows ≡ self.old.flows }
+    fn see_completion(
+        &mut self,
+        topology: &Topology,
+        iface: IfaceNo,
+        now: Time,
+        happened: &Happened,
+    ) -> Result<(), AllocError>
+        requires there { iface < length topology.now.ifaces }
+        ensures flows { self.new.flows ≡ self.old.flows }
+        ensures watches { OnOk result ((n : ℕ) (p : PartValue Held)
+            → IsNext topology.now n now (Complete iface) p happened.now
+            → WatchesRun topology.now n self.old → WatchesRun topology.now (suc n) self.new) }
     {
+        tags_change_no_run(topology); // law: tags are those of the one event list
         let Some(started) = &happened.started else {
             return Ok(());
         };
@@ -200,11 +271,15 @@ impl Watched {
         now: Time,
         happened: &Happened,
     ) -> Result<(), AllocError>
-        ensures { sent_numbers self.new.flows.counts.items ≡ sent_numbers self.old.flows.counts.items }
+        requires there { number < length topology.now.ifaces }
+        ensures watches { OnOk result ((n : ℕ) (p : PartValue Held)
+            → IsNext topology.now n now (Arrive number) p happened.now
+            → WatchesRun topology.now n self.old → WatchesRun topology.now (suc n) self.new) }
+        ensures sent { sent_numbers self.new.flows.counts.items
+            ≡ sent_numbers self.old.flows.counts.items }
     {
-        let Some(iface) = topology.ifaces().get(number.index()) else {
-            return Ok(());
-        };
+        tags_change_no_run(topology); // law: tags are those of the one event list
+        let iface = topology.iface(number);
         let node = iface.node();
         let tag = self.leave_link(iface.far().iface);
         self.pass(&tag, hop(number, Dir::In, now))?;
@@ -212,22 +287,15 @@ impl Watched {
             return Ok(());
         };
         let (fate, reason) = said_of(arrived);
-        if let Fate::SentOn = fate {
-            return self.see_offer(Offer { node, tag, now }, happened.offering);
-        }
         let arrival = Arrival {
             node,
             octets: u64::from(arrived.octets),
             now,
         };
         self.see_end(&tag, fate, reason, arrival)?;
-        let answer = match fate {
-            Fate::Requested => tag.of_reply(),
-            _ => Tag::of_nobody(),
-        };
         let offer = Offer {
             node,
-            tag: answer,
+            tag: answer_to(fate, tag),
             now,
         };
         self.see_offer(offer, happened.offering)
@@ -235,7 +303,11 @@ impl Watched {
 
     /// The packet that is longest on the link from an interface leaves it.
     fn leave_link(&mut self, from: IfaceNo) -> Tag
-        ensures { self.new.flows ≡ self.old.flows }
+        ensures flows { self.new.flows ≡ self.old.flows }
+        ensures watches { (count : ℕ) (all : ℕ → List Tag × List Tag) (tag : Tag) (on : List Tag)
+            (ends : List WayEnd) → Watches count all [] ends self.old → from < count
+            → (all from).0 ≡ tag ∷ on → (result ≡ tag)
+            × Watches count (set_at all from (on, (all from).1)) (tag ∷ []) ends self.new }
     {
         match self.lanes.get_mut(from.index()) {
             Some(lane) => lane.arrive(),
@@ -251,7 +323,12 @@ impl Watched {
         reason: Reason,
         arrival: Arrival,
     ) -> Result<(), AllocError>
-        ensures { sent_numbers self.new.flows.counts.items ≡ sent_numbers self.old.flows.counts.items }
+        ensures watches { OnOk result ((count : ℕ) (all : ℕ → List Tag × List Tag)
+            (ends : List WayEnd) (end : PacketOutcome → WayEnd) → IsEndOf tag.now arrival end
+            → Watches count all (tag.now ∷ []) ends self.old
+            → Watches count all (left_in_hand (outcome_by fate) tag.now)
+            (ends ++ ended_as end (outcome_by fate)) self.new) }
+        ensures sent { sent_numbers self.new.flows.counts.items ≡ sent_numbers self.old.flows.counts.items }
     {
         let Some(outcome) = outcome_of(fate) else {
             return Ok(());
@@ -263,14 +340,14 @@ impl Watched {
             time: arrival.now,
         };
         self.end(tag, end)?;
-        match fate {
-            Fate::Told => self.flows.tell(tag, arrival),
-            Fate::Delivered | Fate::Requested => self.flows.deliver(tag, arrival),
-            Fate::SentOn | Fate::Refused | Fate::Discarded => {
-                self.flows.end(tag, outcome);
-                Ok(())
-            }
+        if let Fate::Told = fate {
+            return self.flows.tell(tag, arrival);
         }
+        if let PacketOutcome::Delivered = outcome {
+            return self.flows.deliver(tag, arrival);
+        }
+        self.flows.end(tag, outcome);
+        Ok(())
     }
 
     /// Sees a source make a packet. What its node does not send is discarded.
@@ -283,33 +360,41 @@ impl Watched {
         happened: &Happened,
     ) -> Result<(), AllocError>
         requires there { source < length topology.now.sources }
-        ensures { OnOk result (sent_numbers self.new.flows.counts.items
+        ensures watches { OnOk result ((n : ℕ) (p : PartValue Held) → n + 1 < 2 ^ 64
+            → AreSent topology.now n (sent_numbers self.old.flows.counts.items)
+            → IsNext topology.now n now (Fire source) p happened.now
+            → WatchesRun topology.now n self.old → WatchesRun topology.now (suc n) self.new) }
+        ensures sent { OnOk result (sent_numbers self.new.flows.counts.items
             ≡ with_sent source (sent_numbers self.old.flows.counts.items)) }
     {
+        tags_change_no_run(topology); // law: tags are those of the one event list
         let Some(from) = topology.sources().get(source.index()) else {
             return Ok(());
         };
         let tag = self.flows.send(source, now);
-        if let Some(courses) = &mut self.courses {
-            courses.begin(&tag)?;
-        }
+        self.begin(&tag)?;
         let node = from.node;
         if let Offering::Nothing = happened.offering {
-            self.flows.end(&tag, PacketOutcome::Discarded);
             let end = End {
                 outcome: PacketOutcome::Discarded,
                 reason: Reason::Counted(self.refusals.reason(part, node)),
                 place: EndPlace::Node(node),
                 time: now,
             };
-            return self.end(&tag, end);
+            return self.see_loss(&tag, end);
         }
         self.see_offer(Offer { node, tag, now }, happened.offering)
     }
 
     /// Sees what becomes of a packet that a node sends: it starts, waits, or is dropped.
     fn see_offer(&mut self, offer: Offer, offering: Offering) -> Result<(), AllocError>
-        ensures { sent_numbers self.new.flows.counts.items ≡ sent_numbers self.old.flows.counts.items }
+        ensures watches { OnOk result ((count : ℕ) (all : ℕ → List Tag × List Tag)
+            (ends : List WayEnd) (end : PacketOutcome → WayEnd) → IsDropOf offer.tag end
+            → CanBe count all offering → ((j : ℕ) → offering ≡ Nothing → one_of j offer.tag ≡ 0)
+            → Watches count all (offer.tag ∷ []) ends self.old
+            → Watches count (with_offer offering offer.tag all) [] (ends ++ dropped_as end offering)
+            self.new) }
+        ensures sent { sent_numbers self.new.flows.counts.items ≡ sent_numbers self.old.flows.counts.items }
     {
         match offering {
             Offering::Started(iface) => self.see_start(offer, iface),
@@ -324,7 +409,11 @@ impl Watched {
 
     /// Sees the transmission of a packet start that was offered to this interface.
     fn see_start(&mut self, offer: Offer, iface: IfaceNo) -> Result<(), AllocError>
-        ensures { self.new.flows ≡ self.old.flows }
+        ensures flows { self.new.flows ≡ self.old.flows }
+        ensures watches { OnOk result ((count : ℕ) (all : ℕ → List Tag × List Tag)
+            (ends : List WayEnd) → Watches count all (offer.tag ∷ []) ends self.old → iface < count
+            → (all iface).1 ≡ []
+            → Watches count (with_start iface offer.tag all) [] ends self.new) }
     {
         self.pass(&offer.tag, hop(iface, Dir::Out, offer.now))?;
         match self.lanes.get_mut(iface.index()) {
@@ -335,15 +424,33 @@ impl Watched {
 
     /// Sees a packet dropped at a queue.
     fn see_drop(&mut self, tag: &Tag, iface: IfaceNo, now: Time) -> Result<(), AllocError>
-        ensures { sent_numbers self.new.flows.counts.items ≡ sent_numbers self.old.flows.counts.items }
+        ensures watches { OnOk result ((count : ℕ) (all : ℕ → List Tag × List Tag)
+            (ends : List WayEnd) (end : WayEnd) → end.tag ≡ tag.now → end.outcome ≡ Dropped
+            → Watches count all (tag.now ∷ []) ends self.old
+            → Watches count all [] (ends ++ end ∷ []) self.new) }
+        ensures sent { sent_numbers self.new.flows.counts.items
+            ≡ sent_numbers self.old.flows.counts.items }
     {
-        self.flows.end(tag, PacketOutcome::Dropped);
         let end = End {
             outcome: PacketOutcome::Dropped,
             reason: Reason::NoRoom,
             place: EndPlace::Iface(iface),
             time: now,
         };
+        self.see_loss(tag, end)
+    }
+
+    /// Sees the way of a packet end without a delivery.
+    fn see_loss(&mut self, tag: &Tag, end: End) -> Result<(), AllocError>
+        requires lost { end.outcome ≢ Delivered }
+        ensures watches { OnOk result ((count : ℕ) (all : ℕ → List Tag × List Tag)
+            (ends : List WayEnd) (way : WayEnd) → way.tag ≡ tag.now → way.outcome ≡ end.outcome
+            → Watches count all (tag.now ∷ []) ends self.old
+            → Watches count all [] (ends ++ way ∷ []) self.new) }
+        ensures sent { sent_numbers self.new.flows.counts.items
+            ≡ sent_numbers self.old.flows.counts.items }
+    {
+        self.flows.end(tag, end.outcome);
         self.end(tag, end)
     }
 }

@@ -1,4 +1,4 @@
-use Rattle.std.proofs.Common.{◌≡◌, ◌^◌, ◌<◌, ℕ, suc, Some, None, length, max, sym, ap, ◌∙◌, subst, arith}
+use Rattle.std.proofs.Common.{◌^◌, ◌<◌, ℕ, suc, max, sym, ◌∙◌, subst, arith}
 use Rattle.nm_model.specs.Run.{one_list}
 use Rattle.nm_sim.specs.Network.{net_of}
 use Rattle.nm_base.specs.declared.wanted.Wanted.TheVariants.{Nothing}

@@ -1,11 +1,10 @@
-use Rattle.std.proofs.Common.{◌≡◌, ◌+◌, None, Some, Ok, rules, sym, ap, ◌∙◌, subst}
+use Rattle.std.proofs.Common.{arith, ◌≡◌, ◌+◌, None, Ok, sym, ap, ◌∙◌, subst}
 use Rattle.nm_events.specs.Held.{pending_of}
 use Rattle.nm_model.specs.Run.{one_list}
 use Rattle.nm_sim.specs.Network.{net_of}
-use Rattle.nm_sim.specs.Part.{SteppedAndTold, events_told}
+use Rattle.nm_sim.specs.Part.{Represents, SteppedAndTold, events_told}
 use Rattle.nm_measure.specs.contracts.measured.Measured.{the_view}
-use Rattle.nm_measure.specs.Flows.{sent_numbers}
-use Rattle.nm_measure.specs.Measured.{IsMeasuredBefore, IsMeasuring, MeasuredValue}
+use Rattle.nm_measure.specs.Measured.{IsMeasuredBefore, IsMeasuring, KeepsNone, MeasuredValue}
 use Rattle.nm_measure.proofs.Advances.{measuring_first, measuring_next, next_of, place_in}
 use Rattle.nm_measure.proofs.measured.Measured.advance.Goals as goal
 
@@ -14,7 +13,7 @@ loop-done-init c =
     let t = c.args.topology.now in
     let z = c.requires.from in
     let was = subst (IsMeasuredBefore t z.0) (sym c.self.view_is) z.2 in
-    subst (λ (v : MeasuredValue). IsMeasuring t v.part.steps c.args.until (record { part = c.self.inside.part; traffic = c.self.inside.traffic.items; seen = c.begin_recent.new.self.all.items; sent = sent_numbers c.self.inside.watched.flows.counts.items })) c.self.view_is
+    subst (λ (v : MeasuredValue). IsMeasuring t v.part.steps c.args.until (record (the_view c.self.inside) { seen = c.begin_recent.new.self.all.items })) c.self.view_is
     (measuring_first t z.0 c.args.until (the_view c.self.inside) was z.1 c.begin_recent.new.self.all.items (c.begin_recent.ensures t))
 
 pub step_and_tell-requires-clause-represents : goal.step_and_tell-requires-clause-represents
@@ -48,6 +47,32 @@ loop-done-preserved c =
     let next = next_of t first c.args.until inside m q told.key told.happened more.0 more.1 more.2 more.3 c.requires.before in
     let one : q.steps ≡ c.self-in-loop-done.inside.part.steps + 1 = c.in_ok-told.ensures.steps ∙ ap (λ o. c.self-in-loop-done.inside.part.steps + events_told (Ok o)) c.in-Some.is in
     let new = c.see.new.self in
-    subst (λ p. IsMeasuring t first c.args.until (record { part = p; traffic = new.traffic; seen = new.seen; sent = new.sent })) (sym c.see.ensures.part)
-    (measuring_next t first c.args.until inside m q told.key told.happened more.0 more.1 more.2 more.3 new.traffic new.seen new.sent
-    (c.in_ok-see.ensures.traffic t) c.step_and_tell.ensures.keeping one (c.in_ok-see.ensures.seen first m.events m.seen next) c.in_ok-see.ensures.sent)
+    let few = m.steps in
+    subst (λ p. IsMeasuring t first c.args.until (record new { part = p })) (sym c.see.ensures.part)
+    (measuring_next t first c.args.until inside m q told.key told.happened more.0 more.1 more.2 more.3 new
+    (c.in_ok-see.ensures.traffic t) c.step_and_tell.ensures.keeping one (c.in_ok-see.ensures.seen first m.events m.seen next) c.in_ok-see.ensures.sent
+    (c.in_ok-see.ensures.watched m.events (omega (arith, few, one)) m.sent next m.watched))
+
+pub returns-in_default-clause-before : goal.returns-in_default-clause-before
+returns-in_default-clause-before c =
+    let t = c.args.topology.now in
+    let first = c.args.self.now.part.steps in
+    let m = subst (IsMeasuring t first c.args.until) (sym c.self-in-loop-done.view_is) c.loop-done.invariant in
+    let s = one_list (net_of t) m.events in
+    let old = c.self-in-loop-done.inside.part in
+    let same = subst (λ o. SteppedAndTold pending_of t (record { part = None; state = s; until = c.args.until }) old c.step_and_tell.new.self (Ok o)) c.in_default.is
+    (c.in_ok-told.ensures.step None s m.counted.represents) in
+    record {
+      events = m.events;
+      over = record { over = same.1; first = m.early };
+      represents = subst (λ q. Represents pending_of t None q s) (sym same.0) m.counted.represents;
+      traffic = m.counted.counted;
+      keeps = subst KeepsNone (sym same.0) m.counted.keeps;
+      within = c.requires.before;
+      stops = c.accepted_topologies_are_in_order.ensures.limits.greatest_stop;
+      steps = ap (λ q. q.steps) same.0 ∙ m.steps;
+      first = first;
+      seen = m.seen;
+      sent = m.sent;
+      watched = m.watched;
+    }

@@ -1,4 +1,4 @@
-use Rattle.std.proofs.Common.{◌≡◌, sym, ap, subst}
+use Rattle.std.proofs.Common.{◌≡◌, sym, subst}
 use Rattle.nm_base.specs.Count.{saturated}
 use Rattle.nm_sim.specs.Network.{net_of}
 use Rattle.nm_measure.specs.Sent.{sent_in}

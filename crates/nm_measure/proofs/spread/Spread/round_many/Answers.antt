@@ -1,4 +1,4 @@
-use Rattle.std.proofs.Common.{◌≡◌, Bool, ◌<◌, false, length, rules, subst}
+use Rattle.std.proofs.Common.{Bool, ◌<◌, length, rules, subst}
 use Rattle.nm_measure.specs.Spread.{IsSpread}
 use Rattle.nm_measure.proofs.Rows.{spread_rounded}
 use Rattle.nm_measure.proofs.spread.Spread.round_many.Goals as goal

@@ -1,4 +1,4 @@
-use Rattle.std.proofs.Common.{◌≡◌, ◌+◌, ◌∙◌, min, max, ap, refl}
+use Rattle.std.proofs.Common.{◌+◌, ◌∙◌, min, ap, refl}
 use Rattle.nm_measure.specs.declared.sums.Sums.{Sums}
 use Rattle.nm_measure.proofs.Added.{IsCompared, compared_added, first_differences, first_least, next_differences, next_least}
 use Rattle.nm_measure.proofs.sums.Sums.add.Goals as goal

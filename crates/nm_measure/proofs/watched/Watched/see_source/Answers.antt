@@ -1,0 +1,72 @@
+use Rattle.std.proofs.Common.{◌++◌, ◌∷◌, suc, [], length, refl, sym, ap, ◌∙◌, subst}
+use Rattle.nm_sim.specs.Network.{net_of}
+use Rattle.nm_measure.specs.declared.flow_counts.PacketOutcome.TheVariants.{Discarded}
+use Rattle.nm_measure.specs.Flows.{sent_numbers}
+use Rattle.nm_measure.specs.Lanes.{AreWatched, Watches, lanes_in, with_offer}
+use Rattle.nm_measure.specs.Sent.{sent_in}
+use Rattle.nm_measure.specs.Ways.{dropped_as, end_of, ends_in, made_as, own_tag, tagged_list}
+use Rattle.nm_measure.proofs.Flowing.{on_ok}
+use Rattle.nm_measure.proofs.Firings.{made_dropped, sent_at, source_step}
+use Rattle.nm_measure.proofs.Laning.{to_hand, watched_as}
+use Rattle.nm_measure.proofs.watched.Watched.see_source.Goals as goal
+
+pub returns-in-Nothing-clause-watches : goal.returns-in-Nothing-clause-watches
+returns-in-Nothing-clause-watches c =
+    let t = c.args.topology.now in
+    let laws = c.tags_change_no_run.ensures in
+    let w = c.args.self.now in
+    let count = length t.ifaces in
+    let j = c.args.source in
+    let h = c.args.happened.now in
+    let tag = c.send-tag.result in
+    let sent = c.send-tag.new.self in
+    let begun = c.begin.new.self in
+    let new = c.see_loss.new.self in
+    on_ok c.see_loss.result _ _ (λ loses n p few made next was.
+    let step = source_step t laws.own n (laws.same n) laws.network (laws.orderly n) (laws.counts n) c.args.now j p h next in
+    let k = sent_in (net_of t) j n in
+    let at = sent_at t n (sent_numbers w.flows.counts.items) made j c.requires.there few in
+    let is = c.send-tag.ensures.tag k at.0 in
+    let all = lanes_in t (tagged_list t n) in
+    let ends = ends_in t n in
+    let one = to_hand count all tag ends w.lanes.items w.flows.counts.items sent.counts.items w.flows.times.items sent.times.items was (λ u f. c.send-tag.ensures.flows ends u k at.0 at.1 f) in
+    let two : Watches count all (tag ∷ []) ends begun =
+    subst (λ v. AreWatched count all (tag ∷ []) ends v.items begun.flows.counts.items begun.flows.times.items) (sym c.begin.ensures.lanes)
+    (subst (λ f. AreWatched count all (tag ∷ []) ends w.lanes.items f.counts.items f.times.items) (sym c.begin.ensures.flows) one) in
+    let way = end_of c.args.now (own_tag j k c.args.now, step.packet) in
+    let three = loses count all ends (way Discarded) (sym is) refl two in
+    subst (λ l. AreWatched count (lanes_in t (tagged_list t (suc n))) [] l new.lanes.items new.flows.counts.items new.flows.times.items)
+    (ap (λ o. ends ++ made_as way o) (sym c.in-Nothing.is) ∙ step.ends)
+    (watched_as count all (lanes_in t (tagged_list t (suc n))) [] (ends ++ way Discarded ∷ []) new.lanes.items new.flows.counts.items new.flows.times.items
+    (λ i. ap (λ o. with_offer o (own_tag j k c.args.now) all i) (sym c.in-Nothing.is) ∙ step.lanes i) three)) c.see_loss.ensures.watches
+
+pub returns-clause-watches : goal.returns-clause-watches
+returns-clause-watches c =
+    let t = c.args.topology.now in
+    let laws = c.tags_change_no_run.ensures in
+    let w = c.args.self.now in
+    let count = length t.ifaces in
+    let j = c.args.source in
+    let h = c.args.happened.now in
+    let tag = c.send-tag.result in
+    let sent = c.send-tag.new.self in
+    let begun = c.begin.new.self in
+    let new = c.see_offer.new.self in
+    on_ok c.see_offer.result _ _ (λ offers n p few made next was.
+    let step = source_step t laws.own n (laws.same n) laws.network (laws.orderly n) (laws.counts n) c.args.now j p h next in
+    let k = sent_in (net_of t) j n in
+    let at = sent_at t n (sent_numbers w.flows.counts.items) made j c.requires.there few in
+    let is = c.send-tag.ensures.tag k at.0 in
+    let all = lanes_in t (tagged_list t n) in
+    let ends = ends_in t n in
+    let one = to_hand count all tag ends w.lanes.items w.flows.counts.items sent.counts.items w.flows.times.items sent.times.items was (λ u f. c.send-tag.ensures.flows ends u k at.0 at.1 f) in
+    let two : Watches count all (tag ∷ []) ends begun =
+    subst (λ v. AreWatched count all (tag ∷ []) ends v.items begun.flows.counts.items begun.flows.times.items) (sym c.begin.ensures.lanes)
+    (subst (λ f. AreWatched count all (tag ∷ []) ends w.lanes.items f.counts.items f.times.items) (sym c.begin.ensures.flows) one) in
+    let way = end_of c.args.now (own_tag j k c.args.now, step.packet) in
+    let other = c.in_default-offering.not-Nothing in
+    let three = offers count all ends way (sym is, refl) step.can (λ i none. absurd (other none)) two in
+    subst (λ l. AreWatched count (lanes_in t (tagged_list t (suc n))) [] l new.lanes.items new.flows.counts.items new.flows.times.items)
+    (ap (λ l. ends ++ l) (sym (made_dropped way h.offering other)) ∙ step.ends)
+    (watched_as count (with_offer h.offering (own_tag j k c.args.now) all) (lanes_in t (tagged_list t (suc n))) [] (ends ++ dropped_as way h.offering) new.lanes.items new.flows.counts.items new.flows.times.items step.lanes
+    (subst (λ g. AreWatched count (with_offer h.offering g all) [] (ends ++ dropped_as way h.offering) new.lanes.items new.flows.counts.items new.flows.times.items) is three))) c.see_offer.ensures.watches

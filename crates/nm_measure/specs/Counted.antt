@@ -1,0 +1,80 @@
+-- The numbers of sources, by the ends of their packets' ways.
+use Rattle.std.specs.Prelude.{◌≡◌, ℕ, ◌-◌, ◌==◌, ◌&&◌, Bool, true, false, List, map, length, count_by, sum_by, slice_get, Some}
+use Rattle.nm_base.specs.Count.{saturated}
+use Rattle.nm_model.specs.Lists.{keep_where}
+use Rattle.nm_measure.specs.declared.flow_counts.FlowCounts.{FlowCounts}
+use Rattle.nm_measure.specs.declared.flow_counts.PacketOutcome.{PacketOutcome}
+use Rattle.nm_measure.specs.declared.flow_counts.PacketOutcome.TheVariants.{Delivered, Refused, Dropped, Discarded}
+use Rattle.nm_measure.specs.declared.flow_times.FlowTimes.{FlowTimes}
+use Rattle.nm_measure.specs.declared.tag.Role.{Role}
+use Rattle.nm_measure.specs.declared.tag.Role.TheVariants as role
+use Rattle.nm_measure.specs.declared.tag.Tag.{Tag}
+use Rattle.nm_measure.specs.Delays.{AreDelays, lasting_delays}
+use Rattle.nm_measure.specs.Ways.{WayEnd}
+
+abbrev pub is_sent : Role → Bool
+is_sent role.Sent = true
+is_sent role.Reply = false
+is_sent role.Nothing = false
+
+-- a packet that source j made
+abbrev pub is_own : ℕ → Tag → Bool
+is_own j tag = is_sent tag.role && (tag.source == j)
+
+abbrev pub outcome_number : PacketOutcome → ℕ
+outcome_number Delivered = 0
+outcome_number Refused = 1
+outcome_number Dropped = 2
+outcome_number Discarded = 3
+
+-- packets of source j whose ways ended so
+abbrev pub ended_so : ℕ → PacketOutcome → WayEnd → Bool
+ended_so j outcome e =
+    is_own j e.tag && (outcome_number e.outcome == outcome_number outcome)
+
+abbrev pub how_many : ℕ → PacketOutcome → List WayEnd → ℕ
+how_many j outcome ends = count_by (ended_so j outcome) ends
+
+-- from a source's event to the arrival of what it made then, of each packet that was delivered, in
+-- the order of the arrivals; and the octets of these packets
+abbrev pub delays_of : ℕ → List WayEnd → List ℕ
+delays_of j ends = map (λ e. e.time - e.tag.at) (keep_where (ended_so j Delivered) ends)
+
+abbrev pub octets_of : ℕ → List WayEnd → ℕ
+octets_of j ends = sum_by (λ e. e.octets) (keep_where (ended_so j Delivered) ends)
+
+-- what became of the packets of source j; so many are under way
+pub record HasOutcomes (j : ℕ) (ends : List WayEnd) (under_way : ℕ) (f : FlowCounts) : Type 0 where
+  pub delivered : f.delivered ≡ how_many j Delivered ends
+  pub refused : f.refused ≡ how_many j Refused ends
+  pub dropped : f.dropped ≡ how_many j Dropped ends
+  pub discarded : f.discarded ≡ how_many j Discarded ends
+  pub on_way : f.under_way ≡ under_way
+
+-- what became of those whose ways ended
+abbrev pub HasEnds : ℕ → List WayEnd → FlowCounts → Type 0
+HasEnds j ends f = HasOutcomes j ends f.under_way f
+
+-- how much of what source j sent arrived, and how late
+pub record HasArrivals (j : ℕ) (ends : List WayEnd) (x : FlowTimes) : Type 0 where
+  pub delays : AreDelays (delays_of j ends) x.delays
+  pub octets : x.octets ≡ saturated (octets_of j ends)
+
+-- of all sources
+abbrev pub AreOutcomes : List WayEnd → (under_way : ℕ → ℕ) → List FlowCounts → Type 0
+AreOutcomes ends under_way counts =
+    (j : ℕ) (f : FlowCounts) → slice_get counts j ≡ Some f → HasOutcomes j ends (under_way j) f
+
+abbrev pub AreArrivals : List WayEnd → List FlowTimes → Type 0
+AreArrivals ends times =
+    (j : ℕ) (x : FlowTimes) → slice_get times j ≡ Some x → HasArrivals j ends x
+
+pub record AreFlows (ends : List WayEnd) (under_way : ℕ → ℕ) (counts : List FlowCounts)
+    (times : List FlowTimes) : Type 0 where
+  pub outcomes : AreOutcomes ends under_way counts
+  pub arrivals : AreArrivals ends times
+  pub same : length times ≡ length counts
+
+-- what stays of these numbers when the greatest delay is looked for anew
+abbrev pub lasting : FlowTimes → FlowTimes
+lasting x = record x { delays = lasting_delays x.delays }
