@@ -4,6 +4,8 @@ The manner is that of Draves, King, Venkatachary and Zill, "Constructing Optimal
 difference: what no interface has is left open, and a prefix is no shorter than what it stands for.
 """
 
+import bisect
+
 
 class Tree:
     """The addresses as a binary tree: a leaf for those of one owner that stand together, and an inner place where two
@@ -11,68 +13,44 @@ class Tree:
 
     def __init__(self, addresses, owners):
         """`addresses` are numbers, rising; `owners` has a number for each."""
-        self.prefixes, self.children = [], []
-        # The owner of each leaf, by its place.
-        self.owner_at = {}
-        self.owners = owners
-        self.root = self.grow(addresses, 0, len(addresses)) if addresses else None
+        # Of each place its prefix, its two parts or none, and the owner of its first address.
+        self.prefixes, self.parts, self.owners = [], [], []
+        if addresses:
+            self.grow(addresses, owners, 0, len(addresses))
 
-    def grow(self, addresses, first, past):
+    def grow(self, addresses, owners, first, past):
         """The place of some addresses in turn; its parts have lesser numbers than it."""
-        low, high = addresses[first], addresses[past - 1]
+        low, high, parts = addresses[first], addresses[past - 1], ()
         length = 32 - (low ^ high).bit_length()
-        pair = None
-        if any(self.owners[number] != self.owners[first] for number in range(first + 1, past)):
-            bit = 1 << 31 - length
-            middle = next(number for number in range(first, past) if addresses[number] & bit)
-            pair = (self.grow(addresses, first, middle), self.grow(addresses, middle, past))
-        self.prefixes.append((low >> 32 - length << 32 - length if length else 0, length))
-        self.children.append(pair)
-        if pair is None:
-            self.owner_at[len(self.children) - 1] = self.owners[first]
-        return len(self.children) - 1
+        if len(set(owners[first:past])) > 1:
+            middle = bisect.bisect_left(addresses, high >> 31 - length << 31 - length, first, past)
+            parts = (self.grow(addresses, owners, first, middle), self.grow(addresses, owners, middle, past))
+        self.prefixes.append((low >> 32 - length << 32 - length, length))
+        self.parts.append(parts)
+        self.owners.append(owners[first])
+        return len(self.parts) - 1
 
     def wanted(self, asked):
-        """For each place the answers that are cheapest for it; None where all are open."""
-        held = [None] * len(self.children)
-        for place, pair in enumerate(self.children):
-            if not pair:
-                answer = asked[self.owner_at[place]]
-                held[place] = None if answer is None else frozenset((answer,))
-                continue
-            left, right = held[pair[0]], held[pair[1]]
-            if left is None or right is None:
-                held[place] = right if left is None else left
-            else:
-                held[place] = left & right or left | right
+        """For each place the answers that are cheapest for it; none where all are open."""
+        held = []
+        for parts, owner in zip(self.parts, self.owners):
+            left, right = (held[part] for part in parts) if parts else [{asked[owner]} - {None}] * 2
+            held.append(left & right or left | right)
         return held
 
     def table(self, asked):
         """Prefixes, each with an answer: the longest that holds an address has asked[its owner], where that is not
         None."""
-        if self.root is None:
-            return []
         held, found = self.wanted(asked), []
-        waiting = [(self.root, None)]
+        waiting = [(len(held) - 1, None)] if held else []
         while waiting:
             place, given = waiting.pop()
-            if held[place] is None:
-                continue
-            pair = self.children[place]
-            if pair and self.is_parted(held, pair):
-                # An answer here would save a prefix on one side and cost this one: the two sides have their own, which
-                # reads more easily.
-                waiting += [(pair[1], given), (pair[0], given)]
-                continue
-            if given not in held[place] and not (pair and None in (held[pair[0]], held[pair[1]])):
+            sides = [held[part] for part in self.parts[place]]
+            # An answer where the two sides have none in common would save a prefix on one side and cost this one: the
+            # sides have their own, which reads more easily.
+            is_parted = not all(sides) or sides and not sides[0] & sides[1]
+            if held[place] and not is_parted and given not in held[place]:
                 given = min(held[place])
                 found.append((*self.prefixes[place], given))
-            if pair:
-                waiting += [(pair[1], given), (pair[0], given)]
+            waiting += [(part, given) for part in reversed(self.parts[place])]
         return found
-
-    @staticmethod
-    def is_parted(held, pair):
-        """Whether the two sides have no answer in common."""
-        left, right = held[pair[0]], held[pair[1]]
-        return left is not None and right is not None and not left & right

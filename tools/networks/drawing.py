@@ -54,8 +54,7 @@ def dot_text(network, loads, points=None):
         look = f'shape={shape}, fillcolor="{fill}", tooltip="{says}"'
         look += f', pos="{points[number][0]:.1f},{points[number][1]:.1f}"' if points else ""
         lines.append(f'n{number} [label="{node.name}", {look}];')
-    for number, link in enumerate(network.links):
-        one, other = network.link_nodes(number)
+    for number, (link, (one, other)) in enumerate(zip(network.links, network.pairs())):
         says = f"{units.rate_said(link.rate)}, {units.time_said(link.delay)}, busy {loads[number] / 10**4:.2f}%"
         style = ', style="dashed"' if network.nodes[one].partition != network.nodes[other].partition else ""
         far = 1.6 if "host" not in (network.nodes[one].kind, network.nodes[other].kind) else 0.9
@@ -104,8 +103,7 @@ def on_a_circle(network, loads):
         places[number] = (WIDER * far * math.sin(angle), -far * math.cos(angle))
     view = f"{-wide / 2:.0f} {-high / 2:.0f} {wide:.0f} {high:.0f}"
     lines = [f'<svg xmlns="http://www.w3.org/2000/svg" width="{wide:.0f}" height="{high:.0f}" viewBox="{view}">']
-    for number in range(len(network.links)):
-        one, other = network.link_nodes(number)
+    for number, (one, other) in enumerate(network.pairs()):
         (x, y), (u, v) = places[one], places[other]
         dashes = ' stroke-dasharray="5 3"' if network.nodes[one].partition != network.nodes[other].partition else ""
         stroke = f'stroke="{colour(loads[number])}" stroke-width="{width(loads[number]):.2f}"{dashes}'

@@ -6,6 +6,9 @@ channels, or else the cut with the fewest, whose nodes are then moved one by one
 links join them.
 """
 
+from collections import Counter
+from itertools import repeat
+
 from networks import cutting, limits, weights
 
 # What a part may weigh more than its share, in thousandths.
@@ -14,41 +17,21 @@ UNEVEN = (100, 300, 1000, 3000)
 ROUNDS = 20
 
 
-def channels(network, parts):
-    """How many channels join these partitions."""
-    return 2 * sum(parts[one] != parts[other] for one, other in map(network.link_nodes, range(len(network.links))))
-
-
-def links_of(network):
-    """How many links join each pair of nodes."""
-    found = {}
-    for one, other in map(network.link_nodes, range(len(network.links))):
-        if one != other:
-            pair = tuple(sorted((one, other)))
-            found[pair] = found.get(pair, 0) + 1
-    return found
-
-
 def moved(near, parts):
     """The parts once nodes were moved to where most of their links lead, as long as that cuts fewer links and leaves
     no part empty."""
-    parts, sizes = list(parts), {}
-    for part in parts:
-        sizes[part] = sizes.get(part, 0) + 1
+    parts, sizes = list(parts), Counter(parts)
     for _ in range(ROUNDS):
-        moves = 0
+        before = list(parts)
         for node, pairs in enumerate(near):
-            ties = {}
+            own, ties = parts[node], Counter()
             for other, links in pairs:
-                ties[parts[other]] = ties.get(parts[other], 0) + links
-            own = parts[node]
+                ties[parts[other]] += links
             best = max(ties, key=lambda part: (ties[part], part == own, -part), default=own)
-            if ties.get(best, 0) > ties.get(own, 0) and sizes[own] > 1:
+            if ties[best] > ties[own] and sizes[own] > 1:
                 parts[node] = best
-                sizes[own] -= 1
-                sizes[best] += 1
-                moves += 1
-        if not moves:
+                sizes.update({own: -1, best: 1})
+        if parts == before:
             break
     return parts
 
@@ -56,14 +39,13 @@ def moved(near, parts):
 def cut(network, found, count, by=None):
     """The partition of each node, and what cut."""
     heavy, _ = weights.graph(network, found)
-    joined = links_of(network)
-    best = None
+    joined, best = weights.joined(network.pairs(), repeat(1)), None
     for uneven in UNEVEN:
         parts, how = cutting.cut(heavy, joined, count, by, uneven)
-        if channels(network, parts) > limits.CHANNELS:
+        if network.channels(parts) > limits.CHANNELS:
             parts = moved(cutting.neighbours(heavy, joined), parts)
-        if best is None or channels(network, parts) < channels(network, best[0]):
+        if best is None or network.channels(parts) < network.channels(best[0]):
             best = parts, how
-        if channels(network, best[0]) <= limits.CHANNELS:
+        if network.channels(best[0]) <= limits.CHANNELS:
             break
     return best

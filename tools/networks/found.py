@@ -75,17 +75,13 @@ class Found:
 
     def once(self):
         """Leaves one of links between the same two nodes: where a file has each direction."""
-        kept, known = [], {}
+        known = {}
         for link in self.links:
-            pair = frozenset((link.a, link.b))
-            if pair in known:
-                continue
-            known[pair] = link
-            kept.append(link)
-        if len(kept) < len(self.links):
+            known.setdefault(frozenset((link.a, link.b)), link)
+        if len(known) < len(self.links):
             self.remarks.append("lines left out, for an earlier one joins the same nodes: "
-                                f"{len(self.links) - len(kept)}")
-        self.links = kept
+                                f"{len(self.links) - len(known)}")
+        self.links = list(known.values())
 
 
 def rate_of(text):

@@ -1,7 +1,8 @@
 """A network from a SPEC: interfaces named after both ends, addresses, routes, sources."""
 
-from networks import (addresses, errors, fields, flows, forms, limits, names, rooms, routes, scaling, units,
-                      writing)
+from collections import namedtuple
+
+from networks import addresses, errors, fields, flows, forms, limits, names, rooms, routes, scaling, units, writing
 from networks.chance import Chance
 from networks.topology import Iface, Link, Network, Node, kinds_said
 
@@ -9,13 +10,10 @@ from networks.topology import Iface, Link, Network, Node, kinds_said
 FLOWS_SEED = 0x466C6F7773
 # Of how many flows is said what their packets became.
 PLANS_SAID = 20
-
-
-class Made:
-    """A network, and what was chosen for it, in lines."""
-
-    def __init__(self, network, chosen, first_line):
-        self.network, self.chosen, self.first_line = network, chosen, first_line
+# What helps against too many channels.
+CHANNEL_ADVICE = "put nodes that many links join into one partition, or choose fewer partitions"
+# A network, and what was chosen for it, in lines.
+Made = namedtuple("Made", "network chosen first_line")
 
 
 def joined(spec):
@@ -42,26 +40,17 @@ def joined(spec):
 def check_limits(network, name):
     """Refuses more interfaces or channels than a topology has."""
     if len(network.ifaces) > limits.IFACES:
-        raise errors.Refused(name,
-                             f"there are {len(network.ifaces):,} interfaces, and at most {limits.IFACES:,} may be")
+        raise errors.Refused(name, f"there are {len(network.ifaces):,} interfaces, and at most {limits.IFACES:,} may "
+                                   "be")
     cut = channels(network)
     if cut > limits.CHANNELS:
-        raise errors.Refused(
-            name, f"the partitions are joined by {cut:,} channels (two for each link between them), and at most "
-                  f"{limits.CHANNELS} may be: {channel_advice()}"
-        )
+        raise errors.Refused(name, f"the partitions are joined by {cut:,} channels (two for each link between them), "
+                                   f"and at most {limits.CHANNELS} may be: {CHANNEL_ADVICE}")
 
 
 def channels(network):
     """How many channels the partitions of a network have."""
-    nodes = network.nodes
-    return 2 * sum(nodes[one].partition != nodes[other].partition
-                   for one, other in map(network.link_nodes, range(len(network.links))))
-
-
-def channel_advice():
-    """What helps against too many channels."""
-    return "put nodes that many links join into one partition, or choose fewer partitions"
+    return network.channels([node.partition for node in network.nodes])
 
 
 def make(spec, name, say=None):
@@ -116,7 +105,8 @@ def routed(spec, network):
     there are."""
     chosen, goals = routes.choices(network, spec.weight, spec.spread), [source.to for source in network.sources]
     best = None
-    for order in addresses.orders(network):
+    # Which order needs fewer routes, as in a tree or as they are written, depends on the network.
+    for order in (addresses.tree_order(network), range(len(network.nodes))):
         addressed(spec, network, order, goals)
         found = routes.tables(network, chosen, spec.only_flows)
         size = (routes.most_of_a_node(found)[1] > limits.NODE_ROUTES, len(found))

@@ -27,13 +27,12 @@ p.small { color: #475569; font-size: .85rem; }
 def links_table(network, found, loads):
     """A row for each link."""
     rows = []
-    for number, link in enumerate(network.links):
-        one, other = network.link_nodes(number)
-        cut = {network.nodes[node].partition for node in (one, other)}
-        joined = " and ".join(map(str, sorted(cut))) if len(cut) > 1 else ""
-        rows.append((f"{network.nodes[one].name} to {network.nodes[other].name}", units.rate_said(link.rate),
-                     units.time_said(link.delay), network.ifaces[link.a].queue, f"{found.packets[link.a]:,}",
-                     f"{found.packets[link.b]:,}", f"{loads[number] / 10**4:.2f}%", joined))
+    for number, (link, pair) in enumerate(zip(network.links, network.pairs())):
+        cut = {network.nodes[node].partition for node in pair}
+        packets = (f"{found.packets[end]:,}" for end in (link.a, link.b))
+        rows.append((network.link_said(number), units.rate_said(link.rate), units.time_said(link.delay),
+                     network.ifaces[link.a].queue, *packets, f"{loads[number] / 10**4:.2f}%",
+                     " and ".join(map(str, sorted(cut))) if len(cut) > 1 else ""))
     return html_table(("link", "rate", "delay", "queue (packets)", "packets there", "packets back", "busy",
                        "joins partitions"), rows)
 

@@ -69,22 +69,22 @@ def leads(network, found, far, goal):
 
 def parts(network):
     """The nodes that are joined by links, in groups, each with its nodes in order."""
-    near = [[network.ifaces[far].node for _, far, _ in own] for own in network.ends()]
-    return [sorted(group) for group in pieces(range(len(near)), near)]
+    return [sorted(group) for group in pieces(range(len(network.nodes)), network.pairs())]
 
 
-def pieces(nodes, near):
-    """The nodes in groups that are joined: `near` has the neighbours of each."""
+def pieces(nodes, pairs):
+    """The nodes in groups that pairs of them join."""
+    near = {node: [] for node in nodes}
+    for one, other in pairs:
+        near[one].append(other)
+        near[other].append(one)
     seen, found = set(), []
     for start in nodes:
-        if start in seen:
-            continue
-        group, waiting = [], [start]
+        group = [] if start in seen else [start]
         seen.add(start)
-        while waiting:
-            group.append(waiting.pop())
-            fresh = [other for other in dict.fromkeys(near[group[-1]]) if other not in seen]
+        for node in group:
+            fresh = [other for other in dict.fromkeys(near[node]) if other not in seen]
             seen.update(fresh)
-            waiting += fresh
-        found.append(group)
+            group += fresh
+        found += [group] if group else []
     return found

@@ -35,8 +35,7 @@ def spread(points, count):
 
 def beside(network, points):
     """Points for all other nodes: around the middle of those neighbours that have one."""
-    near = [[network.ifaces[far].node for _, far, _ in ends] for ends in network.ends()]
-    found = dict(points)
+    near, found = network.near(), dict(points)
     while True:
         fresh = {}
         for number, others in enumerate(near):

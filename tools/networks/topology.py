@@ -90,10 +90,22 @@ class Network:
                 found[self.ifaces[own].node].append((own, far, number))
         return [sorted(ends) for ends in found]
 
-    def link_nodes(self, number):
-        """The two nodes of a link."""
+    def pairs(self):
+        """The two nodes of each link."""
+        return [(self.ifaces[link.a].node, self.ifaces[link.b].node) for link in self.links]
+
+    def link_said(self, number):
+        """A link as "a to b"."""
         link = self.links[number]
-        return self.ifaces[link.a].node, self.ifaces[link.b].node
+        return " to ".join(self.nodes[self.ifaces[end].node].name for end in (link.a, link.b))
+
+    def near(self):
+        """The nodes at the far ends of each node's links."""
+        return [[self.ifaces[far].node for _, far, _ in own] for own in self.ends()]
+
+    def channels(self, parts):
+        """How many channels join the partitions of the nodes."""
+        return 2 * sum(parts[one] != parts[other] for one, other in self.pairs())
 
     def node_of_address(self):
         """Which node has an address."""

@@ -1,5 +1,7 @@
 """The network as a graph to be cut: what nodes weigh, and what it costs to cut a link."""
 
+from collections import Counter
+
 from networks import traffic
 
 # What one window costs beside one packet: at least a null message goes each way.
@@ -16,11 +18,8 @@ def node_weights(found):
 def link_costs(network, found):
     """For each link: the packets that would cross, and the null messages of windows that are as long as its
     lookahead."""
-    costs = []
-    for link in network.links:
-        windows = -(-network.stop // traffic.lookahead(link))
-        costs.append(1 + found.packets[link.a] + found.packets[link.b] + WINDOW_COST * windows)
-    return scaled(costs)
+    return scaled([1 + found.packets[link.a] + found.packets[link.b]
+                   + WINDOW_COST * -(-network.stop // traffic.lookahead(link)) for link in network.links])
 
 
 def scaled(numbers):
@@ -29,12 +28,15 @@ def scaled(numbers):
     return [max(1, number * MOST_SUM // total) for number in numbers] if total > MOST_SUM else numbers
 
 
+def joined(pairs, costs):
+    """What it costs to part two nodes: the sum of what joins them; what joins a node to itself falls."""
+    found = Counter()
+    for (one, other), cost in zip(pairs, costs):
+        if one != other:
+            found[min(one, other), max(one, other)] += cost
+    return found
+
+
 def graph(network, found):
-    """(weight of each node, {(node, node): cost}): links between two nodes are put together, and those from a node to
-    itself fall."""
-    joined = {}
-    for number, cost in enumerate(link_costs(network, found)):
-        pair = tuple(sorted(network.link_nodes(number)))
-        if pair[0] != pair[1]:
-            joined[pair] = joined.get(pair, 0) + cost
-    return node_weights(found), joined
+    """(weight of each node, {(node, node): cost})."""
+    return node_weights(found), joined(network.pairs(), link_costs(network, found))

@@ -4,7 +4,7 @@ import re
 import tomllib
 from unittest import mock
 
-from networks import coarse, cutting, errors, fewest, limits, partition, topology, traffic
+from networks import coarse, cutting, errors, limits, partition, topology, traffic
 from networks.tests import tool
 from networks.tests.test_routes import spec_of
 
@@ -46,10 +46,10 @@ class Partitions(tool.Folder):
         """Where a cut for even work has more channels than there may be, one with fewer is taken."""
         network = tool.network_of(tool.example("campus"))
         found = traffic.expected(network)
-        even = fewest.channels(network, partition.split(network, found, 8, "metis")[0])
+        even = network.channels(partition.split(network, found, 8, "metis")[0])
         with mock.patch.object(limits, "CHANNELS", even - 1):
             parts, how = partition.split(network, found, 8, "metis")
-        self.assertLess(fewest.channels(network, parts), even)
+        self.assertLess(network.channels(parts), even)
         self.assertEqual(set(parts), set(range(8)))
         self.assertIn(f"parts of even work would have {even}", how)
 

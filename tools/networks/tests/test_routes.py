@@ -143,8 +143,7 @@ def floyd(network, weight):
     """Shortest paths between all nodes, hosts only at their ends: Floyd and Warshall's way."""
     count = len(network.nodes)
     found = {(one, other): 0 if one == other else None for one in range(count) for other in range(count)}
-    for number, link in enumerate(network.links):
-        one, other = network.link_nodes(number)
+    for link, (one, other) in zip(network.links, network.pairs()):
         price = paths.cost(link, weight)
         for pair in ((one, other), (other, one)):
             if found[pair] is None or price < found[pair]:
@@ -164,8 +163,7 @@ def by_networkx(network, weight):
     import networkx
 
     graph, found = networkx.DiGraph(), {}
-    for number, link in enumerate(network.links):
-        one, other = network.link_nodes(number)
+    for link, (one, other) in zip(network.links, network.pairs()):
         for left, right in ((one, other), (other, one)):
             # A host is two nodes: where paths begin, and where they end.
             begin = ("from", left) if network.nodes[left].kind == "host" else left
