@@ -80,6 +80,11 @@ def place(value):
     return tuple(map(float, value))
 
 
+def anything(value):
+    """What is read elsewhere."""
+    return value
+
+
 def line(value):
     """A text of one line, for a comment."""
     if not isinstance(value, str) or len(value) > 200 or not value.isprintable():
@@ -127,15 +132,10 @@ def address(value):
 MARTIANS = ((0, (1 << 24) - 1), (127 << 24, (128 << 24) - 1), (224 << 24, (1 << 32) - 1))
 
 
-def is_martian(number):
-    """Whether nothing may be sent to an address."""
-    return any(low <= number <= high for low, high in MARTIANS)
-
-
 def real_address(value):
     """An address that is no martian."""
     number = address(value)
-    if is_martian(number):
+    if any(low <= number <= high for low, high in MARTIANS):
         raise Wrong("has to be an address outside 0.0.0.0/8, 127.0.0.0/8, 224.0.0.0/4 and 240.0.0.0/4")
     return number
 
