@@ -3,6 +3,7 @@
 
 from ipaddress import IPv4Address
 
+from dev.lib import here
 from dev.lib.networks import toml_of
 
 # The keys of a source that come after its kind's own, and what they are where they are absent.
@@ -54,8 +55,7 @@ def plain_lines(topology):
 
 
 def write_plain(topology, path):
-    with open(path, "w", encoding="ascii") as file:
-        file.writelines(line + "\n" for line in plain_lines(topology))
+    here.write(path, "".join(line + "\n" for line in plain_lines(topology)))
 
 
 def toml_text(value):
@@ -68,8 +68,7 @@ def toml_text(value):
 
 def write_toml(topology, path):
     """Writes a topology as TOML, with a line for each key."""
-    with open(path, "w", encoding="ascii") as file:
-        file.writelines(f"{key} = {toml_text(value)}\n" for key, value in topology.items())
+    here.write(path, "".join(f"{key} = {toml_text(value)}\n" for key, value in topology.items()))
 
 
 def in_one_partition(topology):

@@ -61,8 +61,7 @@ def is_verified(folder, compared):
     made = os.path.join(folder, "raw")
     os.mkdir(made)
     for name in compared.ours:
-        with open(os.path.join(made, f"{name}.pcap"), "wb") as file:
-            file.write(pcap.raw(records_in(os.path.join(folder, "theirs"), name)))
+        here.write(os.path.join(made, f"{name}.pcap"), pcap.raw(records_in(os.path.join(folder, "theirs"), name)))
     ended = process.nullsim("verify", os.path.join(folder, "ours.text"), made, seconds=programs.SECONDS)
     return ended.status == (DIFFERS if compared.differences else 0)
 

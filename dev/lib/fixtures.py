@@ -20,8 +20,7 @@ def parts_of(text):
 def write(path, text):
     """A file with a text, and its folders."""
     os.makedirs(os.path.dirname(path), exist_ok=True)
-    with open(path, "w", encoding="utf-8") as file:
-        file.write(text)
+    here.write(path, text)
 
 
 def grow(folder, files):

@@ -1,6 +1,7 @@
 """Where things are, what crates.txt says, and the parts of documents that scripts write."""
 
 import os
+import pathlib
 
 ROOT = os.path.dirname(os.path.dirname(os.path.dirname(os.path.abspath(__file__))))
 # The program that is tried; --nullsim puts another in its place.
@@ -25,14 +26,18 @@ def topologies():
 
 def read(*parts):
     """The text of a file, by its path from the root."""
-    with open(path(*parts), encoding="utf-8") as file:
-        return file.read()
+    return pathlib.Path(path(*parts)).read_text(encoding="utf-8")
 
 
 def octets(name):
     """The octets of a file."""
-    with open(name, "rb") as file:
-        return file.read()
+    return pathlib.Path(name).read_bytes()
+
+
+def write(name, content):
+    """Writes a file, a text or octets: its name."""
+    pathlib.Path(name).write_bytes(content.encode() if isinstance(content, str) else content)
+    return name
 
 
 def crates():
@@ -83,5 +88,4 @@ def between(document, name):
 def write_between(document, name, text):
     """Writes lines between the marks of a part of a document."""
     _, before, behind = between(document, name)
-    with open(path(document), "w", encoding="utf-8") as file:
-        file.write(f"{before}{text}\n{behind}")
+    write(path(document), f"{before}{text}\n{behind}")

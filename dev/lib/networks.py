@@ -127,5 +127,4 @@ def faults_of_folder(folder, wanted, old=None, is_done=False):
 def fill(folder, names, octets):
     """Files with these final names, as of an earlier run."""
     for name in names:
-        with open(os.path.join(folder, f"{name}.pcap"), "wb") as file:
-            file.write(octets)
+        here.write(os.path.join(folder, f"{name}.pcap"), octets)

@@ -91,10 +91,8 @@ class Node:
         self.folder, self.out, self.errors, addresses = (
             os.path.join(folder, f"{name}{own}") for name in ("", "out-", "errors-", "addresses-"))
         os.makedirs(self.folder, exist_ok=True)
-        with open(addresses, "w", encoding="ascii") as file:
-            for (partition, replica), place in ports.items():
-                host, port = place if isinstance(place, tuple) else (HOST, place)
-                file.write(f"{partition} {replica} {host}:{port}\n")
+        places = {other: place if isinstance(place, tuple) else (HOST, place) for other, place in ports.items()}
+        here.write(addresses, "".join(f"{p} {r} {host}:{port}\n" for (p, r), (host, port) in places.items()))
         words = ["node", network.path, self.folder, *map(str, key), addresses]
         self.words = [*before, here.NULLSIM, *words, *further]
         self.times_begun = 0
