@@ -3,7 +3,7 @@
 
 from ipaddress import IPv4Address
 
-from dev.lib import here
+from dev.lib import here, topologies
 from dev.lib.networks import toml_of
 
 # The keys of a source that come after its kind's own, and what they are where they are absent.
@@ -58,17 +58,9 @@ def write_plain(topology, path):
     here.write(path, "".join(line + "\n" for line in plain_lines(topology)))
 
 
-def toml_text(value):
-    if isinstance(value, dict):
-        return "{" + ", ".join(f"{key} = {toml_text(part)}" for key, part in value.items()) + "}"
-    if isinstance(value, list):
-        return "[" + ", ".join(map(toml_text, value)) + "]"
-    return f'"{value}"' if isinstance(value, str) else str(value)
-
-
 def write_toml(topology, path):
     """Writes a topology as TOML, with a line for each key."""
-    here.write(path, "".join(f"{key} = {toml_text(value)}\n" for key, value in topology.items()))
+    here.write(path, "".join(f"{key} = {topologies.writing.said(value)}\n" for key, value in topology.items()))
 
 
 def in_one_partition(topology):

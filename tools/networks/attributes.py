@@ -50,14 +50,6 @@ def delay_of(held, at):
     return None
 
 
-def link_of(one, other, attributes, at):
-    """A link of a file."""
-    held = lowered(attributes)
-    remark = held.get("linklabel") or held.get("label") or ""
-    return FoundLink(one, other, rate_of(held, at), delay_of(held, at), None,
-                     "".join(letter for letter in remark[:60] if letter.isprintable()), at)
-
-
 def add(found, kind, ends, attributes, at, what):
     """Adds a node or an edge of a file; `ends` has its id, or those of its nodes, `what` is what the file calls one of
     them."""
@@ -67,4 +59,7 @@ def add(found, kind, ends, attributes, at, what):
     if kind == "node":
         found.add_node(ends["id"], node_of(ends["id"], attributes, at))
     else:
-        found.add_link(link_of(ends["source"], ends["target"], attributes, at))
+        held = lowered(attributes)
+        remark = "".join(filter(str.isprintable, (held.get("linklabel") or held.get("label") or "")[:60]))
+        rate, delay = rate_of(held, at), delay_of(held, at)
+        found.add_link(FoundLink(ends["source"], ends["target"], rate, delay, None, remark, at))

@@ -52,7 +52,7 @@ def link_of(words, data, at):
             link.rate = found.checked_rate(rate, at, errors.shown(word))
         else:
             remarks.append(word)
-    link.remark = "".join(letter for letter in " ".join(remarks)[:60] if letter.isprintable())
+    link.remark = "".join(filter(str.isprintable, " ".join(remarks)[:60]))
     return link
 
 

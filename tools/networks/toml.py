@@ -1,13 +1,9 @@
 """TOML texts: read with the standard library, each mistake with its line."""
 
 import sys
+import tomllib
 
 from networks import errors, limits, spans
-
-try:
-    import tomllib
-except ImportError:  # Python before 3.11
-    tomllib = None
 
 
 class Tables:
@@ -30,8 +26,6 @@ class Text(Tables):
     """A TOML text: its name, its octets as text, what it means, and where its parts stand."""
 
     def __init__(self, name, text):
-        if tomllib is None:
-            raise errors.Lacking(f"this needs Python 3.11 or later, and {sys.executable} is {sys.version.split()[0]}")
         self.name, self.text = name, text
         try:
             self.means = tomllib.loads(text)
@@ -48,11 +42,6 @@ class Text(Tables):
         item = self.spans.at(*way)
         start = item.key_start if way and isinstance(way[-1], str) and item.key_start else item.start
         return f"{self.name}:{spans.line_of(self.text, start)}"
-
-    def line_end(self, place):
-        """Where the line ends in which a place is."""
-        end = self.text.find("\n", place)
-        return end if end >= 0 else len(self.text)
 
 
 def load(name):

@@ -232,8 +232,9 @@ class Reading:
 
     def where(self, number):
         """The place that the comment on a node's line says, or none."""
-        item = self.text.spans.at("node", number)
-        found = WHERE.search(self.text.text, item.start, self.text.line_end(item.end or item.start))
+        text, item = self.text.text, self.text.spans.at("node", number)
+        end = text.find("\n", item.end or item.start)
+        found = WHERE.search(text, item.start, end if end >= 0 else len(text))
         return tuple(map(float, found.groups())) if found else None
 
     def iface(self, number, value, place):
