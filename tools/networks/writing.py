@@ -40,8 +40,9 @@ def source_line(network, source):
 
 def array(key, tables, remarks=()):
     """An array of tables, one a line, perhaps each with what is said of it."""
-    lines = itertools.zip_longest(tables, remarks)
-    return "\n".join([f"{key} = [", *(f"  {table},{f'  # {remark}' if remark else ''}" for table, remark in lines), "]"])
+    both = itertools.zip_longest(tables, remarks)
+    lines = (f"  {table},{f'  # {remark}' if remark else ''}" for table, remark in both)
+    return "\n".join([f"{key} = [", *lines, "]"])
 
 
 def tables(network):
