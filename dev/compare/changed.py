@@ -4,10 +4,8 @@ known reason."""
 import copy
 import functools
 import operator
-import os
 
 from dev.compare import plain, programs, traces
-from dev.compare.differences import Compared
 from dev.lib import here, process
 
 # Each change of examples/office.toml: where it is, and what becomes of the value there. Interface 8 is gw-wan.
@@ -33,10 +31,7 @@ def changed(topology, way, new):
 def is_seen(topology, other):
     """Whether a changed network is found to differ, without a known reason."""
     with process.folder("compare") as folder:
-        for name, one, words in (("ours", topology, [here.NULLSIM, "run"]), ("theirs", other, [programs.NS3])):
-            traces.write_traces(one, folder, name, words)
-        names = [iface["name"] for iface in topology["iface"]]
-        compared = Compared(names, os.path.join(folder, "ours"), os.path.join(folder, "theirs"))
+        compared = traces.simulate(topology, folder, [programs.NS3], other)
     return bool(compared.differences and traces.reasons_of(topology, compared)[1])
 
 

@@ -1,16 +1,10 @@
 """The first place where the traces of two folders differ."""
 
+import itertools
+import math
 import os
 
 from dev.lib import here, pcap
-
-
-def first_difference(ours, theirs):
-    """The number of the first record that differs, or nothing."""
-    for number, (one, other) in enumerate(zip(ours, theirs)):
-        if one != other:
-            return number
-    return None if len(ours) == len(theirs) else min(len(ours), len(theirs))
 
 
 def records_in(folder, name):
@@ -19,15 +13,14 @@ def records_in(folder, name):
 
 
 class Difference:
-    """The first difference at an interface: the time, and the record of each side, which may be none."""
+    """The first difference at an interface: the number of the record, the time, and what each side has at that moment,
+    which may be nothing: its next record is of a later time then."""
 
-    def __init__(self, iface, number, ours, theirs):
-        self.iface, self.number = iface, number
-        pair = [side[number] if number < len(side) else None for side in (ours, theirs)]
-        self.at = min(record[0] for record in pair if record)
-        # What is at that moment on each side: where one side has nothing, its next record is of a later time.
-        self.our_packet, self.their_packet = (
-            record[1] if record and record[0] == self.at else None for record in pair)
+    def __init__(self, iface, ours, theirs):
+        pairs = enumerate(itertools.zip_longest(ours, theirs, fillvalue=(math.inf, None)))
+        self.iface, (self.number, pair) = iface, next((number, pair) for number, pair in pairs if pair[0] != pair[1])
+        self.at = min(time for time, _ in pair)
+        self.our_packet, self.their_packet = (packet if time == self.at else None for time, packet in pair)
 
 
 class Compared:
@@ -39,12 +32,9 @@ class Compared:
         for name in names:
             ours, theirs = records_in(our_folder, name), records_in(their_folder, name)
             self.ours[name] = ours
-            number = first_difference(ours, theirs)
             self.records += len(ours)
-            if number is None:
-                self.equal += 1
-            else:
-                self.differences.append(Difference(name, number, ours, theirs))
+            self.equal += ours == theirs
+            self.differences += [Difference(name, ours, theirs)] if ours != theirs else []
         self.differences.sort(key=lambda difference: difference.at)
 
     def earliest(self):

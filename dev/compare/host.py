@@ -1,8 +1,9 @@
 """What else the host did while something was timed, from /proc/stat."""
 
-import datetime
 import os
-import time
+import re
+
+from dev.lib import here
 
 # The share of steal, or of other work, above which a time says too little.
 MOST = 0.10
@@ -10,26 +11,20 @@ MOST = 0.10
 
 def seconds():
     """The processor seconds of all processors since the host started: idle, steal, and all."""
-    with open("/proc/stat", encoding="ascii") as file:
-        ticks = [int(word) for word in file.readline().split()[1:9]]
+    ticks = [int(word) for word in here.read("/proc/stat").split()[1:9]]
     a_second = os.sysconf("SC_CLK_TCK")
     return (ticks[3] + ticks[4]) / a_second, ticks[7] / a_second, sum(ticks) / a_second
 
 
 def own_seconds():
-    times = os.times()
-    return times.user + times.system + times.children_user + times.children_system
+    return sum(os.times()[:4])
 
 
 def model():
-    """The processors, in words."""
-    with open("/proc/cpuinfo", encoding="utf-8") as file:
-        names = [line.partition(":")[2].strip() for line in file if line.startswith("model name")]
-    return f"{os.cpu_count()} processors, {names[0] if names else 'of an unknown model'}"
-
-
-def memory():
-    return f"{os.sysconf('SC_PHYS_PAGES') * os.sysconf('SC_PAGE_SIZE') / 2 ** 30:.0f} GiB of memory"
+    """The processors and the memory, in words."""
+    names = re.findall(r"^model name.*?: *(.*?) *$", here.read("/proc/cpuinfo"), re.M) or ["of an unknown model"]
+    gibibytes = os.sysconf("SC_PHYS_PAGES") * os.sysconf("SC_PAGE_SIZE") / 2 ** 30
+    return f"{os.cpu_count()} processors, {names[0]}, {gibibytes:.0f} GiB of memory"
 
 
 class Watch:
@@ -37,7 +32,7 @@ class Watch:
 
     def __init__(self):
         self.idle, self.steal, self.all = seconds()
-        self.own, self.begun = own_seconds(), time.monotonic()
+        self.own = own_seconds()
 
     def shares(self):
         idle, steal, every = (now - then for now, then in zip(seconds(), (self.idle, self.steal, self.all)))
@@ -50,7 +45,3 @@ class Watch:
     def words(self):
         steal, others = self.shares()
         return f"{steal:.0%} of its processor time was steal and {others:.0%} other work"
-
-
-def today():
-    return datetime.date.today().isoformat()

@@ -59,25 +59,9 @@ def write_plain(topology, path):
 
 
 def write_toml(topology, path):
-    """Writes a topology as TOML, with a line for each key."""
-    here.write(path, "".join(f"{key} = {topologies.writing.said(value)}\n" for key, value in topology.items()))
-
-
-def in_one_partition(topology):
-    """The same network without partitions: they change no trace."""
-    return topology | {"node": [node | {"partition": 0} for node in topology["node"]]}
-
-
-def without_raw(topology):
-    """The same network without its raw packets, and all else as it is."""
-    return topology | {"source": [source for source in topology["source"] if source["kind"] != "raw"]}
-
-
-def source_parts(topology):
-    """The number of each source, with each of its packets where it is raw, or nothing."""
-    for number, source in enumerate(topology["source"]):
-        yield from ((number, packet)
-                    for packet in (range(len(source["packet"])) if source["kind"] == "raw" else [None]))
+    """Writes a topology as TOML, with a line for each key, without partitions: they change no trace."""
+    whole = topology | {"node": [node | {"partition": 0} for node in topology["node"]]}
+    here.write(path, "".join(f"{key} = {topologies.writing.said(value)}\n" for key, value in whole.items()))
 
 
 def with_parts(topology, parts):

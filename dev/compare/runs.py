@@ -20,21 +20,15 @@ def differing(network, workers):
         return sum(process.nullsim("verify", network.path, made, name).status != 0 for name in network.partition_of)
 
 
-def row(kind, count, folder):
-    network = networks.Network(topologies.generate(kind, os.path.join(folder, "topology.toml"), count))
-    found = [sum(differing(network, workers) for _ in range(RUNS)) for workers in WORKERS]
-    cells = [f"`{kind}={count}`", len(network.partitions), len(network.partition_of), *found]
-    return sum(found), f"| {' | '.join(map(str, cells))} |"
-
-
 def table():
     """Whether all files were equal, and the lines of the table."""
-    runs = [f"{RUNS} runs of {workers} workers: files that differ" for workers in WORKERS]
-    lines, wrong = [f"| Network | Partitions | Interfaces | {' | '.join(runs)} |",
-                    "|---|---|---|" + "---|" * len(runs)], 0
+    rows, wrong = [["Network", "Partitions", "Interfaces",
+                    *(f"{RUNS} runs of {workers} workers: files that differ" for workers in WORKERS)]], 0
     for kind, count in NETWORKS:
         with process.folder("compare") as folder:
-            found, line = row(kind, count, folder)
-        wrong += found
-        lines.append(line)
-    return not wrong, lines
+            network = networks.Network(topologies.generate(kind, os.path.join(folder, "topology.toml"), count))
+            found = [sum(differing(network, workers) for _ in range(RUNS)) for workers in WORKERS]
+        rows.append([f"`{kind}={count}`", len(network.partitions), len(network.partition_of), *found])
+        wrong += sum(found)
+    head, *lines = (f"| {' | '.join(map(str, row))} |" for row in rows)
+    return not wrong, [head, "|" + "---|" * len(rows[0]), *lines]

@@ -23,24 +23,24 @@ def generated(folder):
         yield f"{kind}={packets}", plain.read(path)
 
 
-def networks():
-    return of_files(here.files("crates", "nullsim_cases", "data", "cases", "networks", ends=".toml"))
-
-
-def networks_without_raw():
-    for name, topology in networks():
-        yield name, plain.without_raw(topology)
+def networks(has_raw=True):
+    """The networks of the stored cases, or all but their raw packets."""
+    for name, topology in of_files(here.files("crates", "nullsim_cases", "data", "cases", "networks", ends=".toml")):
+        sources = [source for source in topology["source"] if has_raw or source["kind"] != "raw"]
+        yield name, topology | {"source": sources}
 
 
 def by_source(topology):
-    """The parts of a network's sources, and for each the network with it alone."""
-    for part in plain.source_parts(topology):
-        yield part, plain.with_parts(topology, [part])
+    """The number of each source, with each of its packets where it is raw, or nothing; and for each the network with it
+    alone."""
+    for number, source in enumerate(topology["source"]):
+        for packet in range(len(source["packet"])) if source["kind"] == "raw" else [None]:
+            yield (number, packet), plain.with_parts(topology, [(number, packet)])
 
 
 def every(folder):
     """Each set's name, what it is, and its topologies."""
     yield "examples", "`examples/*.toml`", of_files(here.topologies())
     yield "generated", "`dev/lib/topologies.py`, few packets", generated(folder)
-    yield "without raw", "the 90 networks of the stored cases, without their raw packets", networks_without_raw()
+    yield "without raw", "the 90 networks of the stored cases, without their raw packets", networks(False)
     yield "whole", "the same, whole", networks()

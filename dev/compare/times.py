@@ -43,10 +43,8 @@ def best(works):
 def row(name, files, hops, found):
     """A line of the table: millions of packet-hops a second of processor time, and memory."""
     rates = [count / seconds / 1e6 for count, (seconds, _) in zip(hops, found)]
-    least = min(seconds for seconds, _ in found)
     cells = [name, files, *(f"{rate:.2f}" for rate in rates), f"{rates[1] / rates[0]:.1f}",
-             f"{rates[2] / rates[1]:.1f}",
-             *(f"{memory:.0f} MiB" for _, memory in found), f"{least:.1f} s"]
+             f"{rates[2] / rates[1]:.1f}", *(f"{memory:.0f} MiB" for _, memory in found), f"{min(found)[0]:.1f} s"]
     return f"| {' | '.join(cells)} |"
 
 
@@ -55,9 +53,8 @@ def rows(kind, name, packets, factor, folder):
     works = [[programs.NS3, slow.lines], [here.NULLSIM, "one", fast.text], [programs.LOOP, fast.lines]]
     yield row(name, "none", (slow.hops, fast.hops, fast.hops), best(works))
     traced = Network(kind, packets // TRACED_PART, folder)
-    works = [[programs.NS3, traced.lines, "--traces", "DIR"], [here.NULLSIM, "run", traced.text, "DIR", "1", "1"],
-             [programs.LOOP, traced.lines, "--traces", "DIR"]]
-    yield row(name, "all", (traced.hops,) * 3, best(works))
+    ns3, loop = ([program, traced.lines, "--traces", "DIR"] for program in (programs.NS3, programs.LOOP))
+    yield row(name, "all", [traced.hops] * 3, best([ns3, [here.NULLSIM, "run", traced.text, "DIR", "1", "1"], loop]))
 
 
 def table():

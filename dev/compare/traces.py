@@ -40,17 +40,17 @@ def write_traces(topology, folder, name, words):
     made, text = os.path.join(folder, name), os.path.join(folder, name + ".text")
     os.mkdir(made)
     if words[0] == here.NULLSIM:
-        plain.write_toml(plain.in_one_partition(topology), text)
+        plain.write_toml(topology, text)
         programs.call([*words, text, made, "1", "1"])
     else:
         plain.write_plain(topology, text)
         programs.call([words[0], text, "--traces", made, *words[1:]])
 
 
-def simulate(topology, folder, words):
-    """nullsim's traces of a topology and those of another program, compared."""
+def simulate(topology, folder, words, other=None):
+    """nullsim's traces of a topology and those of another program, perhaps of another topology, compared."""
     write_traces(topology, folder, "ours", [here.NULLSIM, "run"])
-    write_traces(topology, folder, "theirs", words)
+    write_traces(other or topology, folder, "theirs", words)
     names = [iface["name"] for iface in topology["iface"]]
     return Compared(names, os.path.join(folder, "ours"), os.path.join(folder, "theirs"))
 
@@ -75,15 +75,9 @@ def reasons_of(topology, compared):
         arrived = [packet for name, records in compared.ours.items() if node_of[name] == node
                    for time, packet in records if time <= difference.at]
         why = reasons.reason(difference, arrived)
-        if why:
-            found.add(why)
-        else:
-            unknown.append(difference)
+        found |= {why} if why else set()
+        unknown += [] if why else [difference]
     return found, unknown
-
-
-def packet_words(packet):
-    return packet.hex() if packet else "none"
 
 
 def try_topology(name, topology, tally):
@@ -109,8 +103,8 @@ def try_topology(name, topology, tally):
               f"difference is at {first.at} ns, {first.iface}: {', '.join(sorted(found))}", flush=True)
     for one in unknown:
         tally.unknown.append(name)
-        print(f"  UNKNOWN at {one.at} ns, {one.iface}, record {one.number}: ours {packet_words(one.our_packet)}, "
-              f"theirs {packet_words(one.their_packet)}")
+        ours, theirs = (packet.hex() if packet else "none" for packet in (one.our_packet, one.their_packet))
+        print(f"  UNKNOWN at {one.at} ns, {one.iface}, record {one.number}: ours {ours}, theirs {theirs}")
     return compared
 
 
@@ -131,20 +125,13 @@ def try_loop(topology, tally):
         try:
             compared = simulate(topology, folder, [programs.LOOP])
         except process.Failed as failed:
-            if NOT_SIMULATED not in str(failed):
-                raise
-            return
+            if NOT_SIMULATED in str(failed):
+                return
+            raise
     tally.loops += 1
     if compared.differences:
         tally.unknown.append("the bare loop")
         print(f"{tally.name}: the traces of the bare loop differ: UNKNOWN", flush=True)
-
-
-def try_set(name, what, topologies):
-    tally = Tally(name, what)
-    for label, topology in topologies:
-        try_whole(label, topology, tally)
-    return tally
 
 
 def try_whole(label, topology, tally):
@@ -171,27 +158,23 @@ def try_parts():
     return [alone, rest]
 
 
-def set_row(tally):
-    counts = [tally.topologies, tally.equal, tally.ifaces, tally.equal_ifaces, tally.records]
-    cells = [f"*{tally.name}*: {tally.what}", *(f"{count:,}" for count in counts)]
-    return f"| {' | '.join(cells)} | {tally.ties if tally.tied else ''} | {tally.verified:,} |"
-
-
 def set_table(tallies):
     yield ("| Topologies | Number | Equal | Interfaces | Equal | Records in our traces "
            "| Equal, but not with ns-3's own order of ties | `verify` says the same |")
     yield "|---|---|---|---|---|---|---|---|"
-    yield from map(set_row, tallies)
+    for tally in tallies:
+        counts = [tally.topologies, tally.equal, tally.ifaces, tally.equal_ifaces, tally.records]
+        cells = [f"*{tally.name}*: {tally.what}", *(f"{count:,}" for count in counts)]
+        yield f"| {' | '.join(cells)} | {tally.ties if tally.tied else ''} | {tally.verified:,} |"
     loops = sum(tally.loops for tally in tallies)
     if loops:
-        yield ""
-        yield (f"The bare loop's traces of {loops} of the generated topologies are equal too; the others need ICMP "
-               "errors, which it has not.")
+        yield from ("", f"The bare loop's traces of {loops} of the generated topologies are equal too; the others need "
+                        "ICMP errors, which it has not.")
 
 
 def reason_table(tallies):
-    yield "| Earliest difference | " + " | ".join(f"*{tally.name}*" for tally in tallies) + " |"
-    yield "|---|" + "---|" * len(tallies)
+    heads = ["Earliest difference", *(f"*{tally.name}*" for tally in tallies)]
+    yield from (f"| {' | '.join(heads)} |", "|" + "---|" * len(heads))
     for name, words in reasons.REASONS.items():
         counts = [len(tally.names[name]) for tally in tallies]
         if any(counts):
@@ -200,27 +183,28 @@ def reason_table(tallies):
 
 def name_table(tallies):
     """Which networks differ, but for those with one source: these are printed as they are compared."""
-    yield "| Earliest difference | Networks |"
-    yield "|---|---|"
+    yield from ("| Earliest difference | Networks |", "|---|---|")
     for tally in tallies:
-        if tally.name != ALONE:
-            for why in reasons.REASONS:
-                if tally.names[why]:
-                    names = ", ".join(name.removesuffix(".toml") for name in tally.names[why])
-                    yield f"| {why}, *{tally.name}* | {names} |"
+        for why in reasons.REASONS if tally.name != ALONE else ():
+            if tally.names[why]:
+                names = ", ".join(name.removesuffix(".toml") for name in tally.names[why])
+                yield f"| {why}, *{tally.name}* | {names} |"
 
 
 def tables(tallies):
     """The tables of what was compared, as lines; `name_table` is printed alone."""
     yield from set_table(tallies)
     if any(tally.equal < tally.topologies for tally in tallies):
-        yield ""
-        yield from reason_table(tallies)
+        yield from ("", *reason_table(tallies))
 
 
 def every(paths):
     """Compares all sets, or the topologies of these files: the tallies."""
-    if paths:
-        return [try_set("files", "the files named", sets.of_files(paths))]
+    tallies = []
     with process.folder("compare") as folder:
-        return [try_set(*one) for one in sets.every(folder)] + try_parts()
+        files = [("files", "the files named", sets.of_files(paths))]
+        for name, what, topologies in files if paths else sets.every(folder):
+            tallies.append(Tally(name, what))
+            for label, topology in topologies:
+                try_whole(label, topology, tallies[-1])
+    return tallies if paths else tallies + try_parts()

@@ -41,25 +41,28 @@ def width(load):
     return 1.2 + min(10**6, load) / 250_000
 
 
+def is_cut(network, one, other):
+    """Whether two nodes are in two partitions."""
+    return network.nodes[one].partition != network.nodes[other].partition
+
+
 def dot_text(network, loads, points=None):
     """The network for Graphviz, at these points if there are any."""
     splines = "line" if len(network.nodes) > MANY else "true"
     lines = ["graph network {",
-             f"overlap=prism; splines={splines}; outputorder=edgesfirst; bgcolor=transparent; sep=0.1;"]
-    lines += ['node [style=filled, fontname="Helvetica", fontsize=10, color="#475569", '
-              'margin="0.08,0.04", height=0.3];']
+             f"overlap=prism; splines={splines}; outputorder=edgesfirst; bgcolor=transparent; sep=0.1;",
+             'node [style=filled, fontname="Helvetica", fontsize=10, color="#475569", margin="0.08,0.04", height=0.3];']
     for number, node in enumerate(network.nodes):
         shape = "box" if node.kind == "router" else "ellipse"
-        fill, says = fill_of(node.partition), f"{node.name}: partition {node.partition}"
-        look = f'shape={shape}, fillcolor="{fill}", tooltip="{says}"'
-        look += f', pos="{points[number][0]:.1f},{points[number][1]:.1f}"' if points else ""
-        lines.append(f'n{number} [label="{node.name}", {look}];')
-    for number, (link, (one, other)) in enumerate(zip(network.links, network.pairs())):
-        says = f"{units.rate_said(link.rate)}, {units.time_said(link.delay)}, busy {loads[number] / 10**4:.2f}%"
-        style = ', style="dashed"' if network.nodes[one].partition != network.nodes[other].partition else ""
+        at = f', pos="{points[number][0]:.1f},{points[number][1]:.1f}"' if points else ""
+        lines.append(f'n{number} [label="{node.name}", shape={shape}, fillcolor="{fill_of(node.partition)}", '
+                     f'tooltip="{node.name}: partition {node.partition}"{at}];')
+    for link, (one, other), load in zip(network.links, network.pairs(), loads):
+        says = f"{units.rate_said(link.rate)}, {units.time_said(link.delay)}, busy {load / 10**4:.2f}%"
+        style = ', style="dashed"' if is_cut(network, one, other) else ""
         far = 1.6 if "host" not in (network.nodes[one].kind, network.nodes[other].kind) else 0.9
-        lines.append(f'n{one} -- n{other} [color="{colour(loads[number])}", penwidth={width(loads[number]):.2f}, '
-                     f'len={far}, tooltip="{says}"{style}];')
+        lines.append(f'n{one} -- n{other} [color="{colour(load)}", penwidth={width(load):.2f}, len={far}, '
+                     f'tooltip="{says}"{style}];')
     return "\n".join([*lines, "}"]) + "\n"
 
 
@@ -72,9 +75,8 @@ def by_graphviz(network, loads):
     # With -n nodes stay where they are, but for those that would lie on others.
     way = ["-Kneato", "-n"] if points else ["-Ksfdp"] if len(network.nodes) > MANY else ["-Kneato"]
     try:
-        text, pipe = dot_text(network, loads, points).encode(), subprocess.PIPE
-        words = [program, *way, "-Tsvg"]
-        ended = subprocess.run(words, input=text, stdout=pipe, stderr=subprocess.DEVNULL, timeout=SECONDS, check=False)
+        ended = subprocess.run([program, *way, "-Tsvg"], input=dot_text(network, loads, points).encode(),
+                               capture_output=True, timeout=SECONDS, check=False)
     except subprocess.TimeoutExpired:
         return None, f"Graphviz took more than {SECONDS} seconds"
     found = re.search(r"<svg.*</svg>", ended.stdout.decode(errors="replace"), re.DOTALL)
@@ -84,15 +86,12 @@ def by_graphviz(network, loads):
 
 def on_a_circle(network, loads):
     """Routers on a circle, and each host outside of it beside the node that it hangs on."""
-    ends = network.ends()
-    anchors = [ends[number][0][1] if node.kind == "host" and len(ends[number]) == 1 else None
-               for number, node in enumerate(network.nodes)]
+    anchors = [near[0] if node.kind == "host" and len(near) == 1 else None
+               for node, near in zip(network.nodes, network.near())]
     order = []
     for number, anchor in enumerate(anchors):
         if anchor is None:
-            order.append(number)
-            order += [other for other, held in enumerate(anchors) if held is not None
-                      and network.ifaces[held].node == number]
+            order += [number, *(other for other, held in enumerate(anchors) if held == number)]
     order += [number for number in range(len(network.nodes)) if number not in set(order)]
     radius = max(160, len(order) * RADIUS_A_NODE / (2 * math.pi))
     # Wider than high, as names are.
@@ -103,10 +102,10 @@ def on_a_circle(network, loads):
         places[number] = (WIDER * far * math.sin(angle), -far * math.cos(angle))
     view = f"{-wide / 2:.0f} {-high / 2:.0f} {wide:.0f} {high:.0f}"
     lines = [f'<svg xmlns="http://www.w3.org/2000/svg" width="{wide:.0f}" height="{high:.0f}" viewBox="{view}">']
-    for number, (one, other) in enumerate(network.pairs()):
+    for (one, other), load in zip(network.pairs(), loads):
         (x, y), (u, v) = places[one], places[other]
-        dashes = ' stroke-dasharray="5 3"' if network.nodes[one].partition != network.nodes[other].partition else ""
-        stroke = f'stroke="{colour(loads[number])}" stroke-width="{width(loads[number]):.2f}"{dashes}'
+        dashes = ' stroke-dasharray="5 3"' if is_cut(network, one, other) else ""
+        stroke = f'stroke="{colour(load)}" stroke-width="{width(load):.2f}"{dashes}'
         lines.append(f'<line x1="{x:.1f}" y1="{y:.1f}" x2="{u:.1f}" y2="{v:.1f}" {stroke}/>')
     for number, node in enumerate(network.nodes):
         x, y = places[number]

@@ -14,7 +14,7 @@ def whole(least, most, what):
     """A whole number in a range."""
 
     def read(value):
-        if isinstance(value, bool) or not isinstance(value, int) or not least <= value <= most:
+        if type(value) is not int or not least <= value <= most:
             raise Wrong(f"has to be a whole number {least:,} to {most:,} ({what})")
         return value
 
@@ -26,7 +26,7 @@ def quantity(bounds, table, what, example):
 
     def read(value):
         number = units.quantity(value, table) if isinstance(value, str) else value
-        if isinstance(number, bool) or not isinstance(number, int) or not bounds[0] <= number <= bounds[1]:
+        if type(number) is not int or not bounds[0] <= number <= bounds[1]:
             raise Wrong(f'has to be {bounds[0]:,} to {bounds[1]:,} {what}, or a text such as "{example}"')
         return number
 
@@ -72,10 +72,8 @@ def flag(value):
 
 def place(value):
     """A latitude and a longitude in degrees."""
-    most = (90, 360)
-    if (not isinstance(value, list) or len(value) != 2
-            or any(isinstance(it, bool) or not isinstance(it, (int, float)) for it in value)
-            or not all(-end <= it <= end for it, end in zip(value, most))):
+    if (not isinstance(value, list) or [type(it) in (int, float) for it in value] != [True, True]
+            or not all(-end <= it <= end for it, end in zip(value, (90, 360)))):
         raise Wrong("has to be a latitude and a longitude in degrees, such as [50.85, 4.35]")
     return tuple(map(float, value))
 

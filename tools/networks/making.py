@@ -65,9 +65,8 @@ def make(spec, name, say=None):
     blocks, taken = routed(spec, network)
     routes.check_counts(network, network.routes, name, spec.weight, spec.spread, spec.only_flows)
     routes.check_flows(network, lambda number: place_of[number])
-    first, formed = first_line(spec), planned(spec, network, say)
-    chosen = chosen_lines(spec, network, count, blocks, taken, raised)
-    return Made(network, [*chosen, *formed], first)
+    formed = planned(spec, network, say)
+    return Made(network, [*chosen_lines(spec, network, count, blocks, taken, raised), *formed], first_line(spec))
 
 
 def first_line(spec):
@@ -104,17 +103,16 @@ def routed(spec, network):
     """Gives addresses and routes in the order of nodes that needs fewer routes; says how many blocks and addresses
     there are."""
     chosen, goals = routes.choices(network, spec.weight, spec.spread), [source.to for source in network.sources]
-    best = None
+    best = ()
     # Which order needs fewer routes, as in a tree or as they are written, depends on the network.
     for order in (addresses.tree_order(network), range(len(network.nodes))):
         addressed(spec, network, order, goals)
         found = routes.tables(network, chosen, spec.only_flows)
         size = (routes.most_of_a_node(found)[1] > limits.NODE_ROUTES, len(found))
-        if best is None or size < best[0]:
+        if not best or size < best[0]:
             best = (size, order, found)
-    counts = addressed(spec, network, best[1], goals)
-    network.routes = best[2]
-    return counts
+    _, order, network.routes = best
+    return addressed(spec, network, order, goals)
 
 
 def addressed(spec, network, order, goals):
@@ -130,8 +128,8 @@ def addressed(spec, network, order, goals):
 
 def chosen_lines(spec, network, flow_count, blocks, taken, raised):
     """What was chosen, a line each."""
-    packets = sum(source.count for source in network.sources)
-    before, partitions = routes.unaggregated(network), max(node.partition for node in network.nodes) + 1
+    # With one for each address of each other node.
+    before = sum(len(network.ifaces) - len(own) for own in network.ends())
     to = " to the ends of flows" if spec.only_flows else ""
     spread = "; of equal ones another for each destination" if spec.spread else "; of equal ones the first"
     lines = [
@@ -141,10 +139,11 @@ def chosen_lines(spec, network, flow_count, blocks, taken, raised):
         "behind it have one",
         f"routes      {len(network.routes):,}{to}, by least {spec.weight}{spread}; one for each address would be "
         f"{before:,}",
-        f"flows       {flow_count} with {packets:,} packets; where a cbr flow ends its port is open",
+        f"flows       {flow_count} with {sum(source.count for source in network.sources):,} packets; where a cbr flow "
+        "ends its port is open",
         f"stop        {units.time_said(spec.stop)}; a flow that says no other end ends at "
         f"{units.time_said(spec.stop * flows.TENTHS // 10)}",
-        f"partitions  {partitions}, with {channels(network)} channels",
+        f"partitions  {max(node.partition for node in network.nodes) + 1}, with {channels(network)} channels",
     ]
     if raised:
         shown = ", ".join(raised[:4]) + (f" and {len(raised) - 4} more" if len(raised) > 4 else "")

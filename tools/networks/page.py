@@ -41,27 +41,25 @@ def flows_table(network, found):
     """A row for each source."""
     owners, rows = network.node_of_address(), []
     for number, source in enumerate(network.sources):
-        name, count = network.nodes[source.node].name, traffic.packets_of(network, source)
+        name = network.nodes[source.node].name
         if source.kind == "raw":
-            rows.append((f"{number}: raw", name, "", "", "", "", "", ""))
+            rows.append((f"{number}: raw", name, *[""] * 6))
             continue
         goal = network.nodes[owners[source.to]].name if source.to in owners else fields.address_said(source.to)
         rate = (source.size + limits.HEADERS) * 8 * 10**9 // source.interval
         end = f"{found.lengths[number]} links" if found.ends[number] is not None else "no route"
         port = f"port {source.dport}" if source.kind == "cbr" else f"identifier {source.ident}"
-        rows.append((f"{number}: {source.kind}", name, goal, port, source.size, f"{count:,}", units.rate_said(rate),
-                     end))
+        rows.append((f"{number}: {source.kind}", name, goal, port, source.size,
+                     f"{traffic.packets_of(network, source):,}", units.rate_said(rate), end))
     return html_table(("flow", "from", "to", "to port", "data (octets)", "packets", "rate", "way"), rows)
 
 
 def nodes_table(network, found):
     """A row for each node."""
-    routes, ends = network.node_routes(), network.ends()
     rows = []
-    for number, node in enumerate(network.nodes):
-        first = fields.address_said(network.ifaces[ends[number][0][0]].address) if ends[number] else ""
-        rows.append((node.name, node.kind, node.partition, len(ends[number]), first, len(routes[number]),
-                     f"{found.hops[number]:,}"))
+    for node, own, routes, hops in zip(network.nodes, network.ends(), network.node_routes(), found.hops):
+        first = fields.address_said(network.ifaces[own[0][0]].address) if own else ""
+        rows.append((node.name, node.kind, node.partition, len(own), first, len(routes), f"{hops:,}"))
     return html_table(("node", "kind", "partition", "links", "first address", "routes", "packets in and out"), rows)
 
 

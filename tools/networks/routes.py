@@ -40,12 +40,15 @@ def check_counts(network, routes, name, weight, spread, only_flows):
     node, count = most_of_a_node(routes)
     if count <= limits.NODE_ROUTES and len(routes) <= limits.ROUTES:
         return
-    said = f"the network would need {len(routes):,} routes, and at most {limits.ROUTES:,} may be"
+    who, some, most = "the network", len(routes), limits.ROUTES
     if count > limits.NODE_ROUTES:
-        said = (f'node "{network.nodes[node].name}" would need {count:,} routes, and at most {limits.NODE_ROUTES:,} '
-                "may be")
+        who, some, most = f'node "{network.nodes[node].name}"', count, limits.NODE_ROUTES
     fewer = routes if only_flows else tables(network, choices(network, weight, spread), True)
-    raise errors.Refused(name, f"{said}: {advice(len(routes), len(fewer), spread)}")
+    ways = [f"route only to the ends of flows, which are {len(fewer):,} (`only_flows = true` in a SPEC, `routes "
+            "--only-flows`)"] if len(fewer) < len(routes) else []
+    advice = " or ".join(filter(None, [", ".join([*ways, *(["leave out spread"] if spread else [])]),
+                                       "have fewer routers"]))
+    raise errors.Refused(name, f"{who} would need {some:,} routes, and at most {most:,} may be: {advice}")
 
 
 def computed(network, weight, spread=False, name="", only_flows=False):
@@ -55,25 +58,12 @@ def computed(network, weight, spread=False, name="", only_flows=False):
     return routes
 
 
-def advice(count, fewer, spread):
-    """What helps against so many routes, of which fewer may lead to the ends of flows."""
-    ways = [f"route only to the ends of flows, which are {fewer:,} (`only_flows = true` in a SPEC, `routes "
-            "--only-flows`)"] if fewer < count else []
-    ways += ["leave out spread"] if spread else []
-    return " or ".join(filter(None, [", ".join(ways), "have fewer routers"]))
-
-
 def flow_ends(network):
     """The nodes that send or take a flow's packets, raw ones too: others get none."""
     owners = network.node_of_address()
     goals = {source.to for source in network.sources}
     goals.update(address for source in network.sources for address, _ in source.goals)
     return {source.node for source in network.sources} | {owners[goal] for goal in goals if goal in owners}
-
-
-def unaggregated(network):
-    """How many routes there would be with one for each address of each other node."""
-    return sum(len(network.ifaces) - len(own) for own in network.ends())
 
 
 def check_joined(network, name, place_of=None):
