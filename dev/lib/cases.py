@@ -19,7 +19,5 @@ def topologies(folder):
 def expected(path):
     """The words of each line of the case beside a topology, but for comments."""
     case = path.removesuffix(".toml") + ".expect"
-    if not os.path.exists(case):
-        return []
-    lines = [line.split() for line in here.octets(case).decode(errors="replace").splitlines()]
-    return [words for words in lines if words and not words[0].startswith("#")]
+    lines = here.octets(case).decode(errors="replace").splitlines() if os.path.exists(case) else []
+    return [line.split() for line in lines if line.strip() and not line.lstrip().startswith("#")]

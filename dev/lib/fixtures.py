@@ -25,13 +25,10 @@ def write(path, text):
 
 def grow(folder, files):
     """A tree of these files, beside the scripts of the repository."""
-    os.mkdir(os.path.join(folder, "dev"))
-    os.mkdir(os.path.join(folder, "dev", "planted"))
-    for name in os.listdir(here.path("dev")):
-        if name not in ("planted", "words-known"):
-            os.symlink(here.path("dev", name), os.path.join(folder, "dev", name))
-    for name in ("plant", "bugs.py"):
-        os.symlink(here.path("dev", "planted", name), os.path.join(folder, "dev", "planted", name))
+    os.makedirs(os.path.join(folder, "dev", "planted"))
+    linked = [name for name in os.listdir(here.path("dev")) if name not in ("planted", "words-known")]
+    for name in (*linked, "planted/plant", "planted/bugs.py"):
+        os.symlink(here.path("dev", name), os.path.join(folder, "dev", name))
     for name, text in files.items():
         write(os.path.join(folder, name), text)
 
@@ -44,9 +41,8 @@ def run(path):
     with process.folder("fixture") as folder:
         grow(folder, files)
         environment = {**os.environ, "PATH": f"{os.path.join(folder, 'bin')}:{os.environ['PATH']}"}
-        if os.path.isdir(os.path.join(folder, "bin")):
-            for name in os.listdir(os.path.join(folder, "bin")):
-                os.chmod(os.path.join(folder, "bin", name), 0o755)
+        for program in here.files(folder, "bin"):
+            os.chmod(program, 0o755)
         ended = process.call(words, cwd=folder, env=environment)
     found = ended.out.decode() + ended.errors.decode() + f"status {ended.status}\n"
     return found, wanted

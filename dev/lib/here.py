@@ -20,8 +20,7 @@ def example(name):
 
 def topologies():
     """The topologies of examples/, beside which SPECs of tools/network stand."""
-    names = sorted(os.listdir(path("examples")))
-    return [path("examples", it) for it in names if it.endswith(".toml") and not it.endswith(".spec.toml")]
+    return [it for it in files("examples", ends=".toml") if not it.endswith(".spec.toml")]
 
 
 def read(*parts):
@@ -55,19 +54,14 @@ def crate_lines():
 
 def below(crate, known):
     """All crates of the repository that a crate depends on, each after those that it depends on itself."""
-    found = []
-    for name in known[crate]:
-        if name in known:
-            found += [it for it in [*below(name, known), name] if it not in found]
-    return found
+    own = [name for name in known[crate] if name in known]
+    return list(dict.fromkeys(it for name in own for it in (*below(name, known), name)))
 
 
 def files(*parts, ends=""):
     """The files below a folder whose names have an end, in one order."""
-    found = []
-    for folder, _, names in os.walk(path(*parts), followlinks=True):
-        found += [os.path.join(folder, name) for name in names if name.endswith(ends)]
-    return sorted(found)
+    walked = os.walk(path(*parts), followlinks=True)
+    return sorted(os.path.join(folder, name) for folder, _, names in walked for name in names if name.endswith(ends))
 
 
 def marks(name):

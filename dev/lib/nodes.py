@@ -46,13 +46,8 @@ def free_port():
     while True:
         with _lock:
             port = next(_numbers)
-        with socket.socket() as made:
-            made.setsockopt(socket.SOL_SOCKET, socket.SO_REUSEADDR, 1)
-            try:
-                made.bind((HOST, port))
-                return port
-            except OSError:
-                pass
+        with contextlib.suppress(OSError), socket.create_server((HOST, port)):
+            return port
 
 
 def free_ports(network):
@@ -94,8 +89,7 @@ class Node:
         places = {other: place if isinstance(place, tuple) else (HOST, place) for other, place in ports.items()}
         here.write(addresses, "".join(f"{p} {r} {host}:{port}\n" for (p, r), (host, port) in places.items()))
         words = ["node", network.path, self.folder, *map(str, key), addresses]
-        self.words = [*before, here.NULLSIM, *words, *further]
-        self.times_begun = 0
+        self.words, self.times_begun = [*before, here.NULLSIM, *words, *further], 0
         self.begin()
 
     def begin(self):
@@ -207,20 +201,18 @@ class Nodes:
         return files or self.all_certificate_faults()
 
     def all_certificate_faults(self):
-        """That of the first replicas, and of the second ones."""
-        return [fault for replica in (0, 1) for fault in self.certificate_faults(replica)]
-
-    def certificate_faults(self, replica):
-        """What `certify` says but `certified` of what the replicas of this number left, one of each partition, where
+        """What `certify` says but `certified` of what the first replicas left, and of what the second ones did, where
         all of them are done."""
-        own = [self.all.get(key) for key in self.network.keys() if key[1] == replica]
-        if not own or not all(node and node.status() == 0 for node in own):
-            return []
-        done = process.nullsim("certify", self.network.path, 2, *(node.folder for node in own))
-        if done.status != 0 or not done.out.startswith(b"certified\n"):
-            return [f"what the replicas {replica} left is not certified: {process.ending(done)}"]
-        self.certified += 1
-        return []
+        faults = []
+        for replica in self.network.replicas:
+            own = [self.all.get(key) for key in self.network.keys() if key[1] == replica]
+            if all(node and node.status() == 0 for node in own):
+                done = process.nullsim("certify", self.network.path, 2, *(node.folder for node in own))
+                is_certified = done.status == 0 and done.out.startswith(b"certified\n")
+                self.certified += is_certified
+                faults += [] if is_certified else [f"what the replicas {replica} left is not certified: "
+                                                   f"{process.ending(done)}"]
+        return faults
 
     def kill(self):
         for node in self.all.values():

@@ -40,12 +40,10 @@ def call(words, seconds=SECONDS, **how):
                                        "stderr": subprocess.PIPE, **how})
     try:
         out, errors = child.communicate(timeout=seconds)
-        status = child.returncode
     except subprocess.TimeoutExpired:
         child.kill()
-        out, errors = child.communicate()
-        status = None
-    return Ended(status, out, errors, time.monotonic() - begun)
+        return Ended(None, *child.communicate(), time.monotonic() - begun)
+    return Ended(child.returncode, out, errors, time.monotonic() - begun)
 
 
 def nullsim(*words, before=(), **how):

@@ -54,10 +54,7 @@ class Crate:
 
     def below(self):
         """The crates below it, each after those that it depends on."""
-        found = []
-        for crate in self.own:
-            found += [it for it in [*crate.below(), crate] if it not in found]
-        return found
+        return list(dict.fromkeys(it for crate in self.own for it in (*crate.below(), crate)))
 
 
 def crates():
