@@ -5,6 +5,7 @@ import functools
 import os
 import re
 
+from dev.facts import pages
 from dev.lib import here
 
 LEAST = (3, 9)
@@ -28,17 +29,10 @@ NETWORKS = "docs/NETWORKS.md"
 HELP = re.compile(r"^  make(?: ([a-z-]+))?( \*)?(?= )")
 
 
-def module(name):
-    """The file of a module of the repository, or none."""
-    for top in ("", "tools"):
-        path = here.path(top, *name.split(".")) + ".py"
-        if os.path.isfile(path):
-            return [path]
-    return []
-
-
-def is_python(path):
-    return path.endswith(".py") or here.octets(path).startswith(b"#!/usr/bin/env python3")
+def modules(names):
+    """The files of those modules that are of the repository."""
+    paths = (here.path(top, *name.split(".")) + ".py" for name in names for top in ("", "tools"))
+    return [path for path in paths if os.path.isfile(path)]
 
 
 def imported(tree):
@@ -80,15 +74,19 @@ def closure(paths):
         path = paths.pop()
         if path not in found:
             found[path] = names_in(here.read(path))
-            paths += [it for name in found[path] for it in module(name)]
+            paths += modules(found[path])
     return found
+
+
+def version(python):
+    return ".".join(map(str, python))
 
 
 def needs_of(script):
     """The least Python and the packages of a script; with an option behind it, it looks for no package."""
     paths = []
     for name in (script.split()[0], *CALLS.get(script, [])):
-        paths += filter(is_python, here.files(name) if os.path.isdir(here.path(name)) else [here.path(name)])
+        paths += filter(pages.is_script, here.files(name) if os.path.isdir(here.path(name)) else [here.path(name)])
     python, packages = LEAST, set()
     for names in closure(paths).values():
         python = max([python, *(NEWER[name] for name in names if name in NEWER)])
@@ -137,12 +135,8 @@ def check_help(report):
         report.note(has_star == (python > LEAST), what)
         for package in set().union(*(packages for _, packages in needs)) if target not in OF_OTHERS else ():
             report.note(package in text, f"make help: {target} does not name the package {package}")
-    rules = set(" ".join(re.findall(r"^([a-z][\w/ -]*):", here.read("Makefile"), re.M)).split())
-    report.note(not set(helped) - rules, f"make help: it lists {', '.join(sorted(set(helped) - rules))}")
-
-
-def version(python):
-    return ".".join(map(str, python))
+    unknown = set(helped) - pages.targets()
+    report.note(not unknown, f"make help: it lists {', '.join(sorted(unknown))}")
 
 
 def table():

@@ -14,6 +14,8 @@ LISTS = {
 FORMATS = "docs/FORMATS.md"
 # A word that only the help has.
 HELP = "help"
+# A word in a cell of README's table.
+WORD = r"`([a-z]+)(?= [A-Z]|`)"
 
 
 def words():
@@ -23,19 +25,12 @@ def words():
     return {first or second for first, second in found}
 
 
-def listed_in(path, pattern):
-    """The words that a file lists."""
-    found = re.findall(pattern, here.read(path), re.M)
-    if path == "README.md":
-        return {word for cell in found for word in re.findall(r"`([a-z]+)(?= [A-Z]|`)", cell)}
-    return set(" ".join(found).split())
-
-
 def check_words(report):
     """Each list of words has all of them, and no other."""
     known, formats = words(), here.read(FORMATS)
     for path, pattern in LISTS.items():
-        found = listed_in(path, pattern) - {HELP}
+        listed = " ".join(re.findall(pattern, here.read(path), re.M))
+        found = {*(re.findall(WORD, listed) if path == "README.md" else listed.split())} - {HELP}
         report.note(not known - found, f"{path}: these words are missing: {', '.join(sorted(known - found))}")
         report.note(not found - known, f"{path}: these are no words: {', '.join(sorted(found - known))}")
     for word in sorted(known):
