@@ -26,46 +26,32 @@ WANTED = [{"node": "a", "to": "0.0.0.0/0", "via": "a0"}, {"node": "b", "to": "0.
 
 class Routes(tool.Folder):
     def edited(self, text):
-        status, said, beside = tool.call("routes", self.file("x.toml", text))
-        self.assertEqual(status, 0, beside)
+        said, _ = self.done("routes", self.file("x.toml", text))
         self.assertEqual(tomllib.loads(said)["route"], WANTED)
         self.assertEqual({**tomllib.loads(text), "route": WANTED}, tomllib.loads(said))
-        again = tool.call("routes", self.file("y.toml", said))[1]
-        self.assertEqual(again, said)
+        self.assertEqual(self.done("routes", self.file("y.toml", said))[0], said)
         return said
 
     def test_comments_stay(self):
-        said = self.edited(HEAD + NODES + IFACES + LINKS + ROUTES)
-        for comment in ("# begin", "# first", "# the link", "# above", "  # stays",
-                        "# no more, b to 10.0.0.0/24 via b0: goes", "]   # behind", "# end"):
-            self.assertIn(comment, said)
-
-    def test_a_text_without_routes_gets_them(self):
-        said = self.edited(HEAD + NODES + IFACES + LINKS)
-        self.assertIn("# the link\n\nroute = [", said)
-
-    def test_routes_as_blocks(self):
-        said = self.edited(HEAD + NODES + IFACES + LINKS + BLOCKS)
-        for comment in ("# one", "# of a", "# between"):
-            self.assertIn(comment, said)
+        for further, comments in ((ROUTES, ("# begin", "# first", "# the link", "# above", "  # stays",
+                                            "# no more, b to 10.0.0.0/24 via b0: goes", "]   # behind", "# end")),
+                                  ("", ("# the link\n\nroute = [",)), (BLOCKS, ("# one", "# of a", "# between"))):
+            said = self.edited(HEAD + NODES + IFACES + LINKS + further)
+            for comment in comments:
+                self.assertIn(comment, said)
 
     def test_a_text_all_of_blocks(self):
-        parts = [HEAD]
-        for name, kind in (("a", "host"), ("b", "host")):
-            parts.append(f'[[node]]\nname = "{name}"\nkind = "{kind}"\npartition = 0\n')
-        for name, node, last in (("a0", "a", 1), ("b0", "b", 2)):
-            parts.append(f'[[iface]]\nname = "{name}"\nnode = "{node}"\naddress = "10.0.0.{last}"\nqueue = 4\n')
-        parts.append('[[link]]\na = "a0"\nb = "b0"\nrate = 8000000\ndelay = 0 # none\n')
-        self.edited("\n".join(parts))
+        nodes = [f'[[node]]\nname = "{name}"\nkind = "host"\npartition = 0\n' for name in "ab"]
+        ifaces = [f'[[iface]]\nname = "{node}0"\nnode = "{node}"\naddress = "10.0.0.{last}"\nqueue = 4\n'
+                  for last, node in enumerate("ab", 1)]
+        link = '[[link]]\na = "a0"\nb = "b0"\nrate = 8000000\ndelay = 0 # none\n'
+        self.edited("\n".join([HEAD, *nodes, *ifaces, link]))
 
     def test_examples_lose_no_word(self):
         for name in ("office", "ring", "shift", "buffer", "campus"):
-            text = tool.example(name)
-            status, said, _ = tool.call("routes", self.file("x.toml", text))
-            self.assertEqual(status, 0)
-            for line in text.splitlines():
-                comment = line.partition("#")[2].strip()
-                self.assertIn(comment, said)
+            said, _ = self.done("routes", tool.path_of(name))
+            for line in tool.example(name).splitlines():
+                self.assertIn(line.partition("#")[2].strip(), said)
 
     def test_a_flow_without_a_route_is_refused(self):
         nodes = 'node = [{name = "a", kind = "host"}, {name = "h", kind = "host"}, {name = "b", kind = "host"}]\n'
@@ -74,10 +60,8 @@ class Routes(tool.Folder):
         links = 'link = [{a = "a0", b = "h0", rate = 1000, delay = 0}, {a = "h1", b = "b0", rate = 1000, delay = 0}]\n'
         source = ('source = [\n{kind = "echo", node = "a", to = "10.0.0.4", ident = 1, size = 1, start = 0, '
                   'interval = 1, count = 1}]\n')
-        path = self.file("x.toml", f"{HEAD}{nodes}iface = [{ifaces}]\n{links}{source}")
-        status, said, beside = tool.call("routes", path)
-        self.assertEqual((status, said), (3, ""))
-        self.assertIn('x.toml:9: source 0: there is no way by routers from node "a" to node "b"', beside)
+        said = self.refused("routes", self.file("x.toml", f"{HEAD}{nodes}iface = [{ifaces}]\n{links}{source}"))
+        self.assertIn('x.toml:9: source 0: there is no way by routers from node "a" to node "b"', said)
 
 
 class Partitions(tool.Folder):
@@ -87,13 +71,11 @@ class Partitions(tool.Folder):
         said = editing.set_keys(text, "node", "partition", {0: 3, 1: 4})
         self.assertIn('{name = "a", kind = "host", partition = 3},  # first', said)
         self.assertIn("partition=4 , ports = [9]", said)
-        self.assertEqual(tool.call("partition", path, "1")[0], 0)
+        self.done("partition", path, "1")
 
     @tool.needs_program("gpmetis")
     def test_a_cut_link_gets_a_delay(self):
-        path = self.file("x.toml", HEAD + NODES + IFACES + LINKS)
-        status, said, beside = tool.call("partition", path, "2")
-        self.assertEqual(status, 0, beside)
+        said, beside = self.done("partition", self.file("x.toml", HEAD + NODES + IFACES + LINKS), "2")
         self.assertIn("delay = 1}]  # the link", said)
         self.assertIn("the delay of a to b is now 1 ns", beside)
         self.assertEqual([node["partition"] for node in tomllib.loads(said)["node"]], [0, 1])

@@ -16,8 +16,7 @@ class Partitions(tool.Folder):
     def cut(self, text, count, by):
         """A text with partitions, as a file, and the same in one partition."""
         whole = self.file("whole.toml", WHOLE.sub("partition = 0", text))
-        status, said, beside = tool.call("partition", whole, count, "--by", by)
-        self.assertEqual(status, 0, beside)
+        said, beside = self.done("partition", whole, count, "--by", by)
         self.assertEqual({node["partition"] for node in tomllib.loads(said)["node"]}, set(range(count)))
         self.assertEqual(WHOLE.sub("partition = 0", said), WHOLE.sub("partition = 0", text))
         return self.file("cut.toml", said), whole, beside
@@ -25,21 +24,15 @@ class Partitions(tool.Folder):
     def both(self, by):
         for name, count in EXAMPLES.items():
             with self.subTest(name=name):
-                path, _, beside = self.cut(tool.example(name), count, by)
+                (path, _, beside), again = (self.cut(tool.example(name), count, by) for _ in range(2))
                 self.assertIn("cut link", beside)
-                again = self.cut(tool.example(name), count, by)[0]
-                self.assertEqual(path, again)
+                self.assertEqual(path, again[0])
         path, _, beside = self.cut(tool.example("campus"), 4, by)
         self.assertEqual(tool.read(path), tool.example("campus"), "the places of the campus are found again")
         self.assertIn("north to south           0, 1       2,000,008    4,243            16.97", beside)
 
-    @tool.needs_program("gpmetis")
-    def test_metis(self):
-        self.both("metis")
-
-    @tool.needs_module("networkx")
-    def test_kernighan_lin(self):
-        self.both("kernighan-lin")
+    test_metis = tool.needs_program("gpmetis")(lambda self: self.both("metis"))
+    test_kernighan_lin = tool.needs_module("networkx")(lambda self: self.both("kernighan-lin"))
 
     @tool.needs_program("gpmetis")
     def test_few_channels(self):
@@ -74,15 +67,14 @@ class Partitions(tool.Folder):
 
     def test_what_is_refused(self):
         path = self.file("x.toml", tool.example("ring"))
-        self.assertIn("3 nodes cannot be shared out among 4 partitions", tool.call("partition", path, 4)[2])
+        self.assertIn("3 nodes cannot be shared out among 4 partitions", self.refused("partition", path, 4))
         for count in (0, 65, -1):
-            self.assertIn("N has to be 1 to 64", tool.call("partition", path, "--", count)[2])
+            self.assertIn("N has to be 1 to 64", self.refused("partition", path, "--", count))
         self.assertEqual(tool.call("partition", path, "two")[0], 2)
 
     def test_a_missing_package_is_said(self):
         with tool.without(cutting.shutil, "which"), tool.without(cutting, "module"):
-            status, said, beside = tool.call("partition", self.file("x.toml", tool.example("ring")), 2)
-        self.assertEqual((status, said), (4, ""))
+            beside = self.refused("partition", self.file("x.toml", tool.example("ring")), 2, status=4)
         self.assertIn("METIS is not installed: apt-get install metis, or pip install pymetis; and networkx is not "
                       "installed for it", beside)
         self.assertIn("the Python that runs is /", beside)
@@ -109,10 +101,8 @@ class Partitions(tool.Folder):
         text = tool.example("ring").replace("source = [\n  ", f"source = [\n  {raw}")
         self.assertIn(raw, text)
         path = self.file("x.toml", text)
-        for words in (("routes",), ("show",)):
-            status, said, beside = tool.call(*words, path)
-            self.assertEqual(status, 0, beside)
-            self.assertIn("raw", said)
+        for word in ("routes", "show"):
+            self.assertIn("raw", self.done(word, path)[0])
 
     def test_long_links_are_cut(self):
         network = tool.network_of(tool.example("campus"))
@@ -159,10 +149,8 @@ class Texts(tool.Folder):
             ("queue = 5}, ", "queu = 5}, ", 'key "queu" is unknown; did you mean "queue"?'),
         ):
             self.assertIn(old, text)
-            for words in (("routes",), ("partition",), ("show",)):
-                path = self.file("x.toml", text.replace(old, new, 1))
-                status, out, beside = tool.call(*words, path, *((2,) if words == ("partition",) else ()))
-                self.assertEqual((status, out), (3, ""), said)
-                self.assertIn(said, beside)
+            path = self.file("x.toml", text.replace(old, new, 1))
+            for words in (("routes", path), ("partition", path, 2), ("show", path)):
+                self.assertIn(said, self.refused(*words))
         with self.assertRaises(errors.Refused):
             tool.network_of("format = 1\n")

@@ -1,5 +1,7 @@
 """Routes: the tables decide as asked, paths are shortest, and comments stay."""
 
+import itertools
+import math
 import unittest
 from unittest import mock
 
@@ -65,8 +67,8 @@ class Tables(unittest.TestCase):
             self.assertEqual(len(tree.table(asked)), least_table(tree, addresses, asked))
 
     def test_none_is_asked(self):
-        self.assertEqual(aggregate.Tree([], []).table([]), [])
-        self.assertEqual(aggregate.Tree([5, 9], [0, 1]).table([None, None]), [])
+        for addresses in ([], [5, 9]):
+            self.assertEqual(aggregate.Tree(addresses, range(len(addresses))).table([None] * len(addresses)), [])
 
 
 def longest(table, address):
@@ -77,12 +79,10 @@ def longest(table, address):
 
 def least_table(tree, addresses, asked):
     """How many prefixes the smallest table has, by trying all."""
-    places = tree.prefixes
     best = len(asked)
-    for code in range(3 ** len(places)):
-        chosen = [(code // 3**number) % 3 for number in range(len(places))]
-        table = [topology.Route(0, *place, via - 1) for place, via in zip(places, chosen) if via]
-        if len(table) < best and all(longest(table, address) == via for address, via in zip(addresses, asked)):
+    for chosen in itertools.product((None, 0, 1), repeat=len(tree.prefixes)):
+        table = [topology.Route(0, *place, via) for place, via in zip(tree.prefixes, chosen) if via is not None]
+        if len(table) < best and [longest(table, address) for address in addresses] == asked:
             best = len(table)
     return best
 
@@ -91,14 +91,12 @@ class Paths(unittest.TestCase):
     def lengths(self, network, weight):
         """The cost of the way that packets go, for each two nodes; None where there is none."""
         ways, found = Ways(network), {}
-        first = {}
-        for iface in network.ifaces:
-            first.setdefault(iface.node, iface.address)
+        first = {iface.node: iface.address for iface in reversed(network.ifaces)}
         for start in range(len(network.nodes)):
             for goal, address in first.items():
                 passed, end = ways.way(start, address)
-                found[start, goal] = sum(paths.cost(network.links[link], weight)
-                                         for _, _, link in passed) if end is not None else None
+                costs = (paths.cost(network.links[link], weight) for _, _, link in passed)
+                found[start, goal] = sum(costs) if end is not None else None
         return found
 
     def test_shortest_by_all_pairs(self):
@@ -141,21 +139,15 @@ class Paths(unittest.TestCase):
 
 def floyd(network, weight):
     """Shortest paths between all nodes, hosts only at their ends: Floyd and Warshall's way."""
-    count = len(network.nodes)
-    found = {(one, other): 0 if one == other else None for one in range(count) for other in range(count)}
+    nodes = range(len(network.nodes))
+    found = {(one, other): 0 if one == other else math.inf for one in nodes for other in nodes}
     for link, (one, other) in zip(network.links, network.pairs()):
-        price = paths.cost(link, weight)
         for pair in ((one, other), (other, one)):
-            if found[pair] is None or price < found[pair]:
-                found[pair] = price
-    for middle in (number for number, node in enumerate(network.nodes) if node.kind == "router"):
-        for one in range(count):
-            for other in range(count):
-                left, right = found[one, middle], found[middle, other]
-                if left is not None and right is not None and (found[one, other] is None
-                                                               or left + right < found[one, other]):
-                    found[one, other] = left + right
-    return found
+            found[pair] = min(found[pair], paths.cost(link, weight))
+    for middle in (number for number in nodes if network.nodes[number].kind == "router"):
+        for one, other in found:
+            found[one, other] = min(found[one, other], found[one, middle] + found[middle, other])
+    return {pair: None if price == math.inf else price for pair, price in found.items()}
 
 
 def by_networkx(network, weight):
@@ -172,16 +164,13 @@ def by_networkx(network, weight):
     for start, node in enumerate(network.nodes):
         begin = ("from", start) if node.kind == "host" else start
         lengths = networkx.single_source_dijkstra_path_length(graph, begin)
-        for goal in range(len(network.nodes)):
-            found[start, goal] = 0 if start == goal else lengths.get(goal)
+        found.update(((start, goal), 0 if start == goal else lengths.get(goal)) for goal in range(len(network.nodes)))
     return found
 
 
 class OnlyFlows(unittest.TestCase):
     def test_routes_to_the_ends_of_flows_are_fewer_and_as_short(self):
-        text = spec_of("random").replace('among = "*"',
-                                         'from = "x-1-h1"\nto = ["x-9-h1", "x-20-h1"]').replace('pairs = "across"\n',
-                                                                                                "")
+        text = spec_of("random").replace('among = "*"\npairs = "across"', 'from = "x-1-h1"\nto = ["x-9-h1", "x-20-h1"]')
         every = tool.network_of(tool.made(text))
         few = tool.network_of(tool.made("only_flows = true\n" + text))
         self.assertLess(len(few.routes), len(every.routes) / 2)

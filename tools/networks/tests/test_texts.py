@@ -28,14 +28,10 @@ x = 1
 class Texts(unittest.TestCase):
     def test_each_value_stands_where_it_is_said_to(self):
         root = spans.read(TEXT)
-        self.assertEqual(TEXT[root.at("top").start : root.at("top").end], "1")
-        self.assertEqual(TEXT[root.at("odd", "key one", "x").start : root.at("odd", "key one", "x").end], "'its'")
-        self.assertTrue(TEXT[root.at("long").start : root.at("long").end].endswith('inside"""'))
-        first = root.at("array", 0, "name")
-        self.assertEqual(TEXT[first.start : first.end], '"a#]}"')
-        second = root.at("array", 1, "at")
-        self.assertEqual(TEXT[second.start : second.end], "[]")
-        self.assertEqual(TEXT[root.at("table", "inner").start], "2")
+        for way, value in ((("top",), "1"), (("odd", "key one", "x"), "'its'"), (("array", 0, "name"), '"a#]}"'),
+                           (("array", 1, "at"), "[]"), (("table", "inner"), "2"),
+                           (("long",), '"""two\n"quotes" # inside"""')):
+            self.assertEqual(TEXT[root.at(*way).start : root.at(*way).end], value)
         self.assertEqual([TEXT[table.at("name").start + 1] for table in root.at("block").members], ["c", "d"])
         self.assertEqual(spans.line_of(TEXT, root.at("block", 1).start), 15)
         self.assertEqual(toml.Text("t", TEXT).means["block"][1]["below"]["x"], 1)
@@ -50,22 +46,17 @@ class Texts(unittest.TestCase):
 class Names(unittest.TestCase):
     def test_names_are_plain_and_short_and_never_the_same(self):
         given = names.Names()
-        self.assertEqual(given.give("Zürich HB"), "zurich-hb")
-        self.assertEqual(given.give("zurich hb"), "zurich-hb-2")
+        for word, name in (("Zürich HB", "zurich-hb"), ("zurich hb", "zurich-hb-2"), ("--", "node"), ("東京", "node-2")):
+            self.assertEqual(given.give(word), name)
         long = "Ein sehr langer Name mit Großbuchstaben und Akzentén, sechzig Zeichen"
-        found = [given.give(long) for _ in range(12)]
-        self.assertEqual(len(set(found)), 12)
-        for name in found:
-            self.assertTrue(names.is_name(name), name)
-        self.assertEqual(given.give("--"), "node")
-        self.assertEqual(given.give("東京"), "node-2")
+        found = {given.give(long) for _ in range(12)}
+        self.assertEqual((len(found), [name for name in found if not names.is_name(name)]), (12, []))
 
     def test_an_interface_is_named_after_both_ends(self):
         given = names.Names()
-        self.assertEqual(given.between("a", "b"), "a-b")
-        self.assertEqual(given.between("a", "b"), "a-b-2")
-        self.assertEqual(given.between("a-b", "c"), "a-b-c")
-        self.assertEqual(given.between("a", "b-c"), "a-b-c-2")
+        for one, other, name in (("a", "b", "a-b"), ("a", "b", "a-b-2"), ("a-b", "c", "a-b-c"),
+                                 ("a", "b-c", "a-b-c-2")):
+            self.assertEqual(given.between(one, other), name)
         both = given.between("x" * 32, "y" * 32)
         self.assertTrue(names.is_name(both) and "x" * 15 in both and "y" * 15 in both)
         self.assertTrue(names.is_name(given.between("a", "y" * 32)))
