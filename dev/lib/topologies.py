@@ -276,8 +276,8 @@ KINDS = {
     "large": lambda packets=2_000: grid(packets, 1_500, 400_000),
     "many": many,
     "limits": limits,
-    # Delays of a millisecond, so that arrivals come in the order of their keys; from a microsecond to a second, in equal
-    # ratios, so that they come in no order.
+    # Delays of a millisecond, so that arrivals come in the order of their keys; from a microsecond to a second, in
+    # equal ratios, so that they come in no order.
     "hub": lambda packets: hub(packets, lambda part: 1_000_000),
     "spread": lambda packets: hub(packets, lambda part: round(1_000 * 1_000_000 ** part)),
     "channels": channels,
