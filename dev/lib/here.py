@@ -23,6 +23,24 @@ def topologies():
     return [it for it in files("examples", ends=".toml") if not it.endswith(".spec.toml")]
 
 
+def case_folders(*names):
+    """Folders of the stored cases."""
+    return [path("crates", "nullsim_cases", "data", "cases", name) for name in names]
+
+
+def case_topologies(folder):
+    """The topologies of a folder, by their paths."""
+    names = sorted(os.listdir(folder)) if os.path.isdir(folder) else []
+    return [os.path.join(folder, name) for name in names if name.endswith(".toml")]
+
+
+def expected(topology):
+    """The words of each line of the case beside a topology, but for comments."""
+    case = topology.removesuffix(".toml") + ".expect"
+    lines = octets(case).decode(errors="replace").splitlines() if os.path.exists(case) else []
+    return [line.split() for line in lines if line.strip() and not line.lstrip().startswith("#")]
+
+
 def read(*parts):
     """The text of a file, by its path from the root."""
     return pathlib.Path(path(*parts)).read_text(encoding="utf-8")
