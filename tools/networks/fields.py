@@ -12,24 +12,20 @@ class Wrong(ValueError):
 
 def whole(least, most, what):
     """A whole number in a range."""
-
     def read(value):
         if type(value) is not int or not least <= value <= most:
             raise Wrong(f"has to be a whole number {least:,} to {most:,} ({what})")
         return value
-
     return read
 
 
 def quantity(bounds, table, what, example):
     """A whole number of the least unit, or a text with a unit."""
-
     def read(value):
         number = units.quantity(value, table) if isinstance(value, str) else value
         if type(number) is not int or not bounds[0] <= number <= bounds[1]:
             raise Wrong(f'has to be {bounds[0]:,} to {bounds[1]:,} {what}, or a text such as "{example}"')
         return number
-
     return read
 
 
@@ -45,13 +41,11 @@ def rate(bounds=limits.RATE):
 
 def choice(*words):
     """One of some words."""
-
     def read(value):
         if value not in words:
             near = errors.meant(value, words) if isinstance(value, str) else ""
             raise Wrong(f"has to be one of {', '.join(words)}{near}")
         return value
-
     return read
 
 
@@ -92,22 +86,18 @@ def line(value):
 
 def several(one, most, least=0):
     """An array of so many values."""
-
     def read(value):
         if not isinstance(value, list) or not least <= len(value) <= most:
             count = f"{least:,} to {most:,}" if least else f"at most {most:,}"
             raise Wrong(f"has to be an array of {count} values")
         return [one(member) for member in value]
-
     return read
 
 
 def one_or_several(one, most):
     """A value, or an array of such values."""
-
     def read(value):
         return several(one, most)(value) if isinstance(value, list) else [one(value)]
-
     return read
 
 

@@ -1,6 +1,6 @@
 """Partitions for a topology text, and what each cut link costs."""
 
-from networks import coarse, editing, errors, fewest, limits, making, paths, tables, topology, traffic, units
+from networks import coarse, editing, errors, limits, making, paths, tables, topology, traffic, units
 
 
 def chosen(text, count, by=None):
@@ -31,7 +31,7 @@ def split(network, found, count, by):
     parts = filled(found, parts, count)
     even = network.channels(parts)
     if even > limits.CHANNELS:
-        few, by_links = fewest.cut(network, found, count, by)
+        few, by_links = coarse.cut_few(network, found, count, by)
         few = filled(found, few, count)
         if network.channels(few) < even:
             parts, how = few, f"{by_links}, for few channels: parts of even work would have {even:,}"

@@ -4,7 +4,7 @@ from collections import Counter
 
 from networks import aggregate, errors, limits, paths
 from networks.topology import Route
-from networks.ways import Ways
+from networks.paths import Ways
 
 
 def choices(network, weight, spread=False):

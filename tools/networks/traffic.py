@@ -4,7 +4,7 @@ queues are not either."""
 from dataclasses import dataclass
 
 from networks import limits
-from networks.ways import Ways
+from networks.paths import Ways
 
 
 @dataclass

@@ -7,7 +7,7 @@ from unittest import mock
 
 from networks import aggregate, chance, errors, limits, paths, routes, topology
 from networks.tests import tool
-from networks.ways import Ways
+from networks.paths import Ways
 
 GROUPS = {
     "ring": 'kind = "ring"\nname = "r"\nnodes = 7\nhosts = 1',
