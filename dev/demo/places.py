@@ -1,7 +1,9 @@
 """Where the processes and the proxy listen: over loopback, or in network namespaces that a bridge joins, with netem on
 each of their links."""
 
-from dev.lib import machines, nodes
+import contextlib
+
+from dev.lib import here, machines, nodes
 
 NETEM = ["delay", "5ms", "loss", "2%"]
 # The address of the proxy, and of the process with a number; and the port of each.
@@ -61,12 +63,10 @@ class Namespaces:
         """How many TCP segments the systems of all processes sent again, as far as they still run."""
         total = 0
         for replica in replicas:
-            try:
-                with open(f"/proc/{replica.child.pid}/net/snmp", encoding="ascii") as file:
-                    names, values = [line.split() for line in file if line.startswith("Tcp:")]
+            with contextlib.suppress(OSError, ValueError):
+                text = here.read(f"/proc/{replica.child.pid}/net/snmp")
+                names, values = [line.split() for line in text.splitlines() if line.startswith("Tcp:")]
                 total += int(values[names.index("RetransSegs")])
-            except (OSError, ValueError):
-                pass
         return total
 
     def close(self):

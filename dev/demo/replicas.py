@@ -1,5 +1,6 @@
 """The processes, each of which prints once a second on standard error how far it is (docs/FORMATS.md, Runs)."""
 
+import re
 from collections import Counter
 
 from dev.lib import here, machines
@@ -9,28 +10,16 @@ from dev.lib.nodes import Node
 WORDS = ("safe", "events", "records", "messages", "nulls", "connections", "broken", "resent")
 
 
-def numbers(words, values):
-    """The numbers that stand beside words that are known; others may come with a later program."""
-    return {word: int(value) for word, value in zip(words, values) if word in WORDS and value.isdecimal()}
-
-
 def figures(lines):
     """What lines of standard error have last, by their words: lines `safe S events E ..`, and the row of the table that
     comes at the end."""
     found, head = {}, []
-    for line in lines:
-        words = line.split()
-        if words[:1] == ["safe"]:
-            found.update(numbers(words[::2], words[1::2]))
-        elif head:
-            found.update(numbers(head, words))
+    for words in map(str.split, lines):
+        pairs = zip(words[::2], words[1::2]) if words[:1] == ["safe"] else zip(head, words)
+        # Others may come with a later program.
+        found.update((word, int(value)) for word, value in pairs if word in WORDS and value.isdecimal())
         head = words if words[:2] == ["partition", "replica"] else []
     return found
-
-
-def records(lines):
-    """How many records lines `iface NAME records N octets M` have in all."""
-    return sum(int(words[3]) for words in map(str.split, lines) if words[:1] == ["iface"])
 
 
 class Replica(Node):
@@ -61,7 +50,9 @@ class Replica(Node):
         has_ended = self.status() == 0
         self.figures = figures(self.lines())
         if has_ended:
-            self.figures.update(safe=self.network.stop, records=records(here.octets(self.out).decode().splitlines()))
+            # Lines `iface NAME records N octets M`.
+            counts = re.findall(r"^iface \S+ records (\d+)", here.octets(self.out).decode(), re.M)
+            self.figures.update(safe=self.network.stop, records=sum(map(int, counts)))
 
     def safe(self):
         """Its safe time in nanoseconds, as far as the process that runs has printed it."""

@@ -6,7 +6,7 @@ import time
 from collections import Counter, defaultdict
 
 from dev.demo.replicas import Replica
-from dev.lib import frames, process, proxy
+from dev.lib import frames, nodes, process, proxy
 
 KILLED = (1, 0)
 KILLED_AT_SHARE = 33
@@ -62,9 +62,9 @@ class Counts(proxy.Watch):
     def forget(self, receiver):
         """The process of a receiver is another now, and holds nothing."""
         with self.lock:
-            for channel, process in self.whole:
-                if process == receiver:
-                    self.whole[channel, process].clear()
+            for key in self.whole:
+                if key[1] == receiver:
+                    self.whole[key].clear()
 
     def lost(self):
         """How many messages never came whole to the present process of their receiver."""
@@ -72,7 +72,7 @@ class Counts(proxy.Watch):
 
     def again_of(self, partition):
         """How many messages the processes of a partition sent again to the same receiver."""
-        return sum(count for process, count in list(self.again.items()) if process[0] == partition)
+        return sum(count for sender, count in list(self.again.items()) if sender[0] == partition)
 
 
 def plan_of(pair, seed):
@@ -95,11 +95,10 @@ class Run:
 
     def __init__(self, network, places, seed, folder):
         self.network, self.places, self.folder, self.seed = network, places, folder, seed
-        self.names = network.names
+        self.names, self.counts = network.names, Counts()
         self.title = (f"a campus in {len(self.names)} partitions, 2 replicas each: "
                       f"{len(network.keys())} processes {places.title}")
-        self.counts, self.doors = Counts(), {}
-        self.processes, self.away, self.said = {}, {}, []
+        self.doors, self.processes, self.away, self.said = {}, {}, {}, []
         self.resent, self.is_over = None, False
 
     def say(self, text, style=""):
@@ -179,24 +178,19 @@ class Run:
 
     def certify(self):
         """Has the program certify what replica 0 of each partition left, and what replica 1 did."""
-        for replica in (0, 1):
-            folders = [self.processes[key].folder for key in sorted(self.processes) if key[1] == replica]
-            ended = process.nullsim("certify", self.network.path, 4, *folders)
-            if ended.status or not ended.out.startswith(b"certified\n"):
-                raise Failed(f"what the replicas {replica} left is not certified: {process.ending(ended)}")
+        faults, _ = nodes.uncertified(self.network, self.processes, 4)
+        if faults:
+            raise Failed(faults[0])
 
     def check_counts(self):
         """What the proxy saw: no message was lost, some Byes were, and each connection broke several times."""
-        faults = [fault for door in self.doors.values() for fault in door.faults]
+        least, lost = min(door.broken for door in self.doors.values()), self.counts.lost()
+        faults = [f"the proxy read what is no frame: {it}" for door in self.doors.values() for it in door.faults]
+        faults += [f"{lost} messages never came whole"] if lost else []
+        faults += ["no Bye was lost"] if not self.counts.byes else []
+        faults += [f"a connection broke {least} times only"] if least < 2 else []
         if faults:
-            raise Failed(f"the proxy read what is no frame: {faults[0]}")
-        if self.counts.lost():
-            raise Failed(f"{self.counts.lost()} messages never came whole")
-        if not self.counts.byes:
-            raise Failed("no Bye was lost")
-        least = min(door.broken for door in self.doors.values())
-        if least < 2:
-            raise Failed(f"a connection broke {least} times only")
+            raise Failed(faults[0])
         return least
 
     def broken(self):
@@ -215,8 +209,8 @@ class Run:
                  f"{counts.lost()} lost"]
         if self.resent is not None:
             lines.append(f"{self.resent:,} TCP segments sent again by the systems of the {total} namespaces")
-        names = len(self.network.partition_of)
-        return lines + [f"{files} files of {names} interfaces: each is what the one event list writes"]
+        ifaces = len(self.network.partition_of)
+        return lines + [f"{files} files of {ifaces} interfaces: each is what the one event list writes"]
 
     def demonstrate(self, view):
         """All of it: the lines that say what came of it."""

@@ -165,6 +165,20 @@ def end_all(some, seconds=MINUTE):
     return [node.status() for node in some]
 
 
+def uncertified(network, some, workers=2):
+    """What `certify` says but `certified` of what the first replicas left, and of what the second ones did, where all
+    of them are done; and how often it said that."""
+    faults, certified = [], 0
+    for replica in network.replicas:
+        own = [some.get(key) for key in network.keys() if key[1] == replica]
+        if all(node and node.status() == 0 for node in own):
+            done = process.nullsim("certify", network.path, workers, *(node.folder for node in own))
+            is_well = done.status == 0 and done.out.startswith(b"certified\n")
+            certified += is_well
+            faults += [] if is_well else [f"what the replicas {replica} left is not certified: {process.ending(done)}"]
+    return faults, certified
+
+
 class Nodes:
     """All replicas of a network. Each reaches another at the port that `doors` has for both, or else at its own."""
 
@@ -201,17 +215,9 @@ class Nodes:
         return files or self.all_certificate_faults()
 
     def all_certificate_faults(self):
-        """What `certify` says but `certified` of what the first replicas left, and of what the second ones did, where
-        all of them are done."""
-        faults = []
-        for replica in self.network.replicas:
-            own = [self.all.get(key) for key in self.network.keys() if key[1] == replica]
-            if all(node and node.status() == 0 for node in own):
-                done = process.nullsim("certify", self.network.path, 2, *(node.folder for node in own))
-                is_certified = done.status == 0 and done.out.startswith(b"certified\n")
-                self.certified += is_certified
-                faults += [] if is_certified else [f"what the replicas {replica} left is not certified: "
-                                                   f"{process.ending(done)}"]
+        """What `certify` says of what is left; it is counted how often it says `certified`."""
+        faults, certified = uncertified(self.network, self.all)
+        self.certified += certified
         return faults
 
     def kill(self):

@@ -68,6 +68,19 @@ def output(*words, **how):
     return done(call(words, **how), " ".join(words)).decode(errors="replace")
 
 
+def shown(words, to=sys.stdout, begun=lambda child: None):
+    """Runs a command whose lines are shown as they come, once `begun` was called with it: its status, its minutes and
+    its last line."""
+    started, last = time.monotonic(), ""
+    streams = {"stdout": subprocess.PIPE, "stderr": subprocess.STDOUT}
+    child = subprocess.Popen(words, cwd=here.ROOT, text=True, errors="replace", **streams)
+    begun(child)
+    for line in child.stdout:
+        to.write(line)
+        last = line.strip() or last
+    return child.wait(), (time.monotonic() - started) / 60, last
+
+
 def ending(ended):
     """How a call ended, in a few words."""
     if ended.status is None:
