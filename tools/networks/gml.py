@@ -27,12 +27,10 @@ class Reading:
     def token(self):
         """The next token, or None at the end."""
         found = TOKEN.match(self.text, self.place)
-        if found:
-            self.place = found.end()
-            return found
-        if self.text[self.place :].strip() and not self.text[self.place :].lstrip().startswith("#"):
+        if not found and self.text[self.place :].strip() and not self.text[self.place :].lstrip().startswith("#"):
             raise errors.Refused(self.at(), "a text in quotes has no end")
-        return None
+        self.place = found.end() if found else self.place
+        return found
 
     def pairs(self, depth=0):
         """The keys and values up to the end of a list."""
@@ -61,10 +59,9 @@ def read(name, text):
     if len(graphs) != 1 or not isinstance(graphs[0][0], list):
         raise errors.Refused(name, "it has no list `graph [ .. ]`, or several: this is no GML of one network")
     found = Found("GML")
-    for wanted in ("node", "edge"):
-        for key, held, at in graphs[0][0]:
-            if key != wanted:
-                continue
+    # An edge may stand before its nodes.
+    for key, held, at in sorted(graphs[0][0], key=lambda it: it[0] == "edge"):
+        if key in ("node", "edge"):
             if not isinstance(held, list):
                 raise errors.Refused(at, f'"{key}" has to be a list in brackets')
             texts = {name: value for name, value, _ in held if isinstance(value, str)}

@@ -15,13 +15,11 @@ class Reading:
     """Takes the elements of a GraphML text one after the other, each with its line."""
 
     def __init__(self, name):
-        self.name, self.found = name, Found("GraphML")
-        self.keys = {}
+        self.name, self.found, self.keys = name, Found("GraphML"), {}
         self.seen_graph = self.is_directed = False
-        # The node or edge that is open: its kind, its attributes of XML, its data, its line.
-        self.open = None
+        # The nodes and edges, and that which is open: its kind, its attributes of XML, its data, its line.
+        self.all, self.open = [], None
         self.data_key, self.data_text = None, ""
-        self.nodes, self.edges = [], []
         # The text was decoded already, whatever its first line says of an encoding.
         self.parser = expat.ParserCreate("UTF-8")
         self.parser.StartElementHandler = self.start
@@ -62,8 +60,7 @@ class Reading:
             self.open[2][self.data_key] = self.data_text
             self.data_key = None
         elif tag in ("node", "edge") and self.open:
-            # An edge may stand before its nodes.
-            (self.nodes if tag == "node" else self.edges).append(self.open)
+            self.all.append(self.open)
             self.open = None
 
     def read(self, text):
@@ -74,7 +71,8 @@ class Reading:
             raise errors.Refused(f"{self.name}:{why.lineno}", sentence) from None
         if not self.seen_graph:
             raise errors.Refused(self.name, "it has no element <graph>: this is no GraphML")
-        for tag, held, data, at in [*self.nodes, *self.edges]:
+        # An edge may stand before its nodes.
+        for tag, held, data, at in sorted(self.all, key=lambda it: it[0] == "edge"):
             attributes.add(self.found, tag, held, data, at, "attribute")
         if self.is_directed:
             # Each direction of a link has an edge of its own.

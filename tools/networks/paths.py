@@ -8,18 +8,18 @@ LINK_SHARE = 1 << 20
 RATE_SCALE = 10**15
 # Links that a packet passes at most: its time to live has 8 bits.
 MOST_LINKS = 255
-WEIGHTS = ("hops", "delay", "rate", "cost")
+# What a link costs, by the weight; it costs the same both ways.
+WEIGHTS = {
+    "hops": lambda link: 1,
+    "delay": lambda link: link.delay * LINK_SHARE + 1,
+    "rate": lambda link: -(-RATE_SCALE // link.rate),
+    "cost": lambda link: link.cost if link.cost is not None else 1,
+}
 
 
 def cost(link, weight):
-    """What a link costs, by the weight; it costs the same both ways."""
-    if weight == "hops":
-        return 1
-    if weight == "delay":
-        return link.delay * LINK_SHARE + 1
-    if weight == "rate":
-        return -(-RATE_SCALE // link.rate)
-    return link.cost if link.cost is not None else 1
+    """What a link costs."""
+    return WEIGHTS[weight](link)
 
 
 def distances(network, ends, costs, goal):
@@ -48,26 +48,18 @@ def next_ifaces(network, ends, costs, goal, spread):
     number chooses."""
     found = distances(network, ends, costs, goal)
     hops = distances(network, ends, [1] * len(costs), goal) if spread else None
-    chosen = [None] * len(network.nodes)
+    chosen, nodes = [None] * len(network.nodes), network.nodes
     for node, past in enumerate(found):
         if past is None or node == goal:
             continue
-        equal = [own for own, far, link in ends[node] if leads(network, found, far, goal)
-                 and found[network.ifaces[far].node] + costs[link] == past]
-        chosen[node] = equal[digit(goal, len(equal), hops[node])] if spread else equal[0]
+        ways = [(own, network.ifaces[far].node, link) for own, far, link in ends[node]]
+        # What is sent to a host that is not the goal does not go on.
+        equal = [own for own, other, link in ways if (other == goal or nodes[other].kind == "router")
+                 and found[other] is not None and found[other] + costs[link] == past]
+        # A digit of the goal's number, another one at the next node, so that all ways of a tree are taken.
+        digit = goal // len(equal) ** (hops[node] % 3) % len(equal) if spread else 0
+        chosen[node] = equal[digit]
     return chosen
-
-
-def digit(goal, count, hops):
-    """Which of equal ways a goal takes: a digit of its number, another one at the next node, so that all ways of a tree
-    are taken."""
-    return goal // count ** (hops % 3) % count
-
-
-def leads(network, found, far, goal):
-    """Whether a packet that is sent to an interface may go on to the goal, or is there."""
-    node = network.ifaces[far].node
-    return found[node] is not None and (node == goal or network.nodes[node].kind == "router")
 
 
 def parts(network):

@@ -21,8 +21,8 @@ def lines_of(name, text):
         if not words or words[0].startswith("#"):
             continue
         if len(words) != 3:
-            raise errors.Refused(at,
-                                 f"{errors.shown(line.strip())} has to be two places and a number, parted by blanks")
+            raise errors.Refused(at, f"{errors.shown(line.strip())} has to be two places and a number, parted by "
+                                     "blanks")
         yield words[0], words[1], found.number(words[2], at, "the number"), at
 
 

@@ -1,5 +1,6 @@
 """TOML texts: read with the standard library, each mistake with its line."""
 
+import contextlib
 import sys
 import tomllib
 
@@ -33,8 +34,8 @@ class Text(Tables):
             other = "; it looks like XML, which `network import` takes" if text.lstrip().startswith("<") else ""
             raise errors.Refused(name, f"this is no TOML text: {why}{other}") from None
         except RecursionError:
-            why = "this is no TOML text that can be read: its arrays or tables are nested too deep"
-            raise errors.Refused(name, why) from None
+            raise errors.Refused(name, "this is no TOML text that can be read: its arrays or tables are nested too "
+                                       "deep") from None
         self.spans = spans.read(text)
 
     def place(self, *way):
@@ -52,11 +53,8 @@ def load(name):
 def octets(name):
     """The text of a file."""
     try:
-        if name == "-":
-            held = sys.stdin.buffer.read(limits.TEXT_OCTETS + 1)
-        else:
-            with open(name, "rb") as file:
-                held = file.read(limits.TEXT_OCTETS + 1)
+        with contextlib.nullcontext(sys.stdin.buffer) if name == "-" else open(name, "rb") as file:
+            held = file.read(limits.TEXT_OCTETS + 1)
     except OSError as why:
         raise errors.Refused(name, f"it cannot be read: {why.strerror}") from None
     if len(held) > limits.TEXT_OCTETS:
