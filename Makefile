@@ -112,7 +112,7 @@ theory: bin/nullsim
 	@dev/check/theory
 
 tutorial: bin/nullsim
-	@dev/check/tutorial
+	@dev/check/first-day --tutorial
 
 check-frames check-links: check-%: bin/nm_bench
 	@dev/check/$*

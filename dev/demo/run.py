@@ -24,7 +24,7 @@ class Failed(Exception):
     """The demonstration did not come to what it is to show."""
 
 
-class Counts(proxy.Watch):
+class Counts:
     """What the proxy counts: messages of each sender, sent again and lost, and connections that were cut. Processes are
     pairs (partition, replica)."""
 

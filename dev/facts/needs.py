@@ -20,8 +20,8 @@ PACKAGES = {"matplotlib": "python3-matplotlib", "networkx": "python3-networkx", 
 # tools that commands of documents call.
 TOOLS = {"tools/network": [], "tools/launch": [], "tools/nullsim": [], "tools/plot": [], "tools/page": ["tools/plot"]}
 DRAWN = ["tools/network", "tools/plot", "tools/page"]
-CALLS = {**TOOLS, "dev/check/network": ["tools/networks"], "dev/check/tutorial": DRAWN, "dev/check/docs": DRAWN,
-         "dev/check/first-day": DRAWN,
+CALLS = {**TOOLS, "dev/check/network": ["tools/networks"], "dev/check/docs": DRAWN,
+         "dev/check/first-day": DRAWN, "dev/check/first-day --tutorial": DRAWN,
          "dev/deep": ["dev/check", "dev/attack", "dev/compare"]}
 # Targets whose packages are those of the others that they call.
 OF_OTHERS = ("deep",)

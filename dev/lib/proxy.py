@@ -7,7 +7,7 @@ import socket
 import struct
 import threading
 import time
-from collections import deque
+from collections import deque, namedtuple
 from dataclasses import dataclass
 
 from dev.lib.frames import BYE, Frames
@@ -21,6 +21,10 @@ TRICKLE_SECONDS = 0.001
 WINDOW = 8_192
 # The octets of a Bye.
 BYE_OCTETS = 5
+# Who sees the frames that a door carries, by default nobody: what is called where a frame was read (frame, sender,
+# receiver), was forwarded to its last octet (frame, receiver), and where a connection was cut, perhaps once a Bye had
+# come, and these frames were lost with it (is_late, lost).
+Watch = namedtuple("Watch", "read delivered cut", defaults=[lambda *_: None] * 3)
 
 
 @dataclass
@@ -42,19 +46,6 @@ class Manner:
     # After so many octets nothing is read for so many seconds.
     stop_at: int = 0
     stop: float = 0.0
-
-
-class Watch:
-    """Who sees the frames that a door carries: nobody."""
-
-    def read(self, frame, sender, receiver):
-        """A frame was read from its sender."""
-
-    def delivered(self, frame, receiver):
-        """A frame was forwarded to its receiver to its last octet."""
-
-    def cut(self, is_late, lost):
-        """A connection was cut, perhaps once a Bye had come, and these frames were lost with it."""
 
 
 class Way:

@@ -4,17 +4,12 @@ from dataclasses import dataclass, field
 
 from networks import errors, fields, flowkeys, groups, limits, names, paths
 from networks.chance import Chance
+from networks.topology import Node
 
 
 @dataclass
-class SpecNode:
-    name: str
-    kind: str
-    partition: int
-    ports: list
-    place: object
-    # Its latitude and longitude, where the SPEC says them.
-    where: tuple | None = None
+class SpecNode(Node):
+    place: object = None
 
 
 @dataclass
@@ -141,7 +136,7 @@ class Reading:
         if name in self.spec.nodes:
             raise errors.Refused(place(), f'two nodes have the name "{name}": the other one is at '
                                           f'{self.spec.nodes[name].place()}')
-        self.spec.nodes[name] = SpecNode(name, kind, partition, list(ports), place, where)
+        self.spec.nodes[name] = SpecNode(name, kind, partition, list(ports), where, place)
 
     def hosts(self, router, count, partition, place):
         """The hosts behind a router: ROUTER-h1 and so on."""

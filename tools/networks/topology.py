@@ -13,7 +13,7 @@ class Node:
     kind: str = "router"
     partition: int = 0
     ports: list = field(default_factory=list)
-    # Its latitude and longitude, which a comment says: a topology has no key for them.
+    # Its latitude and longitude, which a SPEC says, or a comment: a topology has no key for them.
     where: tuple | None = None
 
 
