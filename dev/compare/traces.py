@@ -47,10 +47,6 @@ class Compared:
             self.differences += [Difference(name, ours, theirs)] if ours != theirs else []
         self.differences.sort(key=lambda difference: difference.at)
 
-    def earliest(self):
-        """The differences of the earliest moment: later ones may follow from them."""
-        return [one for one in self.differences if one.at == self.differences[0].at]
-
 
 class Tally:
     """What was found in a set."""
@@ -106,7 +102,8 @@ def reasons_of(topology, compared):
     """The reasons of the earliest differences, and those that have none."""
     node_of = {iface["name"]: iface["node"] for iface in topology["iface"]}
     found, unknown = set(), []
-    for difference in compared.earliest() if compared.differences else []:
+    # Those of the earliest moment: later ones may follow from them.
+    for difference in itertools.takewhile(lambda one: one.at == compared.differences[0].at, compared.differences):
         node = node_of[difference.iface]
         arrived = [packet for name, records in compared.ours.items() if node_of[name] == node
                    for time, packet in records if time <= difference.at]

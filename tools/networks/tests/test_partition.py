@@ -46,19 +46,17 @@ class Partitions(tool.Folder):
         self.assertEqual(set(parts), set(range(8)))
         self.assertIn(f"parts of even work would have {even}", how)
 
-    def certify(self, by):
-        for name, count in EXAMPLES.items():
+    def certify(self, by, further=()):
+        for name, count, *replicas in (*EXAMPLES.items(), *further):
             with self.subTest(name=name):
                 path, whole, _ = self.cut(tool.example(name), count, by)
                 self.nullsim("check", path)
-                self.assertGreater(self.certified(path, whole), 0)
+                self.assertGreater(self.certified(path, whole, 2, *replicas), 0)
 
     @tool.needs_nullsim
     @tool.needs_program("gpmetis")
     def test_metis_is_certified(self):
-        self.certify("metis")
-        path, whole, _ = self.cut(tool.example("campus"), 4, "metis")
-        self.assertGreater(self.certified(path, whole, 2, 2), 0)
+        self.certify("metis", [("campus", 4, 2)])
 
     @tool.needs_nullsim
     @tool.needs_module("networkx")
@@ -106,19 +104,14 @@ class Partitions(tool.Folder):
 
     def test_long_links_are_cut(self):
         network = tool.network_of(tool.example("campus"))
-        group_of = coarse.groups_below(network, 2_000_008)
-        self.assertEqual(max(group_of) + 1, 4)
-        self.assertEqual([group_of[number] for number in range(len(network.nodes))],
-                         [node.partition for node in network.nodes])
+        self.assertEqual(coarse.groups_below(network, 2_000_008), [node.partition for node in network.nodes])
 
 
 class Traffic(tool.Folder):
     def test_packets_are_those_of_the_sources(self):
         network = tool.network_of(tool.made(spec_of("line").replace('among = "*"', 'among = "*-h1"')))
         found = traffic.expected(network)
-        self.assertEqual(found.lengths, [4, 4, 4, 4])
-        self.assertEqual(sum(found.packets), 4 * 4 * 3)
-        self.assertEqual(sum(found.hops), 4 * 5 * 3)
+        self.assertEqual((found.lengths, sum(found.packets), sum(found.hops)), ([4] * 4, 4 * 4 * 3, 4 * 5 * 3))
 
     def test_lookahead_is_that_of_the_program(self):
         self.assertEqual(traffic.lookahead(topology.Link(0, 1, 2_000_000, 10_000_000)), 10_004_000)

@@ -37,9 +37,8 @@ def mixed(weight, spread):
             rate, delay = 10 ** (6 + some.below(4)), some.below(4) * 1000
             lines.append(f'[[link]]\na = "h{number}"\nb = "x-{other}"\nrate = {rate}\ndelay = {delay}\ncost = '
                          f'{1 + some.below(3)}')
-    for number in range(20):
-        lines.append(f'[[link]]\na = "x-{1 + some.below(12)}"\nb = "x-{13 + some.below(13)}"\nrate = '
-                     f'{10 ** (6 + some.below(4))}\ndelay = {some.below(3) * 10**6}')
+    lines += [f'[[link]]\na = "x-{1 + some.below(12)}"\nb = "x-{13 + some.below(13)}"\nrate = '
+              f'{10 ** (6 + some.below(4))}\ndelay = {some.below(3) * 10**6}' for _ in range(20)]
     return "\n".join(lines)
 
 
@@ -122,18 +121,16 @@ class Paths(unittest.TestCase):
 
     def test_a_host_with_one_link_has_a_default_route(self):
         network = tool.network_of(tool.made(spec_of("star")))
-        for number, own in enumerate(network.node_routes()):
-            if network.nodes[number].kind == "host":
+        for node, own in zip(network.nodes, network.node_routes()):
+            if node.kind == "host":
                 self.assertEqual([(route.prefix, route.length) for route in own], [(0, 0)])
 
     def test_spread_uses_every_core(self):
         for spread, least in (("false", 1), ("true", 4)):
             network = tool.network_of(tool.made(spec_of("fat-tree", f'weight = "hops"\nspread = {spread}')))
-            ways, used = Ways(network), set()
-            for iface in network.ifaces:
-                if network.nodes[iface.node].kind == "host":
-                    used |= {network.nodes[node].name
-                             for node, _, _ in ways.way(network.nodes.index(network.nodes[-1]), iface.address)[0]}
+            ways, last = Ways(network), len(network.nodes) - 1
+            goals = [iface.address for iface in network.ifaces if network.nodes[iface.node].kind == "host"]
+            used = {network.nodes[node].name for goal in goals for node, _, _ in ways.way(last, goal)[0]}
             self.assertGreaterEqual(sum("core" in name for name in used), least)
 
 

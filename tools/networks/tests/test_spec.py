@@ -56,8 +56,6 @@ class Made(tool.Folder):
         for kind in GROUPS:
             self.assertEqual(tool.made(spec_of(kind)), tool.made(spec_of(kind)))
         self.assertNotEqual(tool.made(spec_of("random")), tool.made(spec_of("random").replace("seed = 7", "seed = 8")))
-
-    def test_the_first_line_has_the_seed(self):
         self.assertTrue(tool.made(spec_of("random")).startswith("# Seed 7: "))
         self.assertTrue(tool.made(PAIR).startswith("# No seed: nothing here was chosen by chance."))
 
@@ -87,9 +85,8 @@ class Made(tool.Folder):
     def test_pairs(self):
         wanted = {"all": 20, "next": 5, "across": 5, "first": 4, "random": 5}
         for pairs, count in wanted.items():
-            text = ('seed = 1\n[[group]]\nkind = "line"\nname = "l"\nnodes = 5\n'
-                    f'[[flow]]\namong = ["l-*"]\npairs = "{pairs}"\n')
-            network = tool.network_of(tool.made(text))
+            flow = f'[[flow]]\namong = ["l-*"]\npairs = "{pairs}"\n'
+            network = tool.network_of(tool.made('seed = 1\n[[group]]\nkind = "line"\nname = "l"\nnodes = 5\n' + flow))
             self.assertEqual(len(network.sources), count, pairs)
             owners = network.node_of_address()
             self.assertTrue(all(owners[source.to] != source.node for source in network.sources))
