@@ -1,16 +1,16 @@
 """A SPEC from a file of another maker's, which says what it took and from where.
 
-To add a format: a module with `read(name, text)`, which gives a `Found` (found.py); a line in READERS, one in
+To add a format: a function of a name and a text, which gives a `Found` (found.py); a line in READERS, one in
 `format_of`, and the word in command.py; what is taken of it in helps.py; a file in tests/data, and its mistakes in
 tests/test_imports.py."""
 
 import os
 import re
 
-from networks import brite, edges, errors, found, gml, graphml, limits, names, paths, rocketfuel, toml, units, writing
+from networks import errors, found, graphs, limits, lists, names, paths, toml, units, writing
 
-READERS = {"graphml": graphml.read, "gml": gml.read, "edges": edges.read, "rocketfuel": rocketfuel.read,
-           "brite": brite.read}
+READERS = {"graphml": graphs.graphml, "gml": graphs.gml, "edges": lists.edges, "rocketfuel": lists.rocketfuel,
+           "brite": lists.brite}
 # So many letters leave room for -h1 to -h1023 behind them.
 LONGEST = limits.NAME_LENGTH - 6
 # With more routers than this there is no room for a host behind each.
@@ -43,8 +43,8 @@ def read(words):
         raise errors.Refused("", "--latencies stands with Rocketfuel weights: for other files say --format rocketfuel, "
                                  "or leave it out")
     if kind == "rocketfuel" and words.latencies:
-        latencies = rocketfuel.latencies_of(words.latencies, toml.octets(words.latencies))
-        return rocketfuel.read(words.file, text, latencies)
+        latencies = lists.latencies_of(words.latencies, toml.octets(words.latencies))
+        return lists.rocketfuel(words.file, text, latencies)
     return READERS[kind](words.file, text)
 
 

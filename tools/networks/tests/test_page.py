@@ -5,7 +5,7 @@ import os
 import re
 from html.parser import HTMLParser
 
-from networks import drawing, places
+from networks import drawing
 from networks.tests import tool
 
 EMPTY = ("meta", "br", "hr", "img", "input", "link")
@@ -53,15 +53,15 @@ class Pages(tool.Folder):
         spec, _ = self.done("import", os.path.join(tool.EXAMPLES, "research-40.graphml"))
         cut, _ = self.done("partition", self.file("x.toml", tool.made(spec)), "2")
         network = tool.network_of(cut)
-        points = {node.name: places.points_of(network)[number] for number, node in enumerate(network.nodes)}
+        points = {node.name: drawing.points_of(network)[number] for number, node in enumerate(network.nodes)}
         self.assertLess(points["lisbon"][0], points["wien"][0])
         self.assertLess(points["roma"][1], points["oslo"][1])
-        self.assertLess(abs(points["oslo-h1"][0] - points["oslo"][0]), 2 * places.BESIDE)
+        self.assertLess(abs(points["oslo-h1"][0] - points["oslo"][0]), 2 * drawing.BESIDE)
         self.assertIn("each node about where", tool.call("show", self.file("y.toml", cut))[1])
-        self.assertIsNone(places.points_of(tool.network_of(tool.made(re.sub(", place = [^]]*]", "", spec)))))
+        self.assertIsNone(drawing.points_of(tool.network_of(tool.made(re.sub(", place = [^]]*]", "", spec)))))
 
     def test_the_globe_is_cut_where_nothing_is(self):
-        found = places.flat({0: (-36.85, 174.76), 1: (37.77, -122.42), 2: (-33.87, 151.21)})
+        found = drawing.flat({0: (-36.85, 174.76), 1: (37.77, -122.42), 2: (-33.87, 151.21)})
         self.assertEqual(sorted(found, key=lambda number: found[number][0]), [2, 0, 1])
 
     def test_without_graphviz(self):
