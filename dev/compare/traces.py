@@ -1,13 +1,17 @@
 """The comparison of traces: each set of topologies through nullsim and ns-3, interface by interface and packet by
-packet."""
+packet; whether it sees what is wrong: networks that ns-3 gets otherwise than nullsim have to differ, and for no known
+reason; and whether the trace files of runs of many workers are those of the one event list, as `verify` says."""
 
 import collections
+import copy
+import functools
 import itertools
 import math
+import operator
 import os
 
-from dev.compare import plain, programs, reasons, sets
-from dev.lib import here, pcap, process
+from dev.compare import plain, programs, reasons
+from dev.lib import here, networks, pcap, process, topologies
 
 # What the bare loop says of a network that it does not simulate.
 NOT_SIMULATED = "is not simulated"
@@ -15,6 +19,20 @@ NOT_SIMULATED = "is not simulated"
 ALONE = "alone"
 # The status of `verify` where a trace file differs.
 DIFFERS = 8
+# Each change of examples/office.toml: where it is, and what becomes of the value there. Interface 8 is gw-wan.
+CHANGES = {
+    "later arrival": (("link", 0, "delay"), lambda delay: delay + 1),
+    "slower link": (("link", 0, "rate"), lambda rate: rate - rate // 1000),
+    "shorter queue": (("iface", 8, "queue"), lambda queue: queue - 1),
+    "other octet": (("source", 0, "fill"), lambda _: 1),
+    "longer packet": (("source", 0, "size"), lambda size: size + 1),
+    "earlier end": (("stop",), lambda stop: stop // 2),
+    "later source": (("source", 1, "start"), lambda start: start + 1),
+}
+# Of runs how many there are of each network, with so many workers; networks in 2, 4 and 16 partitions.
+RUNS = 10
+WORKERS = (2, 4)
+NETWORKS = (("both", 200), ("ring-cut", 4), ("ring-cut", 16))
 
 
 def records_in(folder, name):
@@ -181,9 +199,9 @@ def try_parts():
     that are equal alone."""
     alone = Tally(ALONE, "the same, of each network one source or one raw packet at a time")
     rest = Tally("rest", "the same, of each network all sources and raw packets that are equal alone")
-    for name, topology in sets.networks():
+    for name, topology in plain.networks():
         equal = []
-        for part, single in sets.by_source(topology):
+        for part, single in plain.by_source(topology):
             compared = try_topology(f"{name} source {part[0]} packet {part[1]}", single, alone)
             if compared and not compared.differences:
                 equal.append(part)
@@ -235,9 +253,53 @@ def every(paths):
     """Compares all sets, or the topologies of these files: the tallies."""
     tallies = []
     with process.folder("compare") as folder:
-        files = [("files", "the files named", sets.of_files(paths))]
-        for name, what, topologies in files if paths else sets.every(folder):
+        files = [("files", "the files named", plain.of_files(paths))]
+        for name, what, topologies in files if paths else plain.every(folder):
             tallies.append(Tally(name, what))
             for label, topology in topologies:
                 try_whole(label, topology, tallies[-1])
     return tallies if paths else tallies + try_parts()
+
+
+def changed(topology, way, new):
+    """A topology whose value at the end of a way is another."""
+    made = copy.deepcopy(topology)
+    table = functools.reduce(operator.getitem, way[:-1], made)
+    table[way[-1]] = new(table.get(way[-1]))
+    return made
+
+
+def is_seen(topology, other):
+    """Whether a changed network is found to differ, without a known reason."""
+    with process.folder("compare") as folder:
+        compared = simulate(topology, folder, [programs.NS3], other)
+    return bool(compared.differences and reasons_of(topology, compared)[1])
+
+
+def unseen():
+    """The changes that the comparison does not see."""
+    topology = plain.read(here.example("office"))
+    return [name for name, change in CHANGES.items() if not is_seen(topology, changed(topology, *change))]
+
+
+def differing(network, workers):
+    """How many files of a run are not those of the one event list."""
+    with process.folder("compare") as made:
+        programs.call([here.NULLSIM, "run", network.path, made, str(workers), "1"])
+        if process.nullsim("verify", network.path, made).status == 0:
+            return 0
+        return sum(process.nullsim("verify", network.path, made, name).status != 0 for name in network.partition_of)
+
+
+def run_table():
+    """Whether all files were equal, and the lines of the table."""
+    rows, wrong = [["Network", "Partitions", "Interfaces",
+                    *(f"{RUNS} runs of {workers} workers: files that differ" for workers in WORKERS)]], 0
+    for kind, count in NETWORKS:
+        with process.folder("compare") as folder:
+            network = networks.Network(topologies.generate(kind, os.path.join(folder, "topology.toml"), count))
+            found = [sum(differing(network, workers) for _ in range(RUNS)) for workers in WORKERS]
+        rows.append([f"`{kind}={count}`", len(network.partitions), len(network.partition_of), *found])
+        wrong += sum(found)
+    head, *lines = (f"| {' | '.join(map(str, row))} |" for row in rows)
+    return not wrong, [head, "|" + "---|" * len(rows[0]), *lines]

@@ -87,8 +87,7 @@ def with_routes(text, network, old):
              and not root.keys[key].is_block]
     if after:
         # Behind the rest of the line, where a comment may stand.
-        place = text.find("\n", after[0])
-        place = len(text) if place < 0 else place
+        place = f"{text}\n".index("\n", after[0])
         return spliced(text, [(place, place, f"\n\n{lines}")])
     place = min(blocks, default=len(text))
     return spliced(text, [(place, place, f"{lines}\n\n")])

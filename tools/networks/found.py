@@ -111,10 +111,7 @@ def checked_delay(delay, at, said):
 
 def number(text, at, said):
     """A number in decimal, exactly."""
-    try:
-        value = Fraction(text) if len(text) <= 40 and NUMBER.fullmatch(text) else None
-    except (ValueError, ZeroDivisionError):
-        value = None
+    value = Fraction(text) if len(text) <= 40 and NUMBER.fullmatch(text) else None
     if value is None or abs(value) > LARGEST:
         raise errors.Refused(at, f"{said} is {errors.shown(text)}, and has to be a number of a usual size")
     return value

@@ -72,9 +72,8 @@ def named(made):
     for key, node in made.nodes.items():
         # A label without a letter or number of a name is called after the node's id.
         word = names.plain(node.label) or f"n-{key}"
-        name = given.give(word, longest=LONGEST)
-        while f"{name}-h1" in given.taken:
-            name = given.give(word, longest=LONGEST)
+        while f"{(name := given.give(word, longest=LONGEST))}-h1" in given.taken:
+            pass
         found_names[key] = name
         given.taken.add(f"{name}-h1")
     return found_names
