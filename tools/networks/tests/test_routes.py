@@ -5,7 +5,7 @@ import math
 import unittest
 from unittest import mock
 
-from networks import aggregate, chance, errors, limits, paths, routes, topology
+from networks import chance, errors, limits, paths, routes, topology
 from networks.tests import tool
 from networks.paths import Ways
 
@@ -48,7 +48,7 @@ class Tables(unittest.TestCase):
         for size in range(1, 60):
             addresses = sorted({some.below(1 << 12) for _ in range(size)})
             asked = [None if some.below(6) == 0 else some.below(3) for _ in addresses]
-            found = aggregate.Tree(addresses, range(len(addresses))).table(asked)
+            found = routes.Tree(addresses, range(len(addresses))).table(asked)
             table = [topology.Route(0, prefix, length, via) for prefix, length, via in found]
             self.assertEqual(len({(route.prefix, route.length) for route in table}), len(table))
             self.assertLessEqual(len(table), sum(via is not None for via in asked))
@@ -62,12 +62,12 @@ class Tables(unittest.TestCase):
         for _ in range(60):
             addresses = sorted({some.below(16) for _ in range(4)})
             asked = [some.below(2) for _ in addresses]
-            tree = aggregate.Tree(addresses, range(len(addresses)))
+            tree = routes.Tree(addresses, range(len(addresses)))
             self.assertEqual(len(tree.table(asked)), least_table(tree, addresses, asked))
 
     def test_none_is_asked(self):
         for addresses in ([], [5, 9]):
-            self.assertEqual(aggregate.Tree(addresses, range(len(addresses))).table([None] * len(addresses)), [])
+            self.assertEqual(routes.Tree(addresses, range(len(addresses))).table([None] * len(addresses)), [])
 
 
 def longest(table, address):
