@@ -123,14 +123,9 @@ def both(packets=5):
                 1_500_000)
 
 
-# A grid's links: all of one rate and delay, or rates and delays that differ from link to link: 100 Mbit/s to
-# 10 Gbit/s, and a microsecond to 10 milliseconds in equal ratios.
 def same_links(delay=10_000):
+    """A grid's links, all of one rate and delay."""
     return lambda number, count: (GIGABIT, delay)
-
-
-def mixed_links(number, count):
-    return 10 ** (8 + number % 3), round(1_000 * 10_000 ** (number * 37 % count / (count - 1)))
 
 
 def grid(packets=2_000, octets=228, interval=50_000, side=8, links=same_links(), is_whole=True, stop=LATE,
@@ -150,12 +145,6 @@ def grid(packets=2_000, octets=228, interval=50_000, side=8, links=same_links(),
             target = net.reach(f"g{side - 1 - x}-{side - 1 - y}")
             net.flow(f"g{x}-{y}", target, octets, 1_000 * (x * side + y), interval, packets)
     return net.text(stop)
-
-
-def cut_grid(partitions):
-    """`grid`, cut into squares, and stopped soon after its last packet arrived: a round is ten microseconds."""
-    side = round(partitions ** 0.5)
-    return grid(stop=110_000_000, cuts=(side, side))
 
 
 # How many by how many parts a grid is cut into, by their number.
@@ -262,7 +251,8 @@ KINDS = {
     "grid": grid,
     # A line that is stopped soon after its last packet arrived: a round is a microsecond of simulated time.
     "line-cut": lambda partitions: line(stop=64_000_000, partitions=partitions),
-    "grid-cut": cut_grid,
+    # A grid, cut into squares, and stopped soon after its last packet arrived: a round is ten microseconds.
+    "grid-cut": lambda partitions: grid(stop=110_000_000, cuts=(round(partitions ** 0.5),) * 2),
     "grid-far": lambda partitions: edge_grid(partitions, 1_000_000),
     "grid-near": lambda partitions: edge_grid(partitions, 10_000),
     "ring-cut": cut_ring,
@@ -271,7 +261,9 @@ KINDS = {
     "grid-1000": lambda packets=708: grid(packets, 1_000, 100_000, side=16, is_whole=False),
     "star-1000": lambda packets=10_400: star(packets, 1_000, 1_280_000),
     "ring-1000": ring,
-    "mixed": lambda packets=2_000: grid(packets, links=mixed_links),
+    # Rates and delays differ from link to link: 100 Mbit/s to 10 Gbit/s, and 1 us to 10 ms in equal ratios.
+    "mixed": lambda packets=2_000: grid(packets, links=lambda number, count: (
+        10 ** (8 + number % 3), round(1_000 * 10_000 ** (number * 37 % count / (count - 1))))),
     "routes": lambda packets=50: limits(packets, is_cut=False),
     "large": lambda packets=2_000: grid(packets, 1_500, 400_000),
     "many": many,

@@ -37,16 +37,11 @@ def cut(weights, costs, count, by=None, uneven=UNEVEN):
             return by_pymetis(weights, costs, count, uneven), "METIS (pymetis)"
     if by in (None, "kernighan-lin") and module("networkx"):
         return by_kernighan_lin(weights, costs, count), "Kernighan-Lin (networkx)"
-    raise errors.Lacking(lacking(by))
-
-
-def lacking(by):
-    """What to install."""
     python = f"the Python that runs is {sys.executable}"
     metis = "METIS is not installed: apt-get install metis, or pip install pymetis"
     other = f"networkx is not installed for it: apt-get install python3-networkx, or pip install networkx ({python})"
-    return {"metis": f"{metis} ({python})",
-            "kernighan-lin": f"Kernighan-Lin needs networkx; {other}"}.get(by, f"{metis}; and {other}")
+    what = {"metis": f"{metis} ({python})", "kernighan-lin": f"Kernighan-Lin needs networkx; {other}"}
+    raise errors.Lacking(what.get(by, f"{metis}; and {other}"))
 
 
 def neighbours(weights, costs):

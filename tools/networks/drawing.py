@@ -28,16 +28,11 @@ BESIDE = 50
 LONGEST = 4
 
 
-def cut_at(longitudes):
-    """The longitude at which the globe is cut: behind the widest gap."""
-    known = sorted({longitude % 360 for longitude in longitudes})
-    gaps = [((after - before) % 360, after) for before, after in zip(known, [*known[1:], known[0]])]
-    return max(gaps)[1]
-
-
 def flat(wheres):
-    """Points of the plane for latitudes and longitudes, a degree long, true in the middle."""
-    first = cut_at([longitude for _, longitude in wheres.values()])
+    """Points of the plane for latitudes and longitudes, a degree long, true in the middle; the globe is cut behind the
+    widest gap."""
+    known = sorted({longitude % 360 for _, longitude in wheres.values()})
+    first = max(((after - before) % 360, after) for before, after in zip(known, [*known[1:], known[0]]))[1]
     narrow = math.cos(math.radians(sum(latitude for latitude, _ in wheres.values()) / len(wheres)))
     return {number: ((longitude % 360 - first) % 360 * max(0.1, narrow), latitude)
             for number, (latitude, longitude) in wheres.items()}

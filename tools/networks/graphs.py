@@ -23,16 +23,6 @@ def lowered(attributes):
     return {str(key).lower(): str(value).strip() for key, value in attributes.items()}
 
 
-def node_of(key, attributes, at):
-    """A node of a file."""
-    held = lowered(attributes)
-    label = next((held[name] for name in LABELS if held.get(name)), str(key))
-    for north, east in PLACES:
-        if held.get(north) and held.get(east):
-            return FoundNode(label, found.place_of(held[north], held[east], at), at)
-    return FoundNode(label, None, at)
-
-
 def rate_of(held, at):
     """The rate that attributes of a link say: exactly, by a number with its unit, or in a text."""
     if held.get("linkspeedraw"):
@@ -64,10 +54,13 @@ def add(made, kind, ends, attributes, at, what):
     for name in ("id",) if kind == "node" else ("source", "target"):
         if name not in ends:
             raise errors.Refused(at, f'this {kind} has no {what} "{name}"')
+    held = lowered(attributes)
     if kind == "node":
-        made.add_node(ends["id"], node_of(ends["id"], attributes, at))
+        label = next((held[name] for name in LABELS if held.get(name)), str(ends["id"]))
+        place = next((found.place_of(held[north], held[east], at) for north, east in PLACES
+                      if held.get(north) and held.get(east)), None)
+        made.add_node(ends["id"], FoundNode(label, place, at))
     else:
-        held = lowered(attributes)
         remark = "".join(filter(str.isprintable, (held.get("linklabel") or held.get("label") or "")[:60]))
         rate, delay = rate_of(held, at), delay_of(held, at)
         made.add_link(FoundLink(ends["source"], ends["target"], rate, delay, None, remark, at))

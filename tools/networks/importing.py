@@ -120,14 +120,6 @@ def ending(made):
     return lines + (['host_link = {rate = "1 Gbit/s", delay = "10 us"}'] if has_hosts else [])
 
 
-def unsaid(made):
-    """How many links say no rate, and how many no delay."""
-    for key in ("rate", "delay"):
-        count = sum(getattr(link, key) is None for link in made.links)
-        if count:
-            yield f"{key}s that the file does not say: {count} of {len(made.links)}; the default holds for these links"
-
-
 def spec_text(words):
     """The SPEC, and what is said of it, in lines."""
     made = read(words)
@@ -135,7 +127,12 @@ def spec_text(words):
     found.delays_by_distance(made)
     name_of = named(made)
     weight = "cost" if any(link.cost is not None for link in made.links) else "delay"
-    said = [f"{len(made.nodes)} nodes, {len(made.links)} links, read as {made.kind}", *unsaid(made), *made.remarks]
+    said = [f"{len(made.nodes)} nodes, {len(made.links)} links, read as {made.kind}"]
+    for key in ("rate", "delay"):
+        count = sum(getattr(link, key) is None for link in made.links)
+        said += [f"{key}s that the file does not say: {count} of {len(made.links)}; the default holds for these "
+                 "links"] if count else []
+    said += made.remarks
     title = comment(os.path.basename(words.file)).replace("\\", "?").replace('"', "?")
     nodes = writing.array("node", (node_table(node, name_of[key]) for key, node in made.nodes.items()))
     links = writing.array("link", (link_table(link, name_of) for link in made.links),
