@@ -100,8 +100,7 @@ def networks(has_raw=True):
 
 
 def by_source(topology):
-    """The number of each source, with each of its packets where it is raw, or nothing; and for each the network with it
-    alone."""
+    """The number of each source, with each of its raw packets, or nothing; and for each the network with it alone."""
     for number, source in enumerate(topology["source"]):
         for packet in range(len(source["packet"])) if source["kind"] == "raw" else [None]:
             yield (number, packet), with_parts(topology, [(number, packet)])

@@ -7,8 +7,7 @@ import re
 from dev.compare import plain, programs
 from dev.lib import here, process, topologies
 
-# Each network, the packets of a source for ns-3, and for the other two, which are faster: so that each run takes about
-# two seconds or more.
+# Each network, the packets of a source for ns-3, and how many times as many for the others: about two seconds a run.
 NETWORKS = (("line-1000", "a line of 64 routers", 7_940, 16), ("grid-1000", "a grid of 16 by 16 routers", 708, 12),
             ("ring-1000", "a ring of 64 routers", 245, 16),
             ("star-1000", "32 hosts around one whose link is too slow", 10_400, 12))

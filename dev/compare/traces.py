@@ -52,8 +52,7 @@ class Difference:
 
 
 class Compared:
-    """What a comparison of two folders found: how many interfaces and records are equal, and the earliest
-    differences."""
+    """What a comparison of two folders found: equal interfaces, records, and the earliest differences."""
 
     def __init__(self, names, our_folder, their_folder):
         self.ours, self.differences, self.records, self.equal = {}, [], 0, 0
@@ -270,8 +269,7 @@ def changed(topology, way, new):
 
 
 def unseen():
-    """The changes that the comparison does not see: a changed network has to be found to differ, without a known
-    reason."""
+    """The changes that the comparison does not see: a changed network has to differ, without a known reason."""
     found, topology = [], plain.read(here.example("office"))
     for name, change in CHANGES.items():
         with process.folder("compare") as folder:

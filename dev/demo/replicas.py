@@ -16,8 +16,7 @@ SWITCH, HOST, PORT = "10.77.0.1", "10.77.0.{}", 7000
 
 
 class Loopback:
-    """All at 127.0.0.1, at ports that the system gives to no connection, so that a process which is begun again finds
-    its own."""
+    """All at 127.0.0.1, at ports of no other, so that a process which is begun again finds its own."""
     title = "over loopback"
     max_seconds = 60
     proxy_host = nodes.HOST
@@ -80,8 +79,7 @@ class Namespaces:
 
 
 def figures(lines):
-    """What lines of standard error have last, by their words: lines `safe S events E ..`, and the row of the table that
-    comes at the end."""
+    """What lines of standard error have last, by their words: lines `safe S events E ..`, and the row of the table."""
     found, head = {}, []
     for words in map(str.split, lines):
         pairs = zip(words[::2], words[1::2]) if words[:1] == ["safe"] else zip(head, words)

@@ -35,8 +35,7 @@ class Counts:
         self.cuts = self.late = self.byes = 0
         # The numbers of the messages that a sender began to send to a receiver on a channel.
         self.sent = defaultdict(set)
-        # Those that were sent to a receiver on a channel by anyone, and those that came to its present process
-        # to their last octet.
+        # Those that anyone sent to a receiver on a channel, and those that came whole to its present process.
         self.wanted, self.whole = defaultdict(set), defaultdict(set)
 
     def read(self, frame, sender, receiver):

@@ -46,8 +46,7 @@ def imported(tree):
 
 
 def called(tree):
-    """The programs and modules that a file looks for: what it gives to `shutil.which` and its like, and keys of a table
-    of readers."""
+    """The programs and modules that a file looks for: given to `shutil.which` and its like, or keys of READERS."""
     for node in ast.walk(tree):
         if isinstance(node, ast.Call) and isinstance(node.func, (ast.Attribute, ast.Name)):
             name = node.func.attr if isinstance(node.func, ast.Attribute) else node.func.id

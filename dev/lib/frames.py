@@ -7,8 +7,7 @@ HELLO, HAVE, DATA, NULL, BYE = range(1, 6)
 VERSION = 2
 # The greatest length that a frame may say.
 GREATEST = 65_556
-# The last octet of a frame in its stream, its kind, the channel and the number of a message, and what stands behind
-# its length.
+# The end of a frame in its stream, its kind, the channel and number of a message, and what is behind its length.
 Frame = namedtuple("Frame", "end kind channel number body")
 
 

@@ -25,8 +25,7 @@ _lock = threading.Lock()
 
 
 def own_ports():
-    """Ports that no other process takes which uses this module, as long as this one runs: it holds a name of the system
-    for them."""
+    """Ports that no other process which uses this module takes, while this one holds a name of the system for them."""
     firsts = list(range(PORTS.start, PORTS.stop, OWN_PORTS))
     for first in random.Random(os.getpid()).sample(firsts, len(firsts)):
         held = socket.socket(socket.AF_UNIX)

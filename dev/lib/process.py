@@ -69,8 +69,7 @@ def output(*words, **how):
 
 
 def shown(words, to=sys.stdout, begun=lambda child: None):
-    """Runs a command whose lines are shown as they come, once `begun` was called with it: its status, its minutes and
-    its last line."""
+    """Runs a command and shows its lines as they come; `begun` gets it first: its status, minutes and last line."""
     started, last = time.monotonic(), ""
     streams = {"stdout": subprocess.PIPE, "stderr": subprocess.STDOUT}
     child = subprocess.Popen(words, cwd=here.ROOT, text=True, errors="replace", **streams)

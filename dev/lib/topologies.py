@@ -36,8 +36,7 @@ LATE = 10 ** 12
 
 
 class Net(Network):
-    """Nodes, links and flows by names of nodes; routes by a shortest path from every node to each address that is
-    reached."""
+    """Nodes, links and flows by names of nodes; routes from every node by a shortest path to each node reached."""
 
     def __init__(self):
         super().__init__(LATE, 1_500)
@@ -130,8 +129,7 @@ def same_links(delay=10_000):
 
 def grid(packets=2_000, octets=228, interval=50_000, side=8, links=same_links(), is_whole=True, stop=LATE,
          cuts=(1, 1)):
-    """Flows from the routers of a grid, or those at two edges, to the ones across; the grid is cut into so many by so
-    many parts."""
+    """Flows from the routers of a grid, or of two edges, to those across; it is cut into so many by so many parts."""
     net, (rows, columns) = Net(), cuts
     places = [(x, y) for x in range(side) for y in range(side)]
     for x, y in places:
@@ -157,8 +155,7 @@ def edge_grid(partitions, delay):
 
 
 def star(packets=20_000, octets=528, interval=60_000, leaves=32, delay=lambda part: 1_000, gap=100, has_sink=True):
-    """Hosts around a hub that send to it, or to a host behind it over a link that is too slow; the delay of each host's
-    link by its number."""
+    """Hosts around a hub send to it, or to a host behind too slow a link; `delay` gives each host's link its delay."""
     net, target = Net(), "sink" if has_sink else "hub"
     net.node("hub")
     if has_sink:

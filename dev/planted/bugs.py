@@ -48,8 +48,7 @@ def results_of(crate):
 
 
 def table():
-    """How many bugs are listed, how many of them have a result, and how many of these are refused: all crates, three in
-    a row."""
+    """How many bugs each crate lists, how many were tried, and how many of these are refused: three in a row."""
     cells = []
     for crate in crates():
         bugs, results = [bug["bug"] for bug in bugs_of(crate)], results_of(crate)

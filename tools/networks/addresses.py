@@ -34,8 +34,7 @@ def blocks(network, order):
 
 
 def give(network, order, prefix, place):
-    """Gives each interface an address of the prefix; says how many blocks there are and how many addresses they
-    take."""
+    """Gives each interface an address of the prefix; says how many blocks there are and addresses they take."""
     base, length = prefix
     last = base + (1 << 32 - length) - 1
     if any(base <= high and low <= last for low, high in fields.MARTIANS):

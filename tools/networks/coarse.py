@@ -108,8 +108,7 @@ def cut(network, found, count, by=None):
 
 
 def moved(near, parts):
-    """The parts once nodes were moved to where most of their links lead, as long as that cuts fewer links and leaves
-    no part empty."""
+    """The parts once nodes moved to where most links lead, as long as that cuts fewer links and empties no part."""
     parts, sizes = list(parts), Counter(parts)
     for _ in range(ROUNDS):
         before = list(parts)

@@ -29,8 +29,7 @@ LONGEST = 4
 
 
 def flat(wheres):
-    """Points of the plane for latitudes and longitudes, a degree long, true in the middle; the globe is cut behind the
-    widest gap."""
+    """Points of the plane for places, a degree long, true in the middle; the globe is cut behind the widest gap."""
     known = sorted({longitude % 360 for _, longitude in wheres.values()})
     first = max(((after - before) % 360, after) for before, after in zip(known, [*known[1:], known[0]]))[1]
     narrow = math.cos(math.radians(sum(latitude for latitude, _ in wheres.values()) / len(wheres)))

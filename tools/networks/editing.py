@@ -49,8 +49,7 @@ def comments_of(text, start, end, tables):
 
 
 def route_lines(network, before, behind, old):
-    """The lines of the new array. A comment before a route that is no more goes to the next one that is; that on its
-    line, to the end."""
+    """The lines of the new array. A comment before a route that is gone goes to the next one; one on its line, last."""
     held, kept = ([(route.node, route.prefix, route.length, route.via) for route in routes]
                   for routes in (network.routes, old))
     new, above, waiting, gone = set(held), {}, [], []

@@ -1,5 +1,4 @@
-"""How the values of a table are read: each reader takes a value and gives what it means, or says in a sentence what it
-has to be."""
+"""How the values of a table are read: each reader gives what a value means, or says in a sentence what it has to be."""
 
 import ipaddress
 

@@ -30,8 +30,7 @@ class FoundNode:
 
 @dataclass
 class FoundLink:
-    """`a` and `b` are keys of nodes; rate in bits per second, delay in nanoseconds, cost as in a SPEC; `remark` for
-    people."""
+    """`a` and `b` are keys of nodes; rate in bits per second, delay in nanoseconds; `remark` is for people."""
 
     a: object
     b: object

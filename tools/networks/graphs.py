@@ -49,8 +49,7 @@ def delay_of(held, at):
 
 
 def add(made, kind, ends, attributes, at, what):
-    """Adds a node or an edge of a file; `ends` has its id, or those of its nodes, `what` is what the file calls one of
-    them."""
+    """Adds a node or an edge; `ends` has its id, or those of its nodes; `what` is what the file calls one of them."""
     for name in ("id",) if kind == "node" else ("source", "target"):
         if name not in ends:
             raise errors.Refused(at, f'this {kind} has no {what} "{name}"')

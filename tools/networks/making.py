@@ -54,8 +54,7 @@ def channels(network):
 
 
 def make(spec, name, say=None):
-    """The network of a SPEC; `name` is said where a fault has no line, `say` is told what fits before packets are
-    drawn."""
+    """The network of a SPEC; `name` is said where a fault has no line, `say` is told what fits before draws."""
     network, numbers, raised = joined(spec)
     check_limits(network, name)
     routes.check_joined(network, name, lambda number: spec.nodes[network.nodes[number].name].place())
@@ -100,8 +99,7 @@ def planned(spec, network, say):
 
 
 def routed(spec, network):
-    """Gives addresses and routes in the order of nodes that needs fewer routes; says how many blocks and addresses
-    there are."""
+    """Gives addresses and routes in the order of nodes that needs fewer routes; says how many blocks and addresses."""
     chosen, goals = routes.choices(network, spec.weight, spec.spread), [source.to for source in network.sources]
     best = ()
     # Which order needs fewer routes, as in a tree or as they are written, depends on the network.

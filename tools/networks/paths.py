@@ -1,5 +1,4 @@
-"""Shortest paths, and the ways that packets go: hosts are ends of paths and never inside one, for they forward
-nothing."""
+"""Shortest paths, and the ways that packets go: hosts are ends of paths, never inside: they forward nothing."""
 
 import heapq
 
@@ -44,8 +43,7 @@ def distances(network, ends, costs, goal):
 
 
 def next_ifaces(network, ends, costs, goal, spread):
-    """The interface by which each node sends to the goal: on a shortest path the first, or, spread, one that the goal's
-    number chooses."""
+    """The interface by which each node sends to the goal: on a shortest path the first, or, spread, one by number."""
     found = distances(network, ends, costs, goal)
     hops = distances(network, ends, [1] * len(costs), goal) if spread else None
     chosen, nodes = [None] * len(network.nodes), network.nodes

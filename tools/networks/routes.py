@@ -44,8 +44,7 @@ class Tree:
         return held
 
     def table(self, asked):
-        """Prefixes, each with an answer: the longest that holds an address has asked[its owner], where that is not
-        None."""
+        """Prefixes with answers: the longest that holds an address has asked[its owner], where that is not None."""
         held, found = self.wanted(asked), []
         waiting = [(len(held) - 1, None)] if held else []
         while waiting:

@@ -71,8 +71,7 @@ TOP = {
 }
 DEFAULTS = {"node": NODE, "link": LINK, "host_link": LINK, "flow": flowkeys.FLOW}
 ARRAYS = ("node", "link", "group", "flow")
-# What holds where neither a table nor `defaults` says it: delays in nanoseconds, rates in bits per second, queues in
-# packets.
+# What holds where neither a table nor `defaults` says it: nanoseconds, bits per second, packets.
 BUILT_IN = {
     "node": {"kind": "router", "partition": 0, "hosts": 0},
     "link": {"rate": 10**9, "delay": 10**6, "queue": 100},

@@ -28,8 +28,7 @@ class Iface:
 
 @dataclass
 class Link:
-    """Between two interfaces; `rate` in bits per second, `delay` in nanoseconds, `cost` a number that a SPEC may
-    give."""
+    """Between two interfaces; rate in bits per second, delay in nanoseconds, cost a number that a SPEC may give."""
 
     a: int
     b: int
