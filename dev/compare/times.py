@@ -27,10 +27,6 @@ def seconds():
     return (ticks[3] + ticks[4]) / a_second, ticks[7] / a_second, sum(ticks) / a_second
 
 
-def own_seconds():
-    return sum(os.times()[:4])
-
-
 def host_model():
     """The processors and the memory, in words."""
     names = re.findall(r"^model name.*?: *(.*?) *$", here.read("/proc/cpuinfo"), re.M) or ["of an unknown model"]
@@ -43,11 +39,11 @@ class Watch:
 
     def __init__(self):
         self.idle, self.steal, self.all = seconds()
-        self.own = own_seconds()
+        self.own = sum(os.times()[:4])
 
     def shares(self):
         idle, steal, every = (now - then for now, then in zip(seconds(), (self.idle, self.steal, self.all)))
-        others = every - idle - steal - (own_seconds() - self.own)
+        others = every - idle - steal - (sum(os.times()[:4]) - self.own)
         return (steal / every, max(0.0, others / every)) if every else (0.0, 0.0)
 
     def is_busy(self):

@@ -41,19 +41,15 @@ def is_there(document, path):
     return any(glob.glob(place) for place in places)
 
 
-def headings(path):
-    """The anchors of a document's headings, as a forge makes them."""
-    heads = re.findall(r"^#+ (.*)$", here.read(path), re.M)
-    return {re.sub(r"[^\w -]", "", head.lower()).replace(" ", "-") for head in heads}
-
-
 def has_anchor(document, link):
     """Whether a link that names a heading of a document names one that is there."""
     path, _, anchor = link.partition("#")
     target = os.path.normpath(os.path.join(os.path.dirname(document), path)) if path else document
     if not anchor or ":" in link or not os.path.isfile(here.path(target)):
         return True
-    return anchor in headings(target)
+    heads = re.findall(r"^#+ (.*)$", here.read(target), re.M)
+    # As a forge makes them.
+    return anchor in {re.sub(r"[^\w -]", "", head.lower()).replace(" ", "-") for head in heads}
 
 
 def targets():

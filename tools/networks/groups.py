@@ -8,6 +8,9 @@ from dataclasses import dataclass, field
 
 from networks import errors, fields, limits
 
+# The limits of nodes and links, for a sentence.
+MOST_SAID = f"a topology has at most {limits.NODES:,} nodes and {limits.LINKS:,} links: leave hosts or nodes out"
+
 
 @dataclass
 class Shape:
@@ -146,10 +149,5 @@ def make(table, chance, place):
     shape = KINDS[kind][0](table, chance)
     if len(shape.nodes) > limits.NODES or len(shape.links) > limits.LINKS:
         raise errors.Refused(place(), f"the group has {len(shape.nodes):,} nodes and {len(shape.links):,} links; "
-                                      f"{most_said()}")
+                                      f"{MOST_SAID}")
     return shape
-
-
-def most_said():
-    """The limits of nodes and links, for a sentence."""
-    return f"a topology has at most {limits.NODES:,} nodes and {limits.LINKS:,} links: leave hosts or nodes out"

@@ -16,11 +16,6 @@ WEIGHTS = {
 }
 
 
-def cost(link, weight):
-    """What a link costs."""
-    return WEIGHTS[weight](link)
-
-
 def distances(network, ends, costs, goal):
     """What the shortest path from each node to the goal costs; None where there is none."""
     found = [None] * len(network.nodes)

@@ -63,7 +63,7 @@ class Tree:
 def choices(network, weight, spread=False):
     """For each node as a goal the interface by which each other node sends to it."""
     ends = network.ends()
-    costs = [paths.cost(link, weight) for link in network.links]
+    costs = [paths.WEIGHTS[weight](link) for link in network.links]
     return [paths.next_ifaces(network, ends, costs, goal, spread) for goal in range(len(network.nodes))]
 
 

@@ -97,7 +97,11 @@ class Reading:
         if not self.spec.nodes:
             raise errors.Refused(self.text.name, "there is no node: write `node = [..]` or `[[group]]`")
         self.spec.links += self.host_links
-        self.counts()
+        for count, most, what in ((len(self.spec.nodes), limits.NODES, "nodes"),
+                                  (len(self.spec.links), limits.LINKS, "links")):
+            if count > most:
+                raise errors.Refused(self.text.name, f"there are {count:,} {what}, hosts and groups written out; "
+                                                     f"{groups.MOST_SAID}")
         self.each("flow")
         return self.spec
 
@@ -191,14 +195,6 @@ class Reading:
         kinds = {self.spec.nodes[table[key]].kind for key in ("a", "b")}
         defaults = "host_link" if "host" in kinds else "link"
         self.spec.links.append(self.joined(table["a"], table["b"], table, defaults, place))
-
-    def counts(self):
-        """Refuses more nodes, links or interfaces than a topology has."""
-        for count, most, what in ((len(self.spec.nodes), limits.NODES, "nodes"),
-                                  (len(self.spec.links), limits.LINKS, "links")):
-            if count > most:
-                raise errors.Refused(self.text.name, f"there are {count:,} {what}, hosts and groups written out; "
-                                                     f"{groups.most_said()}")
 
     def flow(self, number, value):
         place = self.text.member("flow", number)

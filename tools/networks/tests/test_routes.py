@@ -94,7 +94,7 @@ class Paths(unittest.TestCase):
         for start in range(len(network.nodes)):
             for goal, address in first.items():
                 passed, end = ways.way(start, address)
-                costs = (paths.cost(network.links[link], weight) for _, _, link in passed)
+                costs = (paths.WEIGHTS[weight](network.links[link]) for _, _, link in passed)
                 found[start, goal] = sum(costs) if end is not None else None
         return found
 
@@ -140,7 +140,7 @@ def floyd(network, weight):
     found = {(one, other): 0 if one == other else math.inf for one in nodes for other in nodes}
     for link, (one, other) in zip(network.links, network.pairs()):
         for pair in ((one, other), (other, one)):
-            found[pair] = min(found[pair], paths.cost(link, weight))
+            found[pair] = min(found[pair], paths.WEIGHTS[weight](link))
     for middle in (number for number in nodes if network.nodes[number].kind == "router"):
         for one, other in found:
             found[one, other] = min(found[one, other], found[one, middle] + found[middle, other])
@@ -156,7 +156,7 @@ def by_networkx(network, weight):
         for left, right in ((one, other), (other, one)):
             # A host is two nodes: where paths begin, and where they end.
             begin = ("from", left) if network.nodes[left].kind == "host" else left
-            price = min(paths.cost(link, weight), graph.get_edge_data(begin, right, {}).get("weight", 1 << 80))
+            price = min(paths.WEIGHTS[weight](link), graph.get_edge_data(begin, right, {}).get("weight", 1 << 80))
             graph.add_edge(begin, right, weight=price)
     for start, node in enumerate(network.nodes):
         begin = ("from", start) if node.kind == "host" else start
