@@ -24,7 +24,7 @@ BLOCKS = ('[[route]] # one\nnode = "a"  # of a\nto = "0.0.0.0/0"\nvia = "a0"\n\n
 WANTED = [{"node": "a", "to": "0.0.0.0/0", "via": "a0"}, {"node": "b", "to": "0.0.0.0/0", "via": "b0"}]
 
 
-class Routes(tool.Folder):
+class Editing(tool.Folder):
     def edited(self, text):
         said, _ = self.done("routes", self.file("x.toml", text))
         self.assertEqual(tomllib.loads(said)["route"], WANTED)
@@ -63,8 +63,6 @@ class Routes(tool.Folder):
         said = self.refused("routes", self.file("x.toml", f"{HEAD}{nodes}iface = [{ifaces}]\n{links}{source}"))
         self.assertIn('x.toml:9: source 0: there is no way by routers from node "a" to node "b"', said)
 
-
-class Partitions(tool.Folder):
     def test_partitions_and_delays_are_put_in(self):
         text = (HEAD + NODES + IFACES + LINKS).replace(", partition = 0", "", 1)
         path = self.file("x.toml", text)

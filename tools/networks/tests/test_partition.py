@@ -106,8 +106,6 @@ class Partitions(tool.Folder):
         network = tool.network_of(tool.example("campus"))
         self.assertEqual(coarse.groups_below(network, 2_000_008), [node.partition for node in network.nodes])
 
-
-class Traffic(tool.Folder):
     def test_packets_are_those_of_the_sources(self):
         network = tool.network_of(tool.made(spec_of("line").replace('among = "*"', 'among = "*-h1"')))
         found = traffic.expected(network)
@@ -123,8 +121,6 @@ class Traffic(tool.Folder):
             found = {iface.name: count for iface, count in zip(network.ifaces, traffic.expected(network).packets)}
             self.assertEqual(self.measured(tool.path_of(name), "interface", "packets_out"), found)
 
-
-class Texts(tool.Folder):
     def test_mistakes_in_a_topology_have_their_place(self):
         text = tool.example("office")
         for old, new, said in (

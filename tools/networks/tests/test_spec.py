@@ -12,7 +12,7 @@ PAIR = TWO + '[[link]]\na = "a"\nb = "b"\n'
 REFUSED = tool.cases("refused-specs.txt")
 
 
-class Refusals(tool.Folder):
+class Specs(tool.Folder):
     def test_each_mistake_has_its_place_and_a_sentence(self):
         for said, text in REFUSED:
             with self.subTest(said=said):
@@ -50,8 +50,6 @@ class Refusals(tool.Folder):
         with self.assertRaisesRegex(errors.Refused, said):
             tool.made(head + flows)
 
-
-class Made(tool.Folder):
     def test_the_same_spec_makes_the_same_octets(self):
         for kind in GROUPS:
             self.assertEqual(tool.made(spec_of(kind)), tool.made(spec_of(kind)))
@@ -98,8 +96,6 @@ class Made(tool.Folder):
         self.assertEqual(len(network.nodes), 256)
         self.assertLess(len(network.routes), 256 * 40)
 
-
-class Program(tool.Folder):
     @tool.needs_nullsim
     def test_what_is_made_is_accepted_and_every_packet_arrives(self):
         for kind in GROUPS:

@@ -42,8 +42,6 @@ class Texts(unittest.TestCase):
         with self.assertRaisesRegex(errors.Refused, "nested too deep"):
             toml.Text("x", "a = " + "[" * 100_000)
 
-
-class Names(unittest.TestCase):
     def test_names_are_plain_and_short_and_never_the_same(self):
         given = names.Names()
         for word, name in (("Zürich HB", "zurich-hb"), ("zurich hb", "zurich-hb-2"), ("--", "node"), ("東京", "node-2")):
@@ -65,8 +63,6 @@ class Names(unittest.TestCase):
         for word in ("", "-a", "A", "a_b", "a" * 33, "é", None, 3, "a\n"):
             self.assertFalse(names.is_name(word), word)
 
-
-class Units(unittest.TestCase):
     def test_quantities_are_read_and_said(self):
         for text, number in (("2.5 ms", 2_500_000), ("10us", 10_000), ("1 s", 10**9), ("0.0000000001 s", 0)):
             self.assertEqual(units.quantity(text, units.TIMES), number)
