@@ -118,8 +118,7 @@ def cut_ring(partitions=64):
 
 def both(packets=5):
     """Four routers in a ring, two in each of two partitions: two links join these, and each router sends across."""
-    return ring(packets, lambda number: HEADERS + 20 * number + 1, 4, 8_000_000, 1_000_000, 20_000_000, 2, 100_000,
-                1_500_000)
+    return ring(packets, lambda number: HEADERS + 20 * number + 1, 4, 8 * 10**6, 10**6, 2 * 10**7, 2, 10**5, 1_500_000)
 
 
 def same_links(delay=10_000):

@@ -165,7 +165,7 @@ def by_networkx(network, weight):
     return found
 
 
-class OnlyFlows(unittest.TestCase):
+class Counts(unittest.TestCase):
     def test_routes_to_the_ends_of_flows_are_fewer_and_as_short(self):
         text = spec_of("random").replace('among = "*"\npairs = "across"', 'from = "x-1-h1"\nto = ["x-9-h1", "x-20-h1"]')
         every = tool.network_of(tool.made(text))
@@ -177,8 +177,6 @@ class OnlyFlows(unittest.TestCase):
             self.assertEqual(Ways(every).way(source.node, source.to), Ways(few).way(source.node, source.to))
             self.assertEqual(Ways(every).way(goal, back), Ways(few).way(goal, back))
 
-
-class Limits(unittest.TestCase):
     def test_too_many_routes_are_refused_with_advice(self):
         every = tool.network_of(tool.made(spec_of("random")))
         some = tool.network_of(tool.made(spec_of("random").replace('among = "*"\npairs = "across"',
