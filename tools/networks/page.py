@@ -4,7 +4,7 @@ import html
 import os
 
 from networks import drawing, fields, limits, topology, traffic, units
-from networks.tables import html_table
+from networks.units import html_table
 
 STYLE = """
 :root { color-scheme: light; }

@@ -1,6 +1,6 @@
 """Partitions for a topology text, and what each cut link costs."""
 
-from networks import coarse, editing, errors, limits, making, paths, tables, topology, traffic, units
+from networks import coarse, editing, errors, limits, making, paths, topology, traffic, units
 
 
 def chosen(text, count, by=None):
@@ -56,11 +56,11 @@ def said(network, found, parts, cut, how, raised):
     for part in range(max(parts) + 1):
         some = [hops for hops, held in zip(found.hops, parts) if held == part]
         rows.append((part, len(some), f"{sum(some):,}", f"{sum(some) * 100 / total:.1f}%"))
-    lines = [f"cut by {how}", *tables.aligned(rows)]
+    lines = [f"cut by {how}", *units.aligned(rows)]
     if cut:
         rows = [("cut link", "partitions", "lookahead (ns)", "packets", "events a window")]
         rows += [cut_row(network, found, parts, number) for number in cut]
-        lines += ["", *tables.aligned(rows), "", *summary(network, found, cut)]
+        lines += ["", *units.aligned(rows), "", *summary(network, found, cut)]
     lines += [f"the delay of {network.link_said(number)} is now {limits.CUT_DELAY} ns: a link between partitions has "
               "one, and what is simulated changes by it" for number in raised]
     lost = sum(end is None and source.kind != "raw" for source, end in zip(network.sources, found.ends))
