@@ -112,7 +112,7 @@ theory: bin/nullsim
 	@dev/check/theory
 
 tutorial: bin/nullsim
-	@dev/check/tutorial
+	@dev/check/first-day --tutorial
 
 check-frames check-links: check-%: bin/nm_bench
 	@dev/check/$*
@@ -136,7 +136,7 @@ deep: bin/nullsim bin/nm_bench bin/nm_worlds
 	@dev/deep $(STEPS)
 
 # How many checks `rt ci` makes side by side.
-test gate-times: export RT_JOBS ?= $(shell dev/jobs)
+test gate-times: export RT_JOBS ?= $(shell dev/gate-times --jobs)
 
 test: toolchain
 	@dev/words

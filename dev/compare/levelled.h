@@ -32,13 +32,8 @@ class PlaceScheduler : public Scheduler {
         m_events.emplace(std::make_tuple(event.key.m_ts, g_place, event.key.m_uid), event);
     }
 
-    bool IsEmpty() const override {
-        return m_events.empty();
-    }
-
-    Event PeekNext() const override {
-        return m_events.begin()->second;
-    }
+    bool IsEmpty() const override { return m_events.empty(); }
+    Event PeekNext() const override { return m_events.begin()->second; }
 
     Event RemoveNext() override {
         Event event = m_events.begin()->second;
@@ -124,25 +119,11 @@ class WaitQueue : public Queue<Packet> {
         return DoEnqueue(GetContainer().end(), packet);
     }
 
-    Ptr<Packet> Dequeue() override {
-        return DoDequeue(GetContainer().begin());
-    }
-
-    Ptr<Packet> Remove() override {
-        return DoRemove(GetContainer().begin());
-    }
-
-    Ptr<const Packet> Peek() const override {
-        return DoPeek(GetContainer().begin());
-    }
-
-    void OnBegin(Ptr<const Packet>) {
-        m_isBusy = true;
-    }
-
-    void OnEnd(Ptr<const Packet>) {
-        m_isBusy = false;
-    }
+    Ptr<Packet> Dequeue() override { return DoDequeue(GetContainer().begin()); }
+    Ptr<Packet> Remove() override { return DoRemove(GetContainer().begin()); }
+    Ptr<const Packet> Peek() const override { return DoPeek(GetContainer().begin()); }
+    void OnBegin(Ptr<const Packet>) { m_isBusy = true; }
+    void OnEnd(Ptr<const Packet>) { m_isBusy = false; }
 
   private:
     int64_t m_packets, m_octets;
@@ -164,9 +145,7 @@ class CountingIpv4 : public Ipv4L3Protocol {
         return id;
     }
 
-    TypeId GetInstanceTypeId() const override {
-        return GetTypeId();
-    }
+    TypeId GetInstanceTypeId() const override { return GetTypeId(); }
 
     void Send(Ptr<Packet> packet, Ipv4Address source, Ipv4Address destination, uint8_t protocol,
               Ptr<Ipv4Route> route) override {

@@ -10,8 +10,6 @@
 // error would be due, it ends with status 3.
 #include "network.h"
 
-#include <algorithm>
-#include <cstdio>
 #include <cstring>
 #include <deque>
 #include <memory>
@@ -41,7 +39,7 @@ struct Port {
     int64_t octetLimit = -1, waitingOctets = 0;
     bool isBusy = false;
     std::deque<Octets> waiting;
-    std::FILE* trace = nullptr;
+    std::ofstream trace;
 };
 
 struct Prefix {
@@ -59,19 +57,14 @@ struct Counters {
     uint64_t hops = 0, delivered = 0, dropped = 0, refused = 0;
 };
 
-uint32_t ReadWord(const uint8_t* at) {
-    return static_cast<uint32_t>(at[0]) << 24 | at[1] << 16 | at[2] << 8 | at[3];
-}
-
-void WriteWord(uint8_t* at, uint32_t word) {
-    for (int i = 0; i < 4; i++) {
-        at[i] = static_cast<uint8_t>(word >> (24 - 8 * i));
-    }
-}
-
 void WriteHalf(uint8_t* at, uint32_t half) {
     at[0] = static_cast<uint8_t>(half >> 8);
     at[1] = static_cast<uint8_t>(half);
+}
+
+void WriteWord(uint8_t* at, uint32_t word) {
+    WriteHalf(at, word >> 16);
+    WriteHalf(at + 2, word);
 }
 
 [[noreturn]] void EndNotSimulated(const std::string& what) {
@@ -91,6 +84,10 @@ uint32_t Sum(const uint8_t* octets, size_t count, uint64_t sum) {
     return static_cast<uint32_t>(sum);
 }
 
+template <typename Item> bool Has(const std::vector<Item>& items, Item item) {
+    return std::find(items.begin(), items.end(), item) != items.end();
+}
+
 class Simulation {
   public:
     Simulation(const Network& net, const char* traces)
@@ -105,14 +102,6 @@ class Simulation {
         AddRoutes();
         for (uint32_t j = 0; j < net.sources.size(); j++) {
             Plan(j);
-        }
-    }
-
-    ~Simulation() {
-        for (Port& port : m_ports) {
-            if (port.trace) {
-                std::fclose(port.trace);
-            }
         }
     }
 
@@ -152,9 +141,9 @@ class Simulation {
             m_ports[i].limit = static_cast<size_t>(iface.queue);
             m_ports[i].octetLimit = iface.queueOctets;
             if (traces) {
-                m_ports[i].trace = std::fopen((std::string(traces) + "/" + iface.name + ".pcap").c_str(), "wb");
+                m_ports[i].trace.open(std::string(traces) + "/" + iface.name + ".pcap", std::ios::binary);
                 const uint32_t head[6] = {0xa1b23c4d, 0x00040002, 0, 0, 65535, 101};
-                std::fwrite(head, 1, sizeof head, m_ports[i].trace);
+                m_ports[i].trace.write(reinterpret_cast<const char*>(head), sizeof head);
             }
         }
         for (const Link& link : m_net.links) {
@@ -193,10 +182,6 @@ class Simulation {
         return nullptr;
     }
 
-    static bool IsOwn(const Place& place, uint32_t to) {
-        return std::find(place.addresses.begin(), place.addresses.end(), to) != place.addresses.end();
-    }
-
     static void SetChecksum(uint8_t* head) {
         WriteHalf(head + 10, 0);
         WriteHalf(head + 10, ~Sum(head, 20, 0));
@@ -205,7 +190,7 @@ class Simulation {
     void Originate(uint32_t j) {
         const Source& source = m_net.sources[j];
         Place& place = m_places[source.node];
-        const Prefix* route = IsOwn(place, source.to) ? nullptr : Find(place, source.to);
+        const Prefix* route = Has(place.addresses, source.to) ? nullptr : Find(place, source.to);
         if (route) {
             Octets packet = std::make_unique<std::vector<uint8_t>>(28 + source.size, static_cast<uint8_t>(source.fill));
             uint8_t* head = packet->data();
@@ -237,30 +222,23 @@ class Simulation {
             m_counters.refused++;
             return;
         }
-        uint32_t to = ReadWord(head + 16);
-        if (IsOwn(place, to)) {
-            Deliver(m_net.nodes[port.node], head);
-            return;
-        }
-        if (!place.isRouter) {
+        uint32_t to = static_cast<uint32_t>(head[16]) << 24 | head[17] << 16 | head[18] << 8 | head[19];
+        if (Has(place.addresses, to)) {
+            if (!Has(m_net.nodes[port.node].ports, static_cast<uint16_t>(head[22] << 8 | head[23]))) {
+                EndNotSimulated("an ICMP error");
+            }
+            m_counters.delivered++;
+        } else if (!place.isRouter) {
             m_counters.refused++;
-            return;
+        } else {
+            const Prefix* route = Find(place, to);
+            if (!route || head[8] <= 1) {
+                EndNotSimulated("an ICMP error");
+            }
+            head[8]--;
+            SetChecksum(head);
+            Offer(route->port, std::move(packet));
         }
-        const Prefix* route = Find(place, to);
-        if (!route || head[8] <= 1) {
-            EndNotSimulated("an ICMP error");
-        }
-        head[8]--;
-        SetChecksum(head);
-        Offer(route->port, std::move(packet));
-    }
-
-    void Deliver(const NodeLine& node, const uint8_t* head) {
-        uint16_t port = static_cast<uint16_t>(head[22] << 8 | head[23]);
-        if (std::find(node.ports.begin(), node.ports.end(), port) == node.ports.end()) {
-            EndNotSimulated("an ICMP error");
-        }
-        m_counters.delivered++;
     }
 
     void Offer(uint32_t number, Octets packet) {
@@ -297,14 +275,13 @@ class Simulation {
     }
 
     void Record(Port& port, const std::vector<uint8_t>& octets) {
-        if (!port.trace) {
-            return;
+        if (port.trace.is_open()) {
+            uint32_t size = static_cast<uint32_t>(octets.size());
+            const uint32_t head[4] = {static_cast<uint32_t>(m_now / 1000000000),
+                                      static_cast<uint32_t>(m_now % 1000000000), size, size};
+            port.trace.write(reinterpret_cast<const char*>(head), sizeof head);
+            port.trace.write(reinterpret_cast<const char*>(octets.data()), size);
         }
-        uint32_t size = static_cast<uint32_t>(octets.size());
-        const uint32_t head[4] = {static_cast<uint32_t>(m_now / 1000000000),
-                                  static_cast<uint32_t>(m_now % 1000000000), size, size};
-        std::fwrite(head, 1, sizeof head, port.trace);
-        std::fwrite(octets.data(), 1, size, port.trace);
     }
 
     const Network& m_net;

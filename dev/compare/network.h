@@ -70,14 +70,6 @@ inline uint64_t TransmissionTime(uint64_t octets, uint64_t rate) {
     return time ? time : 1;
 }
 
-inline std::string FromHexadecimal(const std::string& text) {
-    std::string octets;
-    for (size_t at = 0; at + 1 < text.size(); at += 2) {
-        octets += static_cast<char>(std::stoi(text.substr(at, 2), nullptr, 16));
-    }
-    return octets;
-}
-
 inline Source ReadSource(const std::string& kind, std::istream& in) {
     Source source;
     source.kind = kind;
@@ -125,7 +117,9 @@ inline void ReadLine(const std::string& word, std::istream& in, Network& net) {
         RawPacket& packet = net.sources.back().packets.emplace_back();
         std::string text;
         in >> packet.at >> text;
-        packet.octets = FromHexadecimal(text);
+        for (size_t at = 0; at + 1 < text.size(); at += 2) {
+            packet.octets += static_cast<char>(std::stoi(text.substr(at, 2), nullptr, 16));
+        }
     } else {
         net.sources.push_back(ReadSource(word, in));
     }

@@ -169,11 +169,6 @@ class Traffic {
         Plan();
     }
 
-    // Octets that are 0 need no memory in ns-3.
-    Ptr<Packet> Data() const {
-        return m_source.fill ? Create<Packet>(m_data.data(), m_data.size()) : Create<Packet>(m_source.size);
-    }
-
     // Without a socket: it would take the port that it sends from, and answer there.
     void Originate() {
         Ipv4Address to(m_source.to);
@@ -181,7 +176,8 @@ class Traffic {
         if (!route) {
             return;
         }
-        Ptr<Packet> packet = Data();
+        // octets that are 0 need no memory in ns-3
+        auto packet = m_source.fill ? Create<Packet>(m_data.data(), m_data.size()) : Create<Packet>(m_source.size);
         SocketIpTtlTag ttl;
         ttl.SetTtl(m_source.ttl);
         packet->AddPacketTag(ttl);
@@ -222,16 +218,6 @@ void AddTraces(const Network& net, const std::string& folder, Built& built) {
         auto file = helper.CreateFile(path, std::ios::out, PcapHelper::DLT_PPP);
         helper.HookDefaultSink<PointToPointNetDevice>(built.devices[i], "PromiscSniffer", file);
     }
-}
-
-std::vector<std::unique_ptr<Traffic>> AddSources(const Network& net, Built& built) {
-    std::vector<std::unique_ptr<Traffic>> all;
-    for (size_t j = 0; j < net.sources.size(); j++) {
-        const int64_t place = static_cast<int64_t>(2 * net.ifaces.size() + j);
-        all.push_back(std::make_unique<Traffic>(net.sources[j], place, built));
-        all.back()->Plan();
-    }
-    return all;
 }
 
 Built Build(const Network& net, const Options& options) {
@@ -292,7 +278,12 @@ int main(int argc, char** argv) {
     Simulator::Stop(NanoSeconds(net.stop));
     {
         Built built = Build(net, options);
-        auto sources = AddSources(net, built);
+        std::vector<std::unique_ptr<Traffic>> sources;
+        for (const Source& source : net.sources) {
+            const int64_t place = static_cast<int64_t>(2 * net.ifaces.size() + sources.size());
+            sources.push_back(std::make_unique<Traffic>(source, place, built));
+            sources.back()->Plan();
+        }
         Simulator::Run();
     }
     Simulator::Destroy();

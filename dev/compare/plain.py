@@ -1,12 +1,19 @@
 """Topologies: read from TOML, cut into parts, and written as TOML or as the plain lines that the C++ programs read
-(network.h)."""
+(network.h); and the sets of them that are compared: the examples, generated ones, and those of the stored cases, whole
+and taken apart."""
 
+import os
 from ipaddress import IPv4Address
 
+from dev.lib import here, topologies
 from dev.lib.networks import toml_of
 
 # The keys of a source that come after its kind's own, and what they are where they are absent.
 TIMED = (("size", None), ("fill", 0), ("start", None), ("interval", None), ("count", None), ("ttl", 64))
+# The kinds of dev/lib/topologies.py, and how many packets: few, so that a comparison takes seconds.
+GENERATED = (("line", 300), ("line-1000", 100), ("grid", 20), ("grid-1000", 10), ("star", 100), ("star-1000", 100),
+             ("ring-1000", 10), ("mixed", 20), ("routes", 2), ("large", 20), ("many", 4), ("hub", 2560),
+             ("spread", 2560), ("both", 5), ("one-way", 100))
 
 
 def read(path):
@@ -54,39 +61,13 @@ def plain_lines(topology):
 
 
 def write_plain(topology, path):
-    with open(path, "w", encoding="ascii") as file:
-        file.writelines(line + "\n" for line in plain_lines(topology))
-
-
-def toml_text(value):
-    if isinstance(value, dict):
-        return "{" + ", ".join(f"{key} = {toml_text(part)}" for key, part in value.items()) + "}"
-    if isinstance(value, list):
-        return "[" + ", ".join(map(toml_text, value)) + "]"
-    return f'"{value}"' if isinstance(value, str) else str(value)
+    here.write(path, "".join(line + "\n" for line in plain_lines(topology)))
 
 
 def write_toml(topology, path):
-    """Writes a topology as TOML, with a line for each key."""
-    with open(path, "w", encoding="ascii") as file:
-        file.writelines(f"{key} = {toml_text(value)}\n" for key, value in topology.items())
-
-
-def in_one_partition(topology):
-    """The same network without partitions: they change no trace."""
-    return topology | {"node": [node | {"partition": 0} for node in topology["node"]]}
-
-
-def without_raw(topology):
-    """The same network without its raw packets, and all else as it is."""
-    return topology | {"source": [source for source in topology["source"] if source["kind"] != "raw"]}
-
-
-def source_parts(topology):
-    """The number of each source, with each of its packets where it is raw, or nothing."""
-    for number, source in enumerate(topology["source"]):
-        yield from ((number, packet)
-                    for packet in (range(len(source["packet"])) if source["kind"] == "raw" else [None]))
+    """Writes a topology as TOML, with a line for each key, without partitions: they change no trace."""
+    whole = topology | {"node": [node | {"partition": 0} for node in topology["node"]]}
+    here.write(path, "".join(f"{key} = {topologies.writing.said(value)}\n" for key, value in whole.items()))
 
 
 def with_parts(topology, parts):
@@ -98,3 +79,36 @@ def with_parts(topology, parts):
             is_raw = source["kind"] == "raw"
             sources.append(source | {"packet": [source["packet"][at] for at in packets]} if is_raw else source)
     return topology | {"source": sources}
+
+
+def of_files(paths):
+    for path in paths:
+        yield os.path.basename(path), read(path)
+
+
+def generated(folder):
+    for kind, packets in GENERATED:
+        path = topologies.generate(kind, os.path.join(folder, kind + ".toml"), packets)
+        yield f"{kind}={packets}", read(path)
+
+
+def networks(has_raw=True):
+    """The networks of the stored cases, or all but their raw packets."""
+    for name, topology in of_files(here.files("crates", "nullsim_cases", "data", "cases", "networks", ends=".toml")):
+        sources = [source for source in topology["source"] if has_raw or source["kind"] != "raw"]
+        yield name, topology | {"source": sources}
+
+
+def by_source(topology):
+    """The number of each source, with each of its raw packets, or nothing; and for each the network with it alone."""
+    for number, source in enumerate(topology["source"]):
+        for packet in range(len(source["packet"])) if source["kind"] == "raw" else [None]:
+            yield (number, packet), with_parts(topology, [(number, packet)])
+
+
+def every(folder):
+    """Each set's name, what it is, and its topologies."""
+    yield "examples", "`examples/*.toml`", of_files(here.topologies())
+    yield "generated", "`dev/lib/topologies.py`, few packets", generated(folder)
+    yield "without raw", "the 90 networks of the stored cases, without their raw packets", networks(False)
+    yield "whole", "the same, whole", networks()

@@ -10,17 +10,11 @@ SOURCES = here.path("dev", "compare")
 NS3, LOOP = here.path("bin", "compare-ns3"), here.path("bin", "compare-loop")
 FLAGS = ["-O2", "-Wall", "-std=c++17"]
 NS3_LIBRARIES = ["-lns3-point-to-point", "-lns3-traffic-control", "-lns3-internet", "-lns3-network", "-lns3-core"]
-BUILDS = ((NS3, "ns3.cc", ("levelled.h", "network.h"), NS3_LIBRARIES), (LOOP, "loop.cc", ("network.h",), []))
+BUILDS = ((NS3, ("ns3.cc", "levelled.h", "network.h"), NS3_LIBRARIES), (LOOP, ("loop.cc", "network.h"), []))
 NS3_HEADER = "/usr/include/ns3/core-module.h"
 WANTED = "apt-get install ns3 libns3-dev g++"
 # What no comparison takes.
 SECONDS = 600
-
-
-def is_newer(built, sources):
-    if not os.path.exists(built):
-        return False
-    return all(os.path.getmtime(built) > os.path.getmtime(os.path.join(SOURCES, name)) for name in sources)
 
 
 def absent():
@@ -35,9 +29,10 @@ def absent():
 def build():
     """Compiles both C++ programs where they are older than their sources."""
     os.makedirs(os.path.dirname(NS3), exist_ok=True)
-    for built, source, headers, libraries in BUILDS:
-        if not is_newer(built, (source, *headers)):
-            subprocess.run(["g++", *FLAGS, "-o", built, os.path.join(SOURCES, source), *libraries], check=True)
+    for built, names, libraries in BUILDS:
+        sources = [os.path.join(SOURCES, name) for name in names]
+        if not os.path.exists(built) or os.path.getmtime(built) <= max(map(os.path.getmtime, sources)):
+            subprocess.run(["g++", *FLAGS, "-o", built, sources[0], *libraries], check=True)
 
 
 def ns3_version():

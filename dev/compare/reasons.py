@@ -54,15 +54,6 @@ def header(octets):
     return Header(octets) if octets and len(octets) >= 20 and octets[0] >> 4 == 4 else None
 
 
-def one_sum(octets):
-    """The one's complement sum of 16-bit words."""
-    octets = octets + b"\0" * (len(octets) % 2)
-    total = sum(struct.unpack(f">{len(octets) // 2}H", octets))
-    while total > 0xFFFF:
-        total = (total & 0xFFFF) + (total >> 16)
-    return total
-
-
 def missing(ours):
     """Why ns-3 may not send a packet of ours."""
     quote, message = ours.quote(), ours.message()
@@ -88,23 +79,13 @@ def extra(theirs, arrived):
         return "time to live 0"
     if message == (EXCEEDED, 1):
         return "reassembly"
-    if quote and is_withheld(as_it_came(quote, arrived)):
-        return "not withheld"
-    if message and message[0] == REPLY:
-        return reply(theirs, arrived)
-    return None
-
-
-def as_it_came(quote, arrived):
-    """The packet that is quoted, which may have had options, where it is among those that came."""
-    return next((come for come in arrived if come.identification == quote.identification
+    # The packet that is quoted, which may have had options, where it is among those that came.
+    came = next((come for come in arrived if quote and come.identification == quote.identification
                  and come.octets[12:20] == quote.octets[12:20]), quote)
-
-
-def is_withheld(packet):
-    """Whether a packet is one about which we send no error."""
-    return packet.offset > 0 or (packet.protocol == ICMP
-                                 and (packet.total == packet.length or packet.octets[packet.length] in ERRORS))
+    if quote and (came.offset > 0 or came.protocol == ICMP
+                  and (came.total == came.length or came.octets[came.length] in ERRORS)):
+        return "not withheld"
+    return reply(theirs, arrived) if message and message[0] == REPLY else None
 
 
 def reply(theirs, arrived):
@@ -113,7 +94,9 @@ def reply(theirs, arrived):
         if come.protocol == ICMP and come.payload[:1] == bytes([ECHO]) and come.payload[4:] == theirs.payload[4:]:
             if come.payload[1] != 0:
                 return "echo code"
-            if one_sum(come.payload) != 0xFFFF:
+            octets = come.payload + b"\0" * (len(come.payload) % 2)
+            # The one's complement sum of its words is 0xFFFF where their sum is a multiple of it.
+            if sum(struct.unpack(f">{len(octets) // 2}H", octets)) % 0xFFFF:
                 return "ICMP checksum"
     return None
 
@@ -144,8 +127,5 @@ def reason(difference, arrived):
     """The short name of the reason of a first difference, or nothing."""
     ours, theirs = header(difference.our_packet), header(difference.their_packet)
     arrived = [come for come in map(header, arrived) if come]
-    if ours and theirs:
-        found = changed(ours, theirs)
-        if found:
-            return found
-    return (theirs and extra(theirs, arrived)) or (ours and missing(ours)) or None
+    return ((ours and theirs and changed(ours, theirs)) or (theirs and extra(theirs, arrived))
+            or (ours and missing(ours)) or None)

@@ -1,12 +1,17 @@
 """The comparison of traces: each set of topologies through nullsim and ns-3, interface by interface and packet by
-packet."""
+packet; whether it sees what is wrong: networks that ns-3 gets otherwise than nullsim have to differ, and for no known
+reason; and whether the trace files of runs of many workers are those of the one event list, as `verify` says."""
 
 import collections
+import copy
+import functools
+import itertools
+import math
+import operator
 import os
 
-from dev.compare import plain, programs, reasons, sets
-from dev.compare.differences import Compared, records_in
-from dev.lib import here, pcap, process
+from dev.compare import plain, programs, reasons
+from dev.lib import here, networks, pcap, process, topologies
 
 # What the bare loop says of a network that it does not simulate.
 NOT_SIMULATED = "is not simulated"
@@ -14,6 +19,50 @@ NOT_SIMULATED = "is not simulated"
 ALONE = "alone"
 # The status of `verify` where a trace file differs.
 DIFFERS = 8
+# Each change of examples/office.toml: where it is, and what becomes of the value there. Interface 8 is gw-wan.
+CHANGES = {
+    "later arrival": (("link", 0, "delay"), lambda delay: delay + 1),
+    "slower link": (("link", 0, "rate"), lambda rate: rate - rate // 1000),
+    "shorter queue": (("iface", 8, "queue"), lambda queue: queue - 1),
+    "other octet": (("source", 0, "fill"), lambda _: 1),
+    "longer packet": (("source", 0, "size"), lambda size: size + 1),
+    "earlier end": (("stop",), lambda stop: stop // 2),
+    "later source": (("source", 1, "start"), lambda start: start + 1),
+}
+# Of runs how many there are of each network, with so many workers; networks in 2, 4 and 16 partitions.
+RUNS = 10
+WORKERS = (2, 4)
+NETWORKS = (("both", 200), ("ring-cut", 4), ("ring-cut", 16))
+
+
+def records_in(folder, name):
+    """The records of the trace file of an interface."""
+    return pcap.records(here.octets(os.path.join(folder, f"{name}.pcap")))
+
+
+class Difference:
+    """The first difference at an interface: the number of the record, the time, and what each side has at that moment,
+    which may be nothing: its next record is of a later time then."""
+
+    def __init__(self, iface, ours, theirs):
+        pairs = enumerate(itertools.zip_longest(ours, theirs, fillvalue=(math.inf, None)))
+        self.iface, (self.number, pair) = iface, next((number, pair) for number, pair in pairs if pair[0] != pair[1])
+        self.at = min(time for time, _ in pair)
+        self.our_packet, self.their_packet = (packet if time == self.at else None for time, packet in pair)
+
+
+class Compared:
+    """What a comparison of two folders found: equal interfaces, records, and the earliest differences."""
+
+    def __init__(self, names, our_folder, their_folder):
+        self.ours, self.differences, self.records, self.equal = {}, [], 0, 0
+        for name in names:
+            ours, theirs = records_in(our_folder, name), records_in(their_folder, name)
+            self.ours[name] = ours
+            self.records += len(ours)
+            self.equal += ours == theirs
+            self.differences += [Difference(name, ours, theirs)] if ours != theirs else []
+        self.differences.sort(key=lambda difference: difference.at)
 
 
 class Tally:
@@ -40,17 +89,17 @@ def write_traces(topology, folder, name, words):
     made, text = os.path.join(folder, name), os.path.join(folder, name + ".text")
     os.mkdir(made)
     if words[0] == here.NULLSIM:
-        plain.write_toml(plain.in_one_partition(topology), text)
+        plain.write_toml(topology, text)
         programs.call([*words, text, made, "1", "1"])
     else:
         plain.write_plain(topology, text)
         programs.call([words[0], text, "--traces", made, *words[1:]])
 
 
-def simulate(topology, folder, words):
-    """nullsim's traces of a topology and those of another program, compared."""
+def simulate(topology, folder, words, other=None):
+    """nullsim's traces of a topology and those of another program, perhaps of another topology, compared."""
     write_traces(topology, folder, "ours", [here.NULLSIM, "run"])
-    write_traces(topology, folder, "theirs", words)
+    write_traces(other or topology, folder, "theirs", words)
     names = [iface["name"] for iface in topology["iface"]]
     return Compared(names, os.path.join(folder, "ours"), os.path.join(folder, "theirs"))
 
@@ -61,8 +110,7 @@ def is_verified(folder, compared):
     made = os.path.join(folder, "raw")
     os.mkdir(made)
     for name in compared.ours:
-        with open(os.path.join(made, f"{name}.pcap"), "wb") as file:
-            file.write(pcap.raw(records_in(os.path.join(folder, "theirs"), name)))
+        here.write(os.path.join(made, f"{name}.pcap"), pcap.raw(records_in(os.path.join(folder, "theirs"), name)))
     ended = process.nullsim("verify", os.path.join(folder, "ours.text"), made, seconds=programs.SECONDS)
     return ended.status == (DIFFERS if compared.differences else 0)
 
@@ -71,20 +119,15 @@ def reasons_of(topology, compared):
     """The reasons of the earliest differences, and those that have none."""
     node_of = {iface["name"]: iface["node"] for iface in topology["iface"]}
     found, unknown = set(), []
-    for difference in compared.earliest() if compared.differences else []:
+    # Those of the earliest moment: later ones may follow from them.
+    for difference in itertools.takewhile(lambda one: one.at == compared.differences[0].at, compared.differences):
         node = node_of[difference.iface]
         arrived = [packet for name, records in compared.ours.items() if node_of[name] == node
                    for time, packet in records if time <= difference.at]
         why = reasons.reason(difference, arrived)
-        if why:
-            found.add(why)
-        else:
-            unknown.append(difference)
+        found |= {why} if why else set()
+        unknown += [] if why else [difference]
     return found, unknown
-
-
-def packet_words(packet):
-    return packet.hex() if packet else "none"
 
 
 def try_topology(name, topology, tally):
@@ -110,8 +153,8 @@ def try_topology(name, topology, tally):
               f"difference is at {first.at} ns, {first.iface}: {', '.join(sorted(found))}", flush=True)
     for one in unknown:
         tally.unknown.append(name)
-        print(f"  UNKNOWN at {one.at} ns, {one.iface}, record {one.number}: ours {packet_words(one.our_packet)}, "
-              f"theirs {packet_words(one.their_packet)}")
+        ours, theirs = (packet.hex() if packet else "none" for packet in (one.our_packet, one.their_packet))
+        print(f"  UNKNOWN at {one.at} ns, {one.iface}, record {one.number}: ours {ours}, theirs {theirs}")
     return compared
 
 
@@ -132,20 +175,13 @@ def try_loop(topology, tally):
         try:
             compared = simulate(topology, folder, [programs.LOOP])
         except process.Failed as failed:
-            if NOT_SIMULATED not in str(failed):
-                raise
-            return
+            if NOT_SIMULATED in str(failed):
+                return
+            raise
     tally.loops += 1
     if compared.differences:
         tally.unknown.append("the bare loop")
         print(f"{tally.name}: the traces of the bare loop differ: UNKNOWN", flush=True)
-
-
-def try_set(name, what, topologies):
-    tally = Tally(name, what)
-    for label, topology in topologies:
-        try_whole(label, topology, tally)
-    return tally
 
 
 def try_whole(label, topology, tally):
@@ -162,9 +198,9 @@ def try_parts():
     that are equal alone."""
     alone = Tally(ALONE, "the same, of each network one source or one raw packet at a time")
     rest = Tally("rest", "the same, of each network all sources and raw packets that are equal alone")
-    for name, topology in sets.networks():
+    for name, topology in plain.networks():
         equal = []
-        for part, single in sets.by_source(topology):
+        for part, single in plain.by_source(topology):
             compared = try_topology(f"{name} source {part[0]} packet {part[1]}", single, alone)
             if compared and not compared.differences:
                 equal.append(part)
@@ -172,27 +208,23 @@ def try_parts():
     return [alone, rest]
 
 
-def set_row(tally):
-    counts = [tally.topologies, tally.equal, tally.ifaces, tally.equal_ifaces, tally.records]
-    cells = [f"*{tally.name}*: {tally.what}", *(f"{count:,}" for count in counts)]
-    return f"| {' | '.join(cells)} | {tally.ties if tally.tied else ''} | {tally.verified:,} |"
-
-
 def set_table(tallies):
     yield ("| Topologies | Number | Equal | Interfaces | Equal | Records in our traces "
            "| Equal, but not with ns-3's own order of ties | `verify` says the same |")
     yield "|---|---|---|---|---|---|---|---|"
-    yield from map(set_row, tallies)
+    for tally in tallies:
+        counts = [tally.topologies, tally.equal, tally.ifaces, tally.equal_ifaces, tally.records]
+        cells = [f"*{tally.name}*: {tally.what}", *(f"{count:,}" for count in counts)]
+        yield f"| {' | '.join(cells)} | {tally.ties if tally.tied else ''} | {tally.verified:,} |"
     loops = sum(tally.loops for tally in tallies)
     if loops:
-        yield ""
-        yield (f"The bare loop's traces of {loops} of the generated topologies are equal too; the others need ICMP "
-               "errors, which it has not.")
+        yield from ("", f"The bare loop's traces of {loops} of the generated topologies are equal too; the others need "
+                        "ICMP errors, which it has not.")
 
 
 def reason_table(tallies):
-    yield "| Earliest difference | " + " | ".join(f"*{tally.name}*" for tally in tallies) + " |"
-    yield "|---|" + "---|" * len(tallies)
+    heads = ["Earliest difference", *(f"*{tally.name}*" for tally in tallies)]
+    yield from (f"| {' | '.join(heads)} |", "|" + "---|" * len(heads))
     for name, words in reasons.REASONS.items():
         counts = [len(tally.names[name]) for tally in tallies]
         if any(counts):
@@ -201,27 +233,69 @@ def reason_table(tallies):
 
 def name_table(tallies):
     """Which networks differ, but for those with one source: these are printed as they are compared."""
-    yield "| Earliest difference | Networks |"
-    yield "|---|---|"
+    yield from ("| Earliest difference | Networks |", "|---|---|")
     for tally in tallies:
-        if tally.name != ALONE:
-            for why in reasons.REASONS:
-                if tally.names[why]:
-                    names = ", ".join(name.removesuffix(".toml") for name in tally.names[why])
-                    yield f"| {why}, *{tally.name}* | {names} |"
+        for why in reasons.REASONS if tally.name != ALONE else ():
+            if tally.names[why]:
+                names = ", ".join(name.removesuffix(".toml") for name in tally.names[why])
+                yield f"| {why}, *{tally.name}* | {names} |"
 
 
 def tables(tallies):
     """The tables of what was compared, as lines; `name_table` is printed alone."""
     yield from set_table(tallies)
     if any(tally.equal < tally.topologies for tally in tallies):
-        yield ""
-        yield from reason_table(tallies)
+        yield from ("", *reason_table(tallies))
 
 
 def every(paths):
     """Compares all sets, or the topologies of these files: the tallies."""
-    if paths:
-        return [try_set("files", "the files named", sets.of_files(paths))]
+    tallies = []
     with process.folder("compare") as folder:
-        return [try_set(*one) for one in sets.every(folder)] + try_parts()
+        files = [("files", "the files named", plain.of_files(paths))]
+        for name, what, topologies in files if paths else plain.every(folder):
+            tallies.append(Tally(name, what))
+            for label, topology in topologies:
+                try_whole(label, topology, tallies[-1])
+    return tallies if paths else tallies + try_parts()
+
+
+def changed(topology, way, new):
+    """A topology whose value at the end of a way is another."""
+    made = copy.deepcopy(topology)
+    table = functools.reduce(operator.getitem, way[:-1], made)
+    table[way[-1]] = new(table.get(way[-1]))
+    return made
+
+
+def unseen():
+    """The changes that the comparison does not see: a changed network has to differ, without a known reason."""
+    found, topology = [], plain.read(here.example("office"))
+    for name, change in CHANGES.items():
+        with process.folder("compare") as folder:
+            compared = simulate(topology, folder, [programs.NS3], changed(topology, *change))
+        found += [] if compared.differences and reasons_of(topology, compared)[1] else [name]
+    return found
+
+
+def differing(network, workers):
+    """How many files of a run are not those of the one event list."""
+    with process.folder("compare") as made:
+        programs.call([here.NULLSIM, "run", network.path, made, str(workers), "1"])
+        if process.nullsim("verify", network.path, made).status == 0:
+            return 0
+        return sum(process.nullsim("verify", network.path, made, name).status != 0 for name in network.partition_of)
+
+
+def run_table():
+    """Whether all files were equal, and the lines of the table."""
+    rows, wrong = [["Network", "Partitions", "Interfaces",
+                    *(f"{RUNS} runs of {workers} workers: files that differ" for workers in WORKERS)]], 0
+    for kind, count in NETWORKS:
+        with process.folder("compare") as folder:
+            network = networks.Network(topologies.generate(kind, os.path.join(folder, "topology.toml"), count))
+            found = [sum(differing(network, workers) for _ in range(RUNS)) for workers in WORKERS]
+        rows.append([f"`{kind}={count}`", len(network.partitions), len(network.partition_of), *found])
+        wrong += sum(found)
+    head, *lines = (f"| {' | '.join(map(str, row))} |" for row in rows)
+    return not wrong, [head, "|" + "---|" * len(rows[0]), *lines]

@@ -1,11 +1,12 @@
 """The demonstration: eight processes of a campus in four partitions, one of which is killed and begun again."""
 
 import random
+import threading
 import time
+from collections import Counter, defaultdict
 
-from dev.demo.counts import Counts
 from dev.demo.replicas import Replica
-from dev.lib import process, proxy
+from dev.lib import frames, nodes, process, proxy
 
 KILLED = (1, 0)
 KILLED_AT_SHARE = 33
@@ -21,6 +22,56 @@ TRICKLED_ONE_OF, TRICKLED = 4, 200
 
 class Failed(Exception):
     """The demonstration did not come to what it is to show."""
+
+
+class Counts:
+    """What the proxy counts: messages of each sender, sent again and lost, and connections that were cut. Processes are
+    pairs (partition, replica)."""
+
+    def __init__(self):
+        self.lock = threading.Lock()
+        self.messages, self.again = Counter(), Counter()
+        # Connections that were cut; those of them on whose pair a Bye had come; and Byes that were lost with one.
+        self.cuts = self.late = self.byes = 0
+        # The numbers of the messages that a sender began to send to a receiver on a channel.
+        self.sent = defaultdict(set)
+        # Those that anyone sent to a receiver on a channel, and those that came whole to its present process.
+        self.wanted, self.whole = defaultdict(set), defaultdict(set)
+
+    def read(self, frame, sender, receiver):
+        if frame.kind == frames.DATA:
+            with self.lock:
+                self.messages[sender] += 1
+                numbers = self.sent[frame.channel, sender, receiver]
+                self.again[sender] += frame.number in numbers
+                numbers.add(frame.number)
+                self.wanted[frame.channel, receiver].add(frame.number)
+
+    def delivered(self, frame, receiver):
+        if frame.kind == frames.DATA:
+            with self.lock:
+                self.whole[frame.channel, receiver].add(frame.number)
+
+    def cut(self, is_late, lost):
+        with self.lock:
+            self.cuts += 1
+            self.late += is_late
+            self.byes += sum(frame.kind == frames.BYE for frame in lost)
+
+    def forget(self, receiver):
+        """The process of a receiver is another now, and holds nothing."""
+        with self.lock:
+            for key in self.whole:
+                if key[1] == receiver:
+                    self.whole[key].clear()
+
+    def lost(self):
+        """How many messages never came whole to the present process of their receiver."""
+        return sum(len(numbers - self.whole[key]) for key, numbers in list(self.wanted.items()))
+
+    def again_of(self, partition):
+        """How many messages the processes of a partition sent again to the same receiver."""
+        return sum(count for sender, count in list(self.again.items()) if sender[0] == partition)
 
 
 def plan_of(pair, seed):
@@ -43,11 +94,10 @@ class Run:
 
     def __init__(self, network, places, seed, folder):
         self.network, self.places, self.folder, self.seed = network, places, folder, seed
-        self.names = network.names
+        self.names, self.counts = network.names, Counts()
         self.title = (f"a campus in {len(self.names)} partitions, 2 replicas each: "
                       f"{len(network.keys())} processes {places.title}")
-        self.counts, self.doors = Counts(), {}
-        self.processes, self.away, self.said = {}, {}, []
+        self.doors, self.processes, self.away, self.said = {}, {}, {}, []
         self.resent, self.is_over = None, False
 
     def say(self, text, style=""):
@@ -127,24 +177,19 @@ class Run:
 
     def certify(self):
         """Has the program certify what replica 0 of each partition left, and what replica 1 did."""
-        for replica in (0, 1):
-            folders = [self.processes[key].folder for key in sorted(self.processes) if key[1] == replica]
-            ended = process.nullsim("certify", self.network.path, 4, *folders)
-            if ended.status or not ended.out.startswith(b"certified\n"):
-                raise Failed(f"what the replicas {replica} left is not certified: {process.ending(ended)}")
+        faults, _ = nodes.uncertified(self.network, self.processes, 4)
+        if faults:
+            raise Failed(faults[0])
 
     def check_counts(self):
         """What the proxy saw: no message was lost, some Byes were, and each connection broke several times."""
-        faults = [fault for door in self.doors.values() for fault in door.faults]
+        least, lost = min(door.broken for door in self.doors.values()), self.counts.lost()
+        faults = [f"the proxy read what is no frame: {it}" for door in self.doors.values() for it in door.faults]
+        faults += [f"{lost} messages never came whole"] if lost else []
+        faults += ["no Bye was lost"] if not self.counts.byes else []
+        faults += [f"a connection broke {least} times only"] if least < 2 else []
         if faults:
-            raise Failed(f"the proxy read what is no frame: {faults[0]}")
-        if self.counts.lost():
-            raise Failed(f"{self.counts.lost()} messages never came whole")
-        if not self.counts.byes:
-            raise Failed("no Bye was lost")
-        least = min(door.broken for door in self.doors.values())
-        if least < 2:
-            raise Failed(f"a connection broke {least} times only")
+            raise Failed(faults[0])
         return least
 
     def broken(self):
@@ -163,8 +208,8 @@ class Run:
                  f"{counts.lost()} lost"]
         if self.resent is not None:
             lines.append(f"{self.resent:,} TCP segments sent again by the systems of the {total} namespaces")
-        names = len(self.network.partition_of)
-        return lines + [f"{files} files of {names} interfaces: each is what the one event list writes"]
+        ifaces = len(self.network.partition_of)
+        return lines + [f"{files} files of {ifaces} interfaces: each is what the one event list writes"]
 
     def demonstrate(self, view):
         """All of it: the lines that say what came of it."""

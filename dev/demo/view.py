@@ -1,9 +1,10 @@
-"""The screen: one line a partition, and what happened; live in a terminal, or a line now and then."""
+"""The screen: one line a partition, and what happened; live in a terminal, or a line now and then; and as a picture."""
 
 import shutil
 import sys
 import time
 from collections import namedtuple
+from xml.sax.saxutils import escape
 
 # What is shown: how wide a bar is, and what processes counted, each with its heading and the width of its column.
 Layout = namedtuple("Layout", "bar counted")
@@ -16,6 +17,16 @@ MILLISECOND = 1_000_000
 REFRESH_SECONDS = {True: 0.2, False: 2.0}
 COLOURS = {"": "", "bold": "\033[1m", "dim": "\033[2m", "good": "\033[32m", "bad": "\033[31m", "bar": "\033[36m"}
 PLAIN = "\033[0m"
+# Of the picture.
+COLUMN, ROW, MARGIN, TOP = 8.43, 19, 18, 40
+FILLS = {"": "#d8dee9", "bold": "#ffffff", "dim": "#8b95a7", "good": "#7ee787", "bad": "#ff9d96", "bar": "#79c0ff"}
+HEAD = """<svg xmlns="http://www.w3.org/2000/svg" width="{width}" height="{height}" viewBox="0 0 {width} {height}" \
+role="img" aria-label="{label}">
+<rect width="{width}" height="{height}" rx="8" fill="#0d1117"/>
+<circle cx="20" cy="18" r="5" fill="#ff5f57"/><circle cx="38" cy="18" r="5" fill="#febc2e"/>\
+<circle cx="56" cy="18" r="5" fill="#28c840"/>
+<g font-family="DejaVu Sans Mono, Menlo, Consolas, monospace" font-size="14" xml:space="preserve">
+"""
 
 
 def bar(process, is_away, width):
@@ -25,13 +36,6 @@ def bar(process, is_away, width):
     share = process.share()
     full = share * width // 100
     return [("█" * full, "good" if share == 100 else "bar"), ("·" * (width - full), "dim"), (f" {share:3} %", "")]
-
-
-def heading(layout):
-    """The first line of the table."""
-    bars = "".join(f"{name:<{layout.bar + 8}}" for name in ("replica 0", "replica 1"))
-    counted = "".join(f"{name:>{width}}" for _, name, width in layout.counted)
-    return f"{'partition':<11}{bars}{'safe ms':>{SAFE}}{counted}{'again':>{AGAIN}}"
 
 
 def partition_line(run, partition, layout):
@@ -49,7 +53,10 @@ def partition_line(run, partition, layout):
 
 def screen(run, seconds, layout):
     """All lines: each a list of pieces of text with their styles."""
-    lines = [[(f"{run.title}; {seconds:.0f} s", "bold")], [], [(heading(layout), "dim")]]
+    bars = "".join(f"{name:<{layout.bar + 8}}" for name in ("replica 0", "replica 1"))
+    counted = "".join(f"{name:>{width}}" for _, name, width in layout.counted)
+    heading = f"{'partition':<11}{bars}{'safe ms':>{SAFE}}{counted}{'again':>{AGAIN}}"
+    lines = [[(f"{run.title}; {seconds:.0f} s", "bold")], [], [(heading, "dim")]]
     lines += [partition_line(run, partition, layout) for partition in range(len(run.names))]
     return lines + [[]] + [[(text, style)] for text, style in run.said]
 
@@ -63,14 +70,51 @@ def coloured(line, width):
     return made
 
 
+def piece(column, row, text, style):
+    """A piece of a line at its place, as wide as its characters: so columns stand under each other in any font."""
+    x, y = MARGIN + column * COLUMN, TOP + (row + 0.75) * ROW
+    weight = ' font-weight="bold"' if style == "bold" else ""
+    width = f'textLength="{len(text) * COLUMN:.1f}" lengthAdjust="spacingAndGlyphs"'
+    return f'<text x="{x:.1f}" y="{y:.1f}" fill="{FILLS[style]}"{weight} {width}>{escape(text)}</text>\n'
+
+
+def blocks(column, row, count, style):
+    """A bar of full blocks."""
+    x, y = MARGIN + column * COLUMN, TOP + row * ROW + 3
+    return f'<rect x="{x:.1f}" y="{y:.1f}" width="{count * COLUMN:.1f}" height="{ROW - 6}" fill="{FILLS[style]}"/>\n'
+
+
+def words(text):
+    """The parts of a text between runs of two spaces and more, with their columns."""
+    column = 0
+    for part in text.split("  "):
+        if part.strip():
+            yield column + len(part) - len(part.lstrip()), part.strip()
+        column += len(part) + 2
+
+
+def drawn(lines, label):
+    """The picture (SVG), which needs nothing else, of some lines, each a list of pieces of text with their styles."""
+    columns = max(sum(len(text) for text, _ in line) for line in lines)
+    size = {"width": round(2 * MARGIN + columns * COLUMN), "height": TOP + len(lines) * ROW + MARGIN}
+    made = [HEAD.format(label=escape(label, {'"': "&quot;"}), **size)]
+    for row, line in enumerate(lines):
+        column = 0
+        for text, style in line:
+            if text and not text.strip("█"):
+                made.append(blocks(column, row, len(text), style))
+            else:
+                made += [piece(column + at, row, part, style) for at, part in words(text)]
+            column += len(text)
+    return "".join(made) + "</g>\n</svg>\n"
+
+
 class View:
     """Shows the screen of a run, again and again."""
 
     def __init__(self, is_live):
-        self.is_live = is_live
-        self.height = self.printed = 0
-        self.last = 0.0
-        self.lines = []
+        self.is_live, self.lines = is_live, []
+        self.height = self.printed = self.last = 0
 
     def show(self, run, seconds, at_once=False):
         """Shows the run, where it is time to."""
@@ -96,8 +140,8 @@ class View:
         if not run.is_over:
             shares = ", ".join(f"{name} {'/'.join(str(run.processes[number, replica].share()) for replica in (0, 1))} %"
                                for number, name in enumerate(run.names))
-            again = run.counts.again.total()
-            print(f"{seconds:4.0f} s: {shares}; {run.broken():,} connections broken, {again:,} sent again", flush=True)
+            print(f"{seconds:4.0f} s: {shares}; {run.broken():,} connections broken, {run.counts.again.total():,} sent "
+                  "again", flush=True)
 
     def close(self):
         if self.is_live:

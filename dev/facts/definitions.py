@@ -43,13 +43,6 @@ def place_of(module):
     return crate, os.path.join("src", "lib.rt"), name
 
 
-def contract_of(crate, file, function):
-    """The text of a file, and of a function of it from its name to its body."""
-    text = text_of(crate, os.path.join("src", file + ".rt"))
-    begin = re.search(rf"^pub fn {function}\b", text, re.M).start()
-    return text, text[begin : text.index("\n{\n", begin)]
-
-
 class Closure:
     """All files that are reached, each once, what is used before what uses it; the types of the code that they name;
     and the modules outside of the repository."""
@@ -75,8 +68,10 @@ class Closure:
 
     def reach_contract(self, crate, file, function):
         """Reaches all that a contract cites: these modules."""
-        text, contract = contract_of(crate, file, function)
-        words = set(re.findall(r"[A-Za-z_0-9]+", contract))
+        text = text_of(crate, os.path.join("src", file + ".rt"))
+        # A function from its name to its body.
+        begin = re.search(rf"^pub fn {function}\b", text, re.M).start()
+        words = set(re.findall(r"[A-Za-z_0-9]+", text[begin : text.index("\n{\n", begin)]))
         cited = [module for module, names in uses(text) if words & set(names)]
         for module in cited:
             self.reach(module)

@@ -5,6 +5,7 @@ import functools
 import os
 import re
 
+from dev.facts import pages
 from dev.lib import here
 
 LEAST = (3, 9)
@@ -19,8 +20,8 @@ PACKAGES = {"matplotlib": "python3-matplotlib", "networkx": "python3-networkx", 
 # tools that commands of documents call.
 TOOLS = {"tools/network": [], "tools/launch": [], "tools/nullsim": [], "tools/plot": [], "tools/page": ["tools/plot"]}
 DRAWN = ["tools/network", "tools/plot", "tools/page"]
-CALLS = {**TOOLS, "dev/check/network": ["tools/networks"], "dev/check/tutorial": DRAWN, "dev/check/docs": DRAWN,
-         "dev/check/first-day": DRAWN,
+CALLS = {**TOOLS, "dev/check/network": ["tools/networks"], "dev/check/docs": DRAWN,
+         "dev/check/first-day": DRAWN, "dev/check/first-day --tutorial": DRAWN,
          "dev/deep": ["dev/check", "dev/attack", "dev/compare"]}
 # Targets whose packages are those of the others that they call.
 OF_OTHERS = ("deep",)
@@ -28,17 +29,10 @@ NETWORKS = "docs/NETWORKS.md"
 HELP = re.compile(r"^  make(?: ([a-z-]+))?( \*)?(?= )")
 
 
-def module(name):
-    """The file of a module of the repository, or none."""
-    for top in ("", "tools"):
-        path = here.path(top, *name.split(".")) + ".py"
-        if os.path.isfile(path):
-            return [path]
-    return []
-
-
-def is_python(path):
-    return path.endswith(".py") or here.octets(path).startswith(b"#!/usr/bin/env python3")
+def modules(names):
+    """The files of those modules that are of the repository."""
+    paths = (here.path(top, *name.split(".")) + ".py" for name in names for top in ("", "tools"))
+    return [path for path in paths if os.path.isfile(path)]
 
 
 def imported(tree):
@@ -52,8 +46,7 @@ def imported(tree):
 
 
 def called(tree):
-    """The programs and modules that a file looks for: what it gives to `shutil.which` and its like, and keys of a table
-    of readers."""
+    """The programs and modules that a file looks for: given to `shutil.which` and its like, or keys of READERS."""
     for node in ast.walk(tree):
         if isinstance(node, ast.Call) and isinstance(node.func, (ast.Attribute, ast.Name)):
             name = node.func.attr if isinstance(node.func, ast.Attribute) else node.func.id
@@ -80,15 +73,19 @@ def closure(paths):
         path = paths.pop()
         if path not in found:
             found[path] = names_in(here.read(path))
-            paths += [it for name in found[path] for it in module(name)]
+            paths += modules(found[path])
     return found
+
+
+def version(python):
+    return ".".join(map(str, python))
 
 
 def needs_of(script):
     """The least Python and the packages of a script; with an option behind it, it looks for no package."""
     paths = []
     for name in (script.split()[0], *CALLS.get(script, [])):
-        paths += filter(is_python, here.files(name) if os.path.isdir(here.path(name)) else [here.path(name)])
+        paths += filter(pages.is_script, here.files(name) if os.path.isdir(here.path(name)) else [here.path(name)])
     python, packages = LEAST, set()
     for names in closure(paths).values():
         python = max([python, *(NEWER[name] for name in names if name in NEWER)])
@@ -137,12 +134,8 @@ def check_help(report):
         report.note(has_star == (python > LEAST), what)
         for package in set().union(*(packages for _, packages in needs)) if target not in OF_OTHERS else ():
             report.note(package in text, f"make help: {target} does not name the package {package}")
-    rules = set(" ".join(re.findall(r"^([a-z][\w/ -]*):", here.read("Makefile"), re.M)).split())
-    report.note(not set(helped) - rules, f"make help: it lists {', '.join(sorted(set(helped) - rules))}")
-
-
-def version(python):
-    return ".".join(map(str, python))
+    unknown = set(helped) - pages.targets()
+    report.note(not unknown, f"make help: it lists {', '.join(sorted(unknown))}")
 
 
 def table():

@@ -102,8 +102,7 @@ def rows():
 
 
 def constant_of(path, name):
-    """The number of a constant of the code, or None. Where it is worked out from others of the same file, so are
-    these."""
+    """The number of a constant of the code, or None; it may be worked out from others of the same file."""
     crate, _, module = path.partition("/")
     found = re.search(rf"const {name}: \w+ = ([^;]+);", here.read("crates", crate, "src", f"{module}.rt"))
     if not found:

@@ -41,19 +41,15 @@ def is_there(document, path):
     return any(glob.glob(place) for place in places)
 
 
-def headings(path):
-    """The anchors of a document's headings, as a forge makes them."""
-    heads = re.findall(r"^#+ (.*)$", here.read(path), re.M)
-    return {re.sub(r"[^\w -]", "", head.lower()).replace(" ", "-") for head in heads}
-
-
 def has_anchor(document, link):
     """Whether a link that names a heading of a document names one that is there."""
     path, _, anchor = link.partition("#")
     target = os.path.normpath(os.path.join(os.path.dirname(document), path)) if path else document
     if not anchor or ":" in link or not os.path.isfile(here.path(target)):
         return True
-    return anchor in headings(target)
+    heads = re.findall(r"^#+ (.*)$", here.read(target), re.M)
+    # As a forge makes them.
+    return anchor in {re.sub(r"[^\w -]", "", head.lower()).replace(" ", "-") for head in heads}
 
 
 def targets():
@@ -72,24 +68,19 @@ def comments():
 
 def check_paths(report):
     """Links and their headings, paths and targets of make that documents, comments, the Makefile and scripts name."""
-    known = targets()
+    known, named = targets(), [(place, path) for place, text in comments() for path in PATH.findall(text)]
     for document in documents():
         for number, line in enumerate(here.read(document).split("\n"), 1):
-            for path in LINK.findall(line) + PATH.findall(line):
-                if not PATTERN.search(path):
-                    report.note(is_there(document, path), f"{document}:{number}: {path} is not there")
-            for link in LINK.findall(line):
-                report.note(has_anchor(document, link), f"{document}:{number}: there is no heading {link}")
+            place, links = f"{document}:{number}", LINK.findall(line)
+            named += [(place, path) for path in links + PATH.findall(line)]
+            for link in links:
+                report.note(has_anchor(document, link), f"{place}: there is no heading {link}")
             for target in TARGET.findall(line):
-                report.note(target in known, f"{document}:{number}: there is no target {target}")
-    for place, text in comments():
-        for path in PATH.findall(text):
-            if not PATTERN.search(path):
-                report.note(is_there(place, path), f"{place}: {path} is not there")
-    for path in ["Makefile", *scripts()]:
-        for found in BARE_PATH.findall(here.read(path)):
-            if not PATTERN.search(found):
-                report.note(is_there(path, found), f"{path}: {found} is not there")
+                report.note(target in known, f"{place}: there is no target {target}")
+    named += [(path, found) for path in ["Makefile", *scripts()] for found in BARE_PATH.findall(here.read(path))]
+    for place, path in named:
+        if not PATTERN.search(path):
+            report.note(is_there(place, path), f"{place}: {path} is not there")
 
 
 def scripts():
@@ -101,11 +92,8 @@ def scripts():
 
 def is_script(name):
     """Whether a file of tools/ or dev/ is Python."""
-    if name.endswith(".py"):
-        return True
-    if "." in os.path.basename(name):
-        return False
-    return here.octets(here.path(name)).startswith(b"#!/usr/bin/env python3")
+    return name.endswith(".py") or "." not in os.path.basename(name) and here.octets(here.path(name)).startswith(
+        b"#!/usr/bin/env python3")
 
 
 def check_outdated(report):

@@ -48,8 +48,8 @@ def check_bugs(report):
     """Each planted bug is an edit of what is in the code, and no two of a list have one name."""
     for crate in bugs.crates():
         listed = bugs.bugs_of(crate)
-        names = [bug["bug"] for bug in listed]
-        report.note(len(names) == len(set(names)), f"dev/planted/{crate}.bugs: two bugs have one name")
+        report.note(len({bug["bug"] for bug in listed}) == len(listed), f"dev/planted/{crate}.bugs: two bugs have one "
+                                                                        "name")
         for bug in listed:
             try:
                 text, place = here.read("crates", crate, bug["file"]), f"dev/planted/{crate}.bugs: {bug['bug']}"

@@ -31,16 +31,11 @@ def place(name):
                        "PYTHONPATH": here.path("tools"), "PYTHONDONTWRITEBYTECODE": "1"}
 
 
-def lacks(command):
-    """Whether a program that the command names is not installed."""
-    named = [name for name in OTHERS if re.search(rf"\b{name}\b -", command)]
-    named += [name for words, name in CALLED.items() if words in command]
-    return any(not shutil.which(name) for name in named)
-
-
 def ended(command, folder, environment, **how):
     """How a command ended that was run by bash, or None where something is not installed that it needs."""
-    if lacks(command):
+    named = [name for name in OTHERS if re.search(rf"\b{name}\b -", command)]
+    named += [name for words, name in CALLED.items() if words in command]
+    if not all(map(shutil.which, named)):
         return None
     found = process.call(["bash", "-c", command], SECONDS, cwd=folder, env=environment, **how)
     printed = (found.out + (found.errors or b"")).decode(errors="replace")

@@ -7,8 +7,7 @@ HELLO, HAVE, DATA, NULL, BYE = range(1, 6)
 VERSION = 2
 # The greatest length that a frame may say.
 GREATEST = 65_556
-# The last octet of a frame in its stream, its kind, the channel and the number of a message, and what stands behind
-# its length.
+# The end of a frame in its stream, its kind, the channel and number of a message, and what is behind its length.
 Frame = namedtuple("Frame", "end kind channel number body")
 
 
@@ -41,8 +40,7 @@ class Frames:
     """Reads the frames of a stream that comes in pieces."""
 
     def __init__(self):
-        self.rest = bytearray()
-        self.passed = 0
+        self.rest, self.passed = bytearray(), 0
 
     def feed(self, octets):
         """The frames that end in this piece. ValueError where the stream is none of frames."""
@@ -54,16 +52,12 @@ class Frames:
                 raise ValueError(f"a frame of length {length}")
             if len(self.rest) < 4 + length:
                 break
-            found.append(self.take(length))
+            body = bytes(self.rest[4:4 + length])
+            numbers = struct.unpack_from(">IQ", body, 1) if body[0] == DATA else (None, None)
+            del self.rest[:4 + length]
+            self.passed += 4 + length
+            found.append(Frame(self.passed, body[0], *numbers, body))
         return found
-
-    def take(self, length):
-        """Takes the frame at the front."""
-        body = bytes(self.rest[4:4 + length])
-        channel, number = struct.unpack_from(">IQ", body, 1) if body[0] == DATA else (None, None)
-        del self.rest[:4 + length]
-        self.passed += 4 + length
-        return Frame(self.passed, body[0], channel, number, body)
 
 
 def read_until(connection, is_enough, seconds=30):

@@ -1,6 +1,7 @@
 """Where things are, what crates.txt says, and the parts of documents that scripts write."""
 
 import os
+import pathlib
 
 ROOT = os.path.dirname(os.path.dirname(os.path.dirname(os.path.abspath(__file__))))
 # The program that is tried; --nullsim puts another in its place.
@@ -19,20 +20,41 @@ def example(name):
 
 def topologies():
     """The topologies of examples/, beside which SPECs of tools/network stand."""
-    names = sorted(os.listdir(path("examples")))
-    return [path("examples", it) for it in names if it.endswith(".toml") and not it.endswith(".spec.toml")]
+    return [it for it in files("examples", ends=".toml") if not it.endswith(".spec.toml")]
+
+
+def case_folders(*names):
+    """Folders of the stored cases."""
+    return [path("crates", "nullsim_cases", "data", "cases", name) for name in names]
+
+
+def case_topologies(folder):
+    """The topologies of a folder, by their paths."""
+    names = sorted(os.listdir(folder)) if os.path.isdir(folder) else []
+    return [os.path.join(folder, name) for name in names if name.endswith(".toml")]
+
+
+def expected(topology):
+    """The words of each line of the case beside a topology, but for comments."""
+    case = topology.removesuffix(".toml") + ".expect"
+    lines = octets(case).decode(errors="replace").splitlines() if os.path.exists(case) else []
+    return [line.split() for line in lines if line.strip() and not line.lstrip().startswith("#")]
 
 
 def read(*parts):
     """The text of a file, by its path from the root."""
-    with open(path(*parts), encoding="utf-8") as file:
-        return file.read()
+    return pathlib.Path(path(*parts)).read_text(encoding="utf-8")
 
 
 def octets(name):
     """The octets of a file."""
-    with open(name, "rb") as file:
-        return file.read()
+    return pathlib.Path(name).read_bytes()
+
+
+def write(name, content):
+    """Writes a file, a text or octets: its name."""
+    pathlib.Path(name).write_bytes(content.encode() if isinstance(content, str) else content)
+    return name
 
 
 def crates():
@@ -50,19 +72,14 @@ def crate_lines():
 
 def below(crate, known):
     """All crates of the repository that a crate depends on, each after those that it depends on itself."""
-    found = []
-    for name in known[crate]:
-        if name in known:
-            found += [it for it in [*below(name, known), name] if it not in found]
-    return found
+    own = [name for name in known[crate] if name in known]
+    return list(dict.fromkeys(it for name in own for it in (*below(name, known), name)))
 
 
 def files(*parts, ends=""):
     """The files below a folder whose names have an end, in one order."""
-    found = []
-    for folder, _, names in os.walk(path(*parts), followlinks=True):
-        found += [os.path.join(folder, name) for name in names if name.endswith(ends)]
-    return sorted(found)
+    walked = os.walk(path(*parts), followlinks=True)
+    return sorted(os.path.join(folder, name) for folder, _, names in walked for name in names if name.endswith(ends))
 
 
 def marks(name):
@@ -83,5 +100,4 @@ def between(document, name):
 def write_between(document, name, text):
     """Writes lines between the marks of a part of a document."""
     _, before, behind = between(document, name)
-    with open(path(document), "w", encoding="utf-8") as file:
-        file.write(f"{before}{text}\n{behind}")
+    write(path(document), f"{before}{text}\n{behind}")

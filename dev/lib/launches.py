@@ -68,8 +68,7 @@ class Keys:
         for name in ("key", "host_key"):
             process.done(process.call(["ssh-keygen", "-q", "-t", "ed25519", "-N", "", "-f", f"{folder}/{name}"]),
                          "ssh-keygen")
-        with open(os.path.join(folder, "ssh_config"), "w", encoding="ascii") as file:
-            file.write(SSH_CONFIG.format(folder=folder))
+        here.write(os.path.join(folder, "ssh_config"), SSH_CONFIG.format(folder=folder))
         self.ssh = f"ssh -F {folder}/ssh_config"
         os.makedirs("/run/sshd", exist_ok=True)
 
@@ -77,8 +76,7 @@ class Keys:
         """Begins sshd on a machine, perhaps by other words. Folders that are hidden are empty there, as on a machine
         with files of its own."""
         config = os.path.join(self.folder, f"sshd-{machine.name}")
-        with open(config, "w", encoding="ascii") as file:
-            file.write(SSHD_CONFIG.format(folder=self.folder, more=more))
+        here.write(config, SSHD_CONFIG.format(folder=self.folder, more=more))
         # ip(8) gives a command mounts of its own.
         mounts = "".join(f"mount -t tmpfs none {folder} && " for folder in hidden)
         words = machine.words(*before, "sh", "-c", f"{mounts}exec {SSHD} -D -f {config}")

@@ -61,11 +61,6 @@ def small_grid(folder, packets=60):
     return made(folder, f"grid-{packets}", topologies.grid(packets, stop=50_000 * packets + 500_000, cuts=(2, 2)))
 
 
-def small_line(folder, packets=150):
-    """A line of 64 routers cut in 4: 6 channels, with null messages each microsecond or so."""
-    return made(folder, f"line-{packets}", topologies.line(packets, stop=4_000 * packets + 400_000, partitions=4))
-
-
 def two_hosts(folder, packets):
     """Two hosts in two partitions, one of which sends to the other."""
     return made(folder, "one-way", topologies.one_way(packets))
@@ -95,14 +90,8 @@ def traces_in(folder):
 
 def wrong_files(folder, names, wanted):
     """Which files of a folder are missing or others than those of the one event list: (name, what)."""
-    wrong = []
-    for name in names:
-        try:
-            if here.octets(os.path.join(folder, f"{name}.pcap")) != wanted[name]:
-                wrong.append((name, "differs"))
-        except OSError:
-            wrong.append((name, "is missing"))
-    return wrong
+    found = traces_in(folder)
+    return [(name, "differs" if name in found else "is missing") for name in names if found.get(name) != wanted[name]]
 
 
 def faults_of_folder(folder, wanted, old=None, is_done=False):
@@ -127,5 +116,4 @@ def faults_of_folder(folder, wanted, old=None, is_done=False):
 def fill(folder, names, octets):
     """Files with these final names, as of an earlier run."""
     for name in names:
-        with open(os.path.join(folder, f"{name}.pcap"), "wb") as file:
-            file.write(octets)
+        here.write(os.path.join(folder, f"{name}.pcap"), octets)

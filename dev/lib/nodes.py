@@ -25,8 +25,7 @@ _lock = threading.Lock()
 
 
 def own_ports():
-    """Ports that no other process takes which uses this module, as long as this one runs: it holds a name of the system
-    for them."""
+    """Ports that no other process which uses this module takes, while this one holds a name of the system for them."""
     firsts = list(range(PORTS.start, PORTS.stop, OWN_PORTS))
     for first in random.Random(os.getpid()).sample(firsts, len(firsts)):
         held = socket.socket(socket.AF_UNIX)
@@ -46,13 +45,8 @@ def free_port():
     while True:
         with _lock:
             port = next(_numbers)
-        with socket.socket() as made:
-            made.setsockopt(socket.SOL_SOCKET, socket.SO_REUSEADDR, 1)
-            try:
-                made.bind((HOST, port))
-                return port
-            except OSError:
-                pass
+        with contextlib.suppress(OSError), socket.create_server((HOST, port)):
+            return port
 
 
 def free_ports(network):
@@ -91,13 +85,10 @@ class Node:
         self.folder, self.out, self.errors, addresses = (
             os.path.join(folder, f"{name}{own}") for name in ("", "out-", "errors-", "addresses-"))
         os.makedirs(self.folder, exist_ok=True)
-        with open(addresses, "w", encoding="ascii") as file:
-            for (partition, replica), place in ports.items():
-                host, port = place if isinstance(place, tuple) else (HOST, place)
-                file.write(f"{partition} {replica} {host}:{port}\n")
+        places = {other: place if isinstance(place, tuple) else (HOST, place) for other, place in ports.items()}
+        here.write(addresses, "".join(f"{p} {r} {host}:{port}\n" for (p, r), (host, port) in places.items()))
         words = ["node", network.path, self.folder, *map(str, key), addresses]
-        self.words = [*before, here.NULLSIM, *words, *further]
-        self.times_begun = 0
+        self.words, self.times_begun = [*before, here.NULLSIM, *words, *further], 0
         self.begin()
 
     def begin(self):
@@ -173,6 +164,20 @@ def end_all(some, seconds=MINUTE):
     return [node.status() for node in some]
 
 
+def uncertified(network, some, workers=2):
+    """What `certify` says but `certified` of what the first replicas left, and of what the second ones did, where all
+    of them are done; and how often it said that."""
+    faults, certified = [], 0
+    for replica in network.replicas:
+        own = [some.get(key) for key in network.keys() if key[1] == replica]
+        if all(node and node.status() == 0 for node in own):
+            done = process.nullsim("certify", network.path, workers, *(node.folder for node in own))
+            is_well = done.status == 0 and done.out.startswith(b"certified\n")
+            certified += is_well
+            faults += [] if is_well else [f"what the replicas {replica} left is not certified: {process.ending(done)}"]
+    return faults, certified
+
+
 class Nodes:
     """All replicas of a network. Each reaches another at the port that `doors` has for both, or else at its own."""
 
@@ -209,20 +214,10 @@ class Nodes:
         return files or self.all_certificate_faults()
 
     def all_certificate_faults(self):
-        """That of the first replicas, and of the second ones."""
-        return [fault for replica in (0, 1) for fault in self.certificate_faults(replica)]
-
-    def certificate_faults(self, replica):
-        """What `certify` says but `certified` of what the replicas of this number left, one of each partition, where
-        all of them are done."""
-        own = [self.all.get(key) for key in self.network.keys() if key[1] == replica]
-        if not own or not all(node and node.status() == 0 for node in own):
-            return []
-        done = process.nullsim("certify", self.network.path, 2, *(node.folder for node in own))
-        if done.status != 0 or not done.out.startswith(b"certified\n"):
-            return [f"what the replicas {replica} left is not certified: {process.ending(done)}"]
-        self.certified += 1
-        return []
+        """What `certify` says of what is left; it is counted how often it says `certified`."""
+        faults, certified = uncertified(self.network, self.all)
+        self.certified += certified
+        return faults
 
     def kill(self):
         for node in self.all.values():

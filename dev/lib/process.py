@@ -40,12 +40,10 @@ def call(words, seconds=SECONDS, **how):
                                        "stderr": subprocess.PIPE, **how})
     try:
         out, errors = child.communicate(timeout=seconds)
-        status = child.returncode
     except subprocess.TimeoutExpired:
         child.kill()
-        out, errors = child.communicate()
-        status = None
-    return Ended(status, out, errors, time.monotonic() - begun)
+        return Ended(None, *child.communicate(), time.monotonic() - begun)
+    return Ended(child.returncode, out, errors, time.monotonic() - begun)
 
 
 def nullsim(*words, before=(), **how):
@@ -68,6 +66,18 @@ def printed(*words, **how):
 def output(*words, **how):
     """What another command prints, as a text."""
     return done(call(words, **how), " ".join(words)).decode(errors="replace")
+
+
+def shown(words, to=sys.stdout, begun=lambda child: None):
+    """Runs a command and shows its lines as they come; `begun` gets it first: its status, minutes and last line."""
+    started, last = time.monotonic(), ""
+    streams = {"stdout": subprocess.PIPE, "stderr": subprocess.STDOUT}
+    child = subprocess.Popen(words, cwd=here.ROOT, text=True, errors="replace", **streams)
+    begun(child)
+    for line in child.stdout:
+        to.write(line)
+        last = line.strip() or last
+    return child.wait(), (time.monotonic() - started) / 60, last
 
 
 def ending(ended):

@@ -49,15 +49,15 @@ class Crate:
         self.kit = ["std", *(it for it in uses if it not in crates)]
         self.folder = here.path("crates", name)
         self.made = os.path.join(self.folder, "out", "build")
+        # The stamp of what was made last.
+        stamp = os.path.join(self.made, "stamp")
+        self.stamp = here.read(stamp) if os.path.exists(stamp) else None
         self.rlib = os.path.join(self.made, f"{name}.rlib")
         self.is_program = os.path.exists(os.path.join(self.folder, "src", "main.rt"))
 
     def below(self):
         """The crates below it, each after those that it depends on."""
-        found = []
-        for crate in self.own:
-            found += [it for it in [*crate.below(), crate] if it not in found]
-        return found
+        return list(dict.fromkeys(it for crate in self.own for it in (*crate.below(), crate)))
 
 
 def crates():
@@ -75,14 +75,6 @@ def stamp_of(crate, toolchain, stamps):
         for path in here.files("crates", crate.name, part):
             total.update(repr((os.path.relpath(path, crate.folder), here.octets(path))).encode())
     return total.hexdigest()
-
-
-def kept_stamp(crate):
-    """The stamp of what was made last."""
-    try:
-        return here.read(crate.made, "stamp")
-    except OSError:
-        return None
 
 
 def words_of(crate, toolchain, jobs):

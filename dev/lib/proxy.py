@@ -1,12 +1,13 @@
 """Doors: ports behind which replicas are called. A plan says for each connection how a door carries it: where it cuts,
 holds back, trickles and stops what it carries."""
 
+import contextlib
 import random
 import socket
 import struct
 import threading
 import time
-from collections import deque
+from collections import deque, namedtuple
 from dataclasses import dataclass
 
 from dev.lib.frames import BYE, Frames
@@ -20,6 +21,10 @@ TRICKLE_SECONDS = 0.001
 WINDOW = 8_192
 # The octets of a Bye.
 BYE_OCTETS = 5
+# Who sees the frames that a door carries, by default nobody: what is called where a frame was read (frame, sender,
+# receiver), was forwarded to its last octet (frame, receiver), and where a connection was cut, perhaps once a Bye had
+# come, and these frames were lost with it (is_late, lost).
+Watch = namedtuple("Watch", "read delivered cut", defaults=[lambda *_: None] * 3)
 
 
 @dataclass
@@ -43,19 +48,6 @@ class Manner:
     stop: float = 0.0
 
 
-class Watch:
-    """Who sees the frames that a door carries: nobody."""
-
-    def read(self, frame, sender, receiver):
-        """A frame was read from its sender."""
-
-    def delivered(self, frame, receiver):
-        """A frame was forwarded to its receiver to its last octet."""
-
-    def cut(self, is_late, lost):
-        """A connection was cut, perhaps once a Bye had come, and these frames were lost with it."""
-
-
 class Way:
     """One direction of a connection: what was read, and what of it was not forwarded yet."""
 
@@ -63,11 +55,6 @@ class Way:
         self.side, self.other, self.ends, self.chance = side, other, ends, chance
         self.frames, self.whole = Frames(), deque()
         self.passed, self.has_bye = 0, False
-
-    def finished(self):
-        """The frames that were forwarded to their last octet since."""
-        while self.whole and self.whole[0].end <= self.passed:
-            yield self.whole.popleft()
 
 
 class Connection:
@@ -116,9 +103,8 @@ class Connection:
 
     def left(self, way):
         """How many octets are left before the cut."""
-        counts = way is self.ways[0] or not self.manner.is_one_way
-        is_cut = self.manner.cut_after is not None and counts and self.door.may_cut()
-        return self.manner.cut_after - way.passed if is_cut else ENDLESS
+        counts = self.manner.cut_after is not None and (way is self.ways[0] or not self.manner.is_one_way)
+        return self.manner.cut_after - way.passed if counts and self.door.may_cut() else ENDLESS
 
     def keep(self, way, octets):
         """How many of these octets are forwarded, and whether the connection is cut behind them."""
@@ -130,7 +116,7 @@ class Connection:
             self.door.watch.read(frame, *way.ends)
             way.whole.append(frame)
             if frame.kind == BYE:
-                self.door.note_bye(way.ends[0])
+                self.door.byes.setdefault(way.ends[0], time.monotonic())
                 if way.chance.random() < self.manner.cuts_bye and self.door.may_cut():
                     within = frame.end - way.passed - 1 - way.chance.randrange(BYE_OCTETS)
                     keep, is_cut = max(0, min(keep, within)), True
@@ -146,7 +132,9 @@ class Connection:
             self.over.wait(TRICKLE_SECONDS)
         way.other.sendall(octets[slow:])
         way.passed += len(octets)
-        for frame in way.finished():
+        # Those that were forwarded to their last octet.
+        while way.whole and way.whole[0].end <= way.passed:
+            frame = way.whole.popleft()
             way.has_bye |= frame.kind == BYE
             self.door.watch.delivered(frame, way.ends[1])
 
@@ -161,12 +149,10 @@ class Connection:
     def end(self, is_reset=False):
         self.over.set()
         for end in (self.near, self.far):
-            try:
+            with contextlib.suppress(OSError):
                 if is_reset:
                     end.setsockopt(socket.SOL_SOCKET, socket.SO_LINGER, struct.pack("ii", 1, 0))
                 end.shutdown(socket.SHUT_RDWR)
-            except OSError:
-                pass
 
 
 class Door:
@@ -190,9 +176,6 @@ class Door:
     def number(self):
         return self.socket.getsockname()[1]
 
-    def note_bye(self, sender):
-        self.byes.setdefault(sender, time.monotonic())
-
     def has_bye(self):
         return bool(self.byes)
 
@@ -201,12 +184,9 @@ class Door:
         return not self.has_bye() or self.cuts_late < self.most_late
 
     def serve(self):
-        while True:
-            try:
-                near, _ = self.socket.accept()
-            except OSError:
-                return
-            threading.Thread(target=self.join, args=(near,), daemon=True).start()
+        with contextlib.suppress(OSError):
+            while True:
+                threading.Thread(target=self.join, args=self.socket.accept()[:1], daemon=True).start()
 
     def join(self, near):
         """Carries a connection to the replica, if it listens."""
@@ -227,8 +207,7 @@ class Door:
         self.open.append(connection)
         if self.is_over:
             connection.end()
-        is_whole = connection.carry()
-        self.broken += not is_whole
+        self.broken += not connection.carry()
 
     def close(self):
         self.is_over = True
@@ -241,16 +220,12 @@ class Door:
 def doors_of(network, places, plan_of, chance, most_late=1_000, **how):
     """A door for each pair of which one calls the other. `places` has where each listens, a port of 127.0.0.1 or an
     address and a port; `plan_of` gives the plan of a pair."""
-    def place_of(key):
-        return places[key] if isinstance(places[key], tuple) else (HOST, places[key])
-    return {pair: Door(pair, place_of(pair[1]), plan_of(pair), random.Random(chance.random()), most_late, **how)
+    where = {key: place if isinstance(place, tuple) else (HOST, place) for key, place in places.items()}
+    return {pair: Door(pair, where[pair[1]], plan_of(pair), random.Random(chance.random()), most_late, **how)
             for pair in network.pairs()}
 
 
 def first_byes(doors):
     """When each replica sent its first Bye to anyone, as far as one was seen."""
-    found = {}
-    for door in doors.values():
-        for key, moment in door.byes.items():
-            found[key] = min(moment, found.get(key, moment))
-    return found
+    byes = sorted(((moment, key) for door in doors.values() for key, moment in door.byes.items()), reverse=True)
+    return {key: moment for moment, key in byes}

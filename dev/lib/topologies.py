@@ -36,8 +36,7 @@ LATE = 10 ** 12
 
 
 class Net(Network):
-    """Nodes, links and flows by names of nodes; routes by a shortest path from every node to each address that is
-    reached."""
+    """Nodes, links and flows by names of nodes; routes from every node by a shortest path to each node reached."""
 
     def __init__(self):
         super().__init__(LATE, 1_500)
@@ -99,15 +98,16 @@ def line(packets=15_900, octets=100, interval=4_000, routers=64, stop=LATE, part
     return net.text(stop)
 
 
-def ring(packets=245, octets=1_000, routers=64, delay=10_000, stop=LATE, partitions=1):
-    """Flows from each router of a ring to the one across."""
+def ring(packets=245, octets=lambda number: 1_000, routers=64, rate=GIGABIT, delay=10_000, stop=LATE, partitions=1,
+         gap=1_000, interval=400_000):
+    """Flows from each router of a ring to the one across; the ring is cut into parts of equal length."""
     net, names = Net(), [f"r{number}" for number in range(routers)]
     net.routers(names, lambda number: number * partitions // routers)
     for number, name in enumerate(names):
-        net.link(name, names[(number + 1) % routers], GIGABIT, delay)
+        net.link(name, names[(number + 1) % routers], rate, delay)
     for number, name in enumerate(names):
         target = net.reach(names[(number + routers // 2) % routers])
-        net.flow(name, target, octets, 1_000 * number, 400_000, packets)
+        net.flow(name, target, octets(number), gap * number, interval, packets)
     return net.text(stop)
 
 
@@ -118,38 +118,17 @@ def cut_ring(partitions=64):
 
 def both(packets=5):
     """Four routers in a ring, two in each of two partitions: two links join these, and each router sends across."""
-    net, names = Net(), ["r0", "r1", "r2", "r3"]
-    net.routers(names, lambda number: number // 2)
-    for number, name in enumerate(names):
-        net.link(name, names[(number + 1) % 4], 8_000_000, 1_000_000)
-    for number, name in enumerate(names):
-        target = net.reach(names[(number + 2) % 4])
-        net.flow(name, target, HEADERS + 20 * number + 1, 100_000 * number, 1_500_000, packets)
-    return net.text(20_000_000)
+    return ring(packets, lambda number: HEADERS + 20 * number + 1, 4, 8 * 10**6, 10**6, 2 * 10**7, 2, 10**5, 1_500_000)
 
 
-# A grid's links: all of one rate and delay, or rates and delays that differ from link to link: 100 Mbit/s to
-# 10 Gbit/s, and a microsecond to 10 milliseconds in equal ratios.
-def same_links(number, count):
-    return GIGABIT, 10_000
+def same_links(delay=10_000):
+    """A grid's links, all of one rate and delay."""
+    return lambda number, count: (GIGABIT, delay)
 
 
-def far_links(number, count):
-    return GIGABIT, 1_000_000
-
-
-def mixed_links(number, count):
-    return 10 ** (8 + number % 3), round(1_000 * 10_000 ** (number * 37 % count / (count - 1)))
-
-
-def edges(x, y):
-    """Routers at two edges of a grid."""
-    return x == 0 or y == 0
-
-
-def grid(packets=2_000, octets=228, interval=50_000, side=8, links=same_links, sends=lambda x, y: True, stop=LATE,
+def grid(packets=2_000, octets=228, interval=50_000, side=8, links=same_links(), is_whole=True, stop=LATE,
          cuts=(1, 1)):
-    """Flows from the routers of a grid that send to the ones across; the grid is cut into so many by so many parts."""
+    """Flows from the routers of a grid, or of two edges, to those across; it is cut into so many by so many parts."""
     net, (rows, columns) = Net(), cuts
     places = [(x, y) for x in range(side) for y in range(side)]
     for x, y in places:
@@ -159,44 +138,40 @@ def grid(packets=2_000, octets=228, interval=50_000, side=8, links=same_links, s
             if u < side and v < side:
                 net.link(f"g{x}-{y}", f"g{u}-{v}", *links(len(net.links), 2 * side * (side - 1)))
     for x, y in places:
-        if sends(x, y):
+        if is_whole or 0 in (x, y):
             target = net.reach(f"g{side - 1 - x}-{side - 1 - y}")
             net.flow(f"g{x}-{y}", target, octets, 1_000 * (x * side + y), interval, packets)
     return net.text(stop)
-
-
-def cut_line(partitions):
-    """`line`, cut, and stopped soon after its last packet arrived: a round is a microsecond of simulated time."""
-    return line(stop=64_000_000, partitions=partitions)
-
-
-def cut_grid(partitions):
-    """`grid`, cut into squares, and stopped soon after its last packet arrived: a round is ten microseconds."""
-    side = round(partitions ** 0.5)
-    return grid(stop=110_000_000, cuts=(side, side))
 
 
 # How many by how many parts a grid is cut into, by their number.
 CUTS = {1: (1, 1), 2: (1, 2), 4: (2, 2), 8: (2, 4), 16: (4, 4)}
 
 
-def edge_grid(partitions, links):
+def edge_grid(partitions, delay):
     """Routers at two edges of a grid of 16 by 16 send packets of 1,000 octets across: some million packet-hops."""
-    return grid(708, 1_000, 100_000, side=16, links=links, sends=edges, stop=110_000_000, cuts=CUTS[partitions])
+    return grid(708, 1_000, 100_000, 16, same_links(delay), False, 110_000_000, CUTS[partitions])
 
 
-def star(packets=20_000, octets=528, interval=60_000, leaves=32):
-    """Hosts that send to one host over a link that is too slow."""
-    net = Net()
+def star(packets=20_000, octets=528, interval=60_000, leaves=32, delay=lambda part: 1_000, gap=100, has_sink=True):
+    """Hosts around a hub send to it, or to a host behind too slow a link; `delay` gives each host's link its delay."""
+    net, target = Net(), "sink" if has_sink else "hub"
     net.node("hub")
-    net.node("sink", "host")
-    net.link("hub", "sink", 100_000_000)
+    if has_sink:
+        net.node("sink", "host")
+        net.link("hub", "sink", 100_000_000)
     for number in range(leaves):
         net.node(f"h{number}", "host")
-        net.link(f"h{number}", "hub")
-        net.flow(f"h{number}", "sink", octets, 100 * number, interval, packets)
-    net.reach("sink")
+        net.link(f"h{number}", "hub", GIGABIT, delay(number / (leaves - 1)))
+    for number in range(leaves):
+        net.flow(f"h{number}", target, octets, gap * number, interval, packets)
+    net.reach(target)
     return net.text()
+
+
+def hub(packets, delay, hosts=256):
+    """So many packets in all to the hub."""
+    return star(packets // hosts, 100, 10_240, hosts, delay, 40, False)
 
 
 def many(packets=490, sources=1_024):
@@ -210,29 +185,6 @@ def many(packets=490, sources=1_024):
     for number in range(sources):
         net.flow("h0", "h1", 100, 1_000 * number, 1_000 * sources, packets)
     return net.text()
-
-
-def hub(packets, delay, hosts=256):
-    """Hosts around a hub that send to it, so many packets in all; the delay of each host's link by its number."""
-    net = Net()
-    net.node("hub")
-    for number in range(hosts):
-        net.node(f"h{number}", "host")
-        net.link(f"h{number}", "hub", GIGABIT, delay(number / (hosts - 1)))
-    net.reach("hub")
-    for number in range(hosts):
-        net.flow(f"h{number}", "hub", 100, 40 * number, 10_240, packets // hosts)
-    return net.text()
-
-
-def equal(packets):
-    """Every link has a delay of a millisecond: arrivals come in the order of their keys."""
-    return hub(packets, lambda part: 1_000_000)
-
-
-def spread(packets):
-    """Delays from a microsecond to a second, in equal ratios: arrivals come in no order."""
-    return hub(packets, lambda part: round(1_000 * 1_000_000 ** part))
 
 
 def channels(count=1):
@@ -293,23 +245,29 @@ def limits(packets=4, partitions=64, size=16, chords=12, between=4, is_cut=True)
 KINDS = {
     "line": line,
     "grid": grid,
-    "line-cut": cut_line,
-    "grid-cut": cut_grid,
-    "grid-far": lambda partitions: edge_grid(partitions, far_links),
-    "grid-near": lambda partitions: edge_grid(partitions, same_links),
+    # A line that is stopped soon after its last packet arrived: a round is a microsecond of simulated time.
+    "line-cut": lambda partitions: line(stop=64_000_000, partitions=partitions),
+    # A grid, cut into squares, and stopped soon after its last packet arrived: a round is ten microseconds.
+    "grid-cut": lambda partitions: grid(stop=110_000_000, cuts=(round(partitions ** 0.5),) * 2),
+    "grid-far": lambda partitions: edge_grid(partitions, 1_000_000),
+    "grid-near": lambda partitions: edge_grid(partitions, 10_000),
     "ring-cut": cut_ring,
     "star": star,
     "line-1000": lambda packets=7_940: line(packets, 1_000, 20_000),
-    "grid-1000": lambda packets=708: grid(packets, 1_000, 100_000, side=16, sends=edges),
+    "grid-1000": lambda packets=708: grid(packets, 1_000, 100_000, side=16, is_whole=False),
     "star-1000": lambda packets=10_400: star(packets, 1_000, 1_280_000),
     "ring-1000": ring,
-    "mixed": lambda packets=2_000: grid(packets, links=mixed_links),
+    # Rates and delays differ from link to link: 100 Mbit/s to 10 Gbit/s, and 1 us to 10 ms in equal ratios.
+    "mixed": lambda packets=2_000: grid(packets, links=lambda number, count: (
+        10 ** (8 + number % 3), round(1_000 * 10_000 ** (number * 37 % count / (count - 1))))),
     "routes": lambda packets=50: limits(packets, is_cut=False),
     "large": lambda packets=2_000: grid(packets, 1_500, 400_000),
     "many": many,
     "limits": limits,
-    "hub": equal,
-    "spread": spread,
+    # Delays of a millisecond, so that arrivals come in the order of their keys; from a microsecond to a second, in
+    # equal ratios, so that they come in no order.
+    "hub": lambda packets: hub(packets, lambda part: 1_000_000),
+    "spread": lambda packets: hub(packets, lambda part: round(1_000 * 1_000_000 ** part)),
     "channels": channels,
     "both": both,
     "nulls": nulls,

@@ -47,16 +47,14 @@ def results_of(crate):
     return {cell[0].strip(): cell[1].strip() for cell in cells if len(cell) == 2}
 
 
-def counts_of(crate):
-    """How many bugs are listed, how many of them have a result, and how many of these are refused."""
-    bugs, results = [bug["bug"] for bug in bugs_of(crate)], results_of(crate)
-    tried = [results[bug] for bug in bugs if bug in results and not results[bug].startswith("NOT TRIED")]
-    return len(bugs), len(tried), sum(not answer.lower().startswith("proved") for answer in tried)
-
-
 def table():
-    """The counts of all crates, three in a row."""
-    cells = [f"`{crate}` | " + " | ".join(map(str, counts_of(crate))) for crate in crates()]
+    """How many bugs each crate lists, how many were tried, and how many of these are refused: three in a row."""
+    cells = []
+    for crate in crates():
+        bugs, results = [bug["bug"] for bug in bugs_of(crate)], results_of(crate)
+        tried = [results[bug] for bug in bugs if bug in results and not results[bug].startswith("NOT TRIED")]
+        refused = sum(not answer.lower().startswith("proved") for answer in tried)
+        cells.append(f"`{crate}` | {len(bugs)} | {len(tried)} | {refused}")
     cells += [" | | | "] * (-len(cells) % 3)
     rows = [f"| {' | '.join(cells[row : row + 3])} |" for row in range(0, len(cells), 3)]
     return "\n".join(["|" + " Crate | Listed | Tried | Refused |" * 3, "|" + "---|" * 12, *rows])
@@ -78,16 +76,12 @@ def replaced(text, old, new, name):
     """The text with `new` in the place of `old`, which is in it once, or once in the function of this name; or None."""
     if text.count(old) == 1:
         return text.replace(old, new)
-    begin, end = function_in(text, name) if name else (0, 0)
+    # From the function's name up to the next one's.
+    found = name and re.search(rf"\bfn {name}\b.*?(?=\n *(?:pub(?:\(crate\))? )?fn |\Z)", text, re.DOTALL)
+    begin, end = found.span() if found else (0, 0)
     if text.count(old, begin, end) != 1:
         return None
     return text[:begin] + text[begin:end].replace(old, new) + text[end:]
-
-
-def function_in(text, name):
-    """Where the function of this name begins and ends in a text, up to the next one."""
-    found = re.search(rf"\bfn {name}\b.*?(?=\n *(?:pub(?:\(crate\))? )?fn |\Z)", text, re.DOTALL)
-    return found.span() if found else (0, 0)
 
 
 def edited(text, bug):

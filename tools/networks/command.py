@@ -1,6 +1,7 @@
 """The words of tools/network, and how its faults are said."""
 
 import argparse
+import importlib
 import os
 import sys
 
@@ -15,17 +16,20 @@ def say(line):
     print(line, file=sys.stderr)
 
 
-def give(text, lines):
+def give(text, lines=()):
     """A text that was made, and what is said of it."""
     sys.stdout.write(text)
     for line in lines:
         say(line)
 
 
+# A module of the tool that only some words need.
+module = importlib.import_module
+
+
 def do_make(words):
     """A topology from a SPEC."""
-    found = spec.read(toml.load(words.file))
-    early = []
+    found, early = spec.read(toml.load(words.file)), []
 
     def say_early(line):
         early.append(line)
@@ -47,42 +51,50 @@ def do_routes(words):
     give(editing.with_routes(text.text, network, old), [said])
 
 
-def do_import(words):
-    """A SPEC from a file of another maker's."""
-    from networks import importing
-
-    give(*importing.spec_text(words))
-
-
-def do_partition(words):
-    """The same text with other partitions."""
-    from networks import partition
-
-    give(*partition.chosen(toml.load(words.file), words.count, words.by))
-
-
 def do_flows(words):
     """What became of each flow."""
-    from networks import measured
-
-    found = spec.read(toml.load(words.spec))
+    measured, found = module("networks.measured"), spec.read(toml.load(words.spec))
     network = making.make(found, words.spec).network
     rows = measured.of_file(network, found.scale, words.file, words.nullsim)
-    sys.stdout.write(measured.csv_text(rows) if words.csv else measured.people_text(rows))
+    give(measured.csv_text(rows) if words.csv else measured.people_text(rows))
 
 
-def do_sweep(words):
-    """The means of variants."""
-    from networks import sweeps
-
-    sys.stdout.write(sweeps.csv_text(words))
-
-
-def do_show(words):
-    """A page about a network."""
-    from networks import page
-
-    sys.stdout.write(page.html_text(toml.load(words.file)))
+PROGRAM = ("--nullsim", {"metavar": "PROGRAM", "help": "instead of bin/nullsim or nullsim"})
+FILE = ("file", {"metavar": "FILE", "help": "a file, or - for standard input"})
+# For each word what does it, its help, and its words beside FILE: options, and what stands behind FILE.
+WORDS = {
+    "make": (do_make, "SPEC.toml > x.toml: a whole topology from a short description", FILE),
+    "import": (
+        lambda words: give(*module("networks.importing").spec_text(words)),
+        "FILE > SPEC.toml: a SPEC from GraphML, GML, an edge list, Rocketfuel weights or BRITE",
+        ("--format", {"choices": ("graphml", "gml", "edges", "rocketfuel", "brite"),
+                      "help": "where the file's name and text do not tell"}),
+        ("--latencies", {"metavar": "FILE", "help": "Rocketfuel's latencies (milliseconds) beside its weights"}),
+        ("--largest", {"action": "store_true", "help": "of a network in pieces take the largest"}), FILE),
+    "routes": (
+        do_routes, "x.toml > y.toml: the routes anew, by shortest paths",
+        ("--weight", {"choices": [weight for weight in paths.WEIGHTS if weight != "cost"], "default": "delay",
+                      "help": "what is least (delay)"}),
+        ("--spread", {"action": "store_true", "help": "of equal paths another one for each destination"}),
+        ("--only-flows", {"action": "store_true", "help": "only to nodes at the ends of flows"}), FILE),
+    "partition": (
+        lambda words: give(*module("networks.partition").chosen(toml.load(words.file), words.count, words.by)),
+        "x.toml N > y.toml: N partitions",
+        ("--by", {"choices": ("metis", "kernighan-lin"), "help": "what cuts (METIS where it is installed)"}), FILE,
+        ("count", {"metavar": "N", "type": int, "help": "how many partitions: 1 to 64"})),
+    "show": (lambda words: give(module("networks.page").html_text(toml.load(words.file))),
+             "x.toml > x.html: a page with the drawn network, its links and flows", FILE),
+    "flows": (
+        do_flows, "x.toml SPEC.toml: what became of each flow of a SPEC, over all its sources",
+        ("--csv", {"action": "store_true", "help": "comma-separated values"}), PROGRAM, FILE,
+        ("spec", {"metavar": "SPEC", "help": "the SPEC that the topology was made of"})),
+    "sweep": (
+        lambda words: give(module("networks.sweeps").csv_text(words)),
+        "SPEC.toml KEY=a,b,c SEEDS=1..20 -- flows|report MEASURE..: means of variants with intervals of 95 per cent",
+        PROGRAM, FILE,
+        ("values", {"metavar": "KEY=a,b,c", "nargs": "*", "help": "values of a key, or SEEDS=1..20"})),
+}
+USAGES = {"sweep": "network sweep SPEC KEY=a,b,c .. SEEDS=1..20 -- flows|report MEASURE.."}
 
 
 def parser():
@@ -90,47 +102,14 @@ def parser():
     top = argparse.ArgumentParser(
         prog="network", description="Makes topology texts for nullsim. `network WORD --help` has all of a word, and "
                                     "that of `make` the keys of a SPEC. What was chosen is written to standard error.",
-        allow_abbrev=False
-    )
+        allow_abbrev=False)
     some = top.add_subparsers(dest="word", required=True, metavar="WORD")
-    one = some.add_parser("make", help="SPEC.toml > x.toml: a whole topology from a short description")
-    one.set_defaults(do=do_make)
-    one = some.add_parser("import", help="FILE > SPEC.toml: a SPEC from GraphML, GML, an edge list, Rocketfuel weights "
-                                         "or BRITE")
-    one.add_argument("--format", choices=("graphml", "gml", "edges", "rocketfuel", "brite"),
-                     help="where the file's name and text do not tell")
-    one.add_argument("--latencies", metavar="FILE", help="Rocketfuel's latencies (milliseconds) beside its weights")
-    one.add_argument("--largest", action="store_true", help="of a network in pieces take the largest")
-    one.set_defaults(do=do_import)
-    one = some.add_parser("routes", help="x.toml > y.toml: the routes anew, by shortest paths")
-    one.add_argument("--weight", choices=[weight for weight in paths.WEIGHTS if weight != "cost"], default="delay",
-                     help="what is least (delay)")
-    one.add_argument("--spread", action="store_true", help="of equal paths another one for each destination")
-    one.add_argument("--only-flows", action="store_true", help="only to nodes at the ends of flows")
-    one.set_defaults(do=do_routes)
-    one = some.add_parser("partition", help="x.toml N > y.toml: N partitions")
-    one.add_argument("--by", choices=("metis", "kernighan-lin"), help="what cuts (METIS where it is installed)")
-    one.set_defaults(do=do_partition)
-    one = some.add_parser("show", help="x.toml > x.html: a page with the drawn network, its links and flows")
-    one.set_defaults(do=do_show)
-    one = some.add_parser("flows", help="x.toml SPEC.toml: what became of each flow of a SPEC, over all its sources")
-    one.add_argument("--csv", action="store_true", help="comma-separated values")
-    one.add_argument("--nullsim", metavar="PROGRAM", help="instead of bin/nullsim or nullsim")
-    one.set_defaults(do=do_flows)
-    one = some.add_parser("sweep", help="SPEC.toml KEY=a,b,c SEEDS=1..20 -- flows|report MEASURE..: means of variants "
-                                        "with intervals of 95 per cent")
-    one.usage = "network sweep SPEC KEY=a,b,c .. SEEDS=1..20 -- flows|report MEASURE.."
-    one.add_argument("--nullsim", metavar="PROGRAM", help="instead of bin/nullsim or nullsim")
-    one.set_defaults(do=do_sweep)
-    for name, found in some.choices.items():
-        found.epilog, found.formatter_class = helps.WORDS[name].strip("\n"), argparse.RawDescriptionHelpFormatter
-        found.add_argument("file", metavar="FILE", help="a file, or - for standard input")
-        if name == "partition":
-            found.add_argument("count", metavar="N", type=int, help="how many partitions: 1 to 64")
-        if name == "flows":
-            found.add_argument("spec", metavar="SPEC", help="the SPEC that the topology was made of")
-        if name == "sweep":
-            found.add_argument("values", metavar="KEY=a,b,c", nargs="*", help="values of a key, or SEEDS=1..20")
+    for word, (do, said, *options) in WORDS.items():
+        one = some.add_parser(word, help=said, usage=USAGES.get(word), epilog=helps.WORDS[word].strip("\n"),
+                              formatter_class=argparse.RawDescriptionHelpFormatter)
+        one.set_defaults(do=do)
+        for name, how in options:
+            one.add_argument(name, **how)
     return top
 
 
@@ -143,12 +122,9 @@ def main(arguments):
     try:
         words.do(words)
         sys.stdout.flush()
-    except errors.Refused as why:
+    except (errors.Refused, errors.Lacking) as why:
         say(f"network: {why}")
-        return REFUSED
-    except errors.Lacking as why:
-        say(f"network: {why}")
-        return LACKING
+        return REFUSED if isinstance(why, errors.Refused) else LACKING
     except BrokenPipeError:
         # Who read the text has had enough of it; what is left of it goes nowhere.
         os.dup2(os.open(os.devnull, os.O_WRONLY), sys.stdout.fileno())

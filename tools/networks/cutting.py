@@ -1,7 +1,9 @@
 """Cuts a weighted graph into parts: by METIS where it is installed, or else by Kernighan and Lin's way in networkx."""
 
 import importlib
+import itertools
 import os
+import pathlib
 import shutil
 import subprocess
 import sys
@@ -35,16 +37,11 @@ def cut(weights, costs, count, by=None, uneven=UNEVEN):
             return by_pymetis(weights, costs, count, uneven), "METIS (pymetis)"
     if by in (None, "kernighan-lin") and module("networkx"):
         return by_kernighan_lin(weights, costs, count), "Kernighan-Lin (networkx)"
-    raise errors.Lacking(lacking(by))
-
-
-def lacking(by):
-    """What to install."""
     python = f"the Python that runs is {sys.executable}"
     metis = "METIS is not installed: apt-get install metis, or pip install pymetis"
     other = f"networkx is not installed for it: apt-get install python3-networkx, or pip install networkx ({python})"
-    return {"metis": f"{metis} ({python})",
-            "kernighan-lin": f"Kernighan-Lin needs networkx; {other}"}.get(by, f"{metis}; and {other}")
+    what = {"metis": f"{metis} ({python})", "kernighan-lin": f"Kernighan-Lin needs networkx; {other}"}
+    raise errors.Lacking(what.get(by, f"{metis}; and {other}"))
 
 
 def neighbours(weights, costs):
@@ -62,27 +59,21 @@ def by_program(program, weights, costs, count, uneven):
     for weight, pairs in zip(weights, neighbours(weights, costs)):
         lines.append(" ".join([str(weight), *(f"{other + 1} {cost}" for other, cost in pairs)]))
     with tempfile.TemporaryDirectory(prefix="network.") as folder:
-        path = os.path.join(folder, "graph")
-        with open(path, "w", encoding="ascii") as file:
-            file.write("\n".join(lines) + "\n")
+        path, made = (os.path.join(folder, name) for name in ("graph", f"graph.part.{count}"))
+        pathlib.Path(path).write_text("\n".join(lines) + "\n", encoding="ascii")
         words = [program, f"-seed={SEED}", f"-ufactor={uneven}", "-ptype=rb" if count < 9 else "-ptype=kway", path,
                  str(count)]
         ended = subprocess.run(words, stdout=subprocess.PIPE, stderr=subprocess.STDOUT, timeout=SECONDS, check=False)
-        made = f"{path}.part.{count}"
         if ended.returncode or not os.path.exists(made):
             raise errors.Refused("", f"{program} failed: {ended.stdout.decode(errors='replace').strip()[-200:]}")
-        with open(made, encoding="ascii") as file:
-            return [int(line) for line in file]
+        return list(map(int, pathlib.Path(made).read_text(encoding="ascii").split()))
 
 
 def by_pymetis(weights, costs, count, uneven):
     """By the package pymetis."""
-    starts, others, prices = [0], [], []
-    for pairs in neighbours(weights, costs):
-        others += [other for other, _ in pairs]
-        prices += [cost for _, cost in pairs]
-        starts.append(len(others))
-    metis = module("pymetis")
+    near, metis = neighbours(weights, costs), module("pymetis")
+    starts = [0, *itertools.accumulate(map(len, near))]
+    others, prices = ([pair[place] for pairs in near for pair in pairs] for place in (0, 1))
     options = metis.Options(seed=SEED, ufactor=uneven)
     return list(metis.part_graph(count, xadj=starts, adjncy=others, eweights=prices, vweights=weights,
                                  options=options)[1])
@@ -115,8 +106,7 @@ def bisected(weights, near, nodes, share):
     order += [node for node in nodes if node not in set(order)]
     aim, held, count = share * sum(weights[node] for node in nodes), 0, 0
     while count < len(order) - 1 and held + weights[order[count]] / 2 < aim:
-        held += weights[order[count]]
-        count += 1
+        held, count = held + weights[order[count]], count + 1
     count = max(count, 1)
     begin = (set(order[:count]), set(order[count:]))
     if not begin[1]:

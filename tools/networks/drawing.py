@@ -1,4 +1,5 @@
-"""The network as a drawing in SVG: by Graphviz where it is installed, or else its nodes on a circle."""
+"""The network as a drawing in SVG: by Graphviz where it is installed, as on a map if nodes say their latitudes and
+longitudes, or else its nodes on a circle."""
 
 import colorsys
 import html
@@ -7,7 +8,7 @@ import re
 import shutil
 import subprocess
 
-from networks import places, units
+from networks import units
 
 SECONDS = 60
 # Fills of the first partitions, pale, so that names can be read on them.
@@ -20,6 +21,59 @@ LIGHTNESSES = (0.86, 0.74, 0.8)
 MANY = 300
 RADIUS_A_NODE = 26
 WIDER = 1.7
+# So much room has a node in the drawing, in square points; so far from it are those that have no place of their own.
+ROOM_A_NODE = 12_000
+BESIDE = 50
+# A map is at most so many times as wide as high, or as high as wide.
+LONGEST = 4
+
+
+def flat(wheres):
+    """Points of the plane for places, a degree long, true in the middle; the globe is cut behind the widest gap."""
+    known = sorted({longitude % 360 for _, longitude in wheres.values()})
+    first = max(((after - before) % 360, after) for before, after in zip(known, [*known[1:], known[0]]))[1]
+    narrow = math.cos(math.radians(sum(latitude for latitude, _ in wheres.values()) / len(wheres)))
+    return {number: ((longitude % 360 - first) % 360 * max(0.1, narrow), latitude)
+            for number, (latitude, longitude) in wheres.items()}
+
+
+def spread(points, count):
+    """The points, moved and stretched to what so many nodes need."""
+    xs, ys = zip(*points.values())
+    wide, high = max(xs) - min(xs), max(ys) - min(ys)
+    wide, high = max(wide, high / LONGEST, 1e-9), max(high, wide / LONGEST, 1e-9)
+    scale = math.sqrt(count * ROOM_A_NODE / (wide * high))
+    return {number: ((x - min(xs)) * scale, (y - min(ys)) * scale) for number, (x, y) in points.items()}
+
+
+def beside(network, points):
+    """Points for all other nodes: around the middle of those neighbours that have one."""
+    near, found = network.near(), dict(points)
+    while True:
+        fresh = {}
+        for number, others in enumerate(near):
+            known = [found[other] for other in others if other in found]
+            if number not in found and known:
+                fresh[number] = tuple(sum(axis) / len(known) for axis in zip(*known))
+        if not fresh:
+            return found
+        around = {}
+        for number, point in fresh.items():
+            around.setdefault(point, []).append(number)
+        for (x, y), numbers in around.items():
+            for step, number in enumerate(numbers):
+                angle = 2 * math.pi * step / len(numbers) + math.pi / 2
+                found[number] = x + BESIDE * math.cos(angle), y - BESIDE * math.sin(angle)
+
+
+def points_of(network):
+    """A point for each node by its number, or none if fewer than half of the routers say where they are."""
+    wheres = {number: node.where for number, node in enumerate(network.nodes) if node.where}
+    routers = [number for number, node in enumerate(network.nodes) if node.kind == "router"]
+    if len(wheres) < 2 or 2 * sum(number in wheres for number in routers) < len(routers):
+        return None
+    found = beside(network, spread(flat(wheres), len(network.nodes)))
+    return {number: found.get(number, (0, 0)) for number in range(len(network.nodes))}
 
 
 def fill_of(partition):
@@ -41,26 +95,28 @@ def width(load):
     return 1.2 + min(10**6, load) / 250_000
 
 
+def is_cut(network, one, other):
+    """Whether two nodes are in two partitions."""
+    return network.nodes[one].partition != network.nodes[other].partition
+
+
 def dot_text(network, loads, points=None):
     """The network for Graphviz, at these points if there are any."""
     splines = "line" if len(network.nodes) > MANY else "true"
     lines = ["graph network {",
-             f"overlap=prism; splines={splines}; outputorder=edgesfirst; bgcolor=transparent; sep=0.1;"]
-    lines += ['node [style=filled, fontname="Helvetica", fontsize=10, color="#475569", '
-              'margin="0.08,0.04", height=0.3];']
+             f"overlap=prism; splines={splines}; outputorder=edgesfirst; bgcolor=transparent; sep=0.1;",
+             'node [style=filled, fontname="Helvetica", fontsize=10, color="#475569", margin="0.08,0.04", height=0.3];']
     for number, node in enumerate(network.nodes):
         shape = "box" if node.kind == "router" else "ellipse"
-        fill, says = fill_of(node.partition), f"{node.name}: partition {node.partition}"
-        look = f'shape={shape}, fillcolor="{fill}", tooltip="{says}"'
-        look += f', pos="{points[number][0]:.1f},{points[number][1]:.1f}"' if points else ""
-        lines.append(f'n{number} [label="{node.name}", {look}];')
-    for number, link in enumerate(network.links):
-        one, other = network.link_nodes(number)
-        says = f"{units.rate_said(link.rate)}, {units.time_said(link.delay)}, busy {loads[number] / 10**4:.2f}%"
-        style = ', style="dashed"' if network.nodes[one].partition != network.nodes[other].partition else ""
+        at = f', pos="{points[number][0]:.1f},{points[number][1]:.1f}"' if points else ""
+        lines.append(f'n{number} [label="{node.name}", shape={shape}, fillcolor="{fill_of(node.partition)}", '
+                     f'tooltip="{node.name}: partition {node.partition}"{at}];')
+    for link, (one, other), load in zip(network.links, network.pairs(), loads):
+        says = f"{units.rate_said(link.rate)}, {units.time_said(link.delay)}, busy {load / 10**4:.2f}%"
+        style = ', style="dashed"' if is_cut(network, one, other) else ""
         far = 1.6 if "host" not in (network.nodes[one].kind, network.nodes[other].kind) else 0.9
-        lines.append(f'n{one} -- n{other} [color="{colour(loads[number])}", penwidth={width(loads[number]):.2f}, '
-                     f'len={far}, tooltip="{says}"{style}];')
+        lines.append(f'n{one} -- n{other} [color="{colour(load)}", penwidth={width(load):.2f}, len={far}, '
+                     f'tooltip="{says}"{style}];')
     return "\n".join([*lines, "}"]) + "\n"
 
 
@@ -69,13 +125,12 @@ def by_graphviz(network, loads):
     program = shutil.which("dot")
     if not program:
         return None, "Graphviz is not installed (apt-get install graphviz)"
-    points = places.points_of(network)
+    points = points_of(network)
     # With -n nodes stay where they are, but for those that would lie on others.
     way = ["-Kneato", "-n"] if points else ["-Ksfdp"] if len(network.nodes) > MANY else ["-Kneato"]
     try:
-        text, pipe = dot_text(network, loads, points).encode(), subprocess.PIPE
-        words = [program, *way, "-Tsvg"]
-        ended = subprocess.run(words, input=text, stdout=pipe, stderr=subprocess.DEVNULL, timeout=SECONDS, check=False)
+        ended = subprocess.run([program, *way, "-Tsvg"], input=dot_text(network, loads, points).encode(),
+                               capture_output=True, timeout=SECONDS, check=False)
     except subprocess.TimeoutExpired:
         return None, f"Graphviz took more than {SECONDS} seconds"
     found = re.search(r"<svg.*</svg>", ended.stdout.decode(errors="replace"), re.DOTALL)
@@ -85,15 +140,12 @@ def by_graphviz(network, loads):
 
 def on_a_circle(network, loads):
     """Routers on a circle, and each host outside of it beside the node that it hangs on."""
-    ends = network.ends()
-    anchors = [ends[number][0][1] if node.kind == "host" and len(ends[number]) == 1 else None
-               for number, node in enumerate(network.nodes)]
+    anchors = [near[0] if node.kind == "host" and len(near) == 1 else None
+               for node, near in zip(network.nodes, network.near())]
     order = []
     for number, anchor in enumerate(anchors):
         if anchor is None:
-            order.append(number)
-            order += [other for other, held in enumerate(anchors) if held is not None
-                      and network.ifaces[held].node == number]
+            order += [number, *(other for other, held in enumerate(anchors) if held == number)]
     order += [number for number in range(len(network.nodes)) if number not in set(order)]
     radius = max(160, len(order) * RADIUS_A_NODE / (2 * math.pi))
     # Wider than high, as names are.
@@ -104,11 +156,10 @@ def on_a_circle(network, loads):
         places[number] = (WIDER * far * math.sin(angle), -far * math.cos(angle))
     view = f"{-wide / 2:.0f} {-high / 2:.0f} {wide:.0f} {high:.0f}"
     lines = [f'<svg xmlns="http://www.w3.org/2000/svg" width="{wide:.0f}" height="{high:.0f}" viewBox="{view}">']
-    for number in range(len(network.links)):
-        one, other = network.link_nodes(number)
+    for (one, other), load in zip(network.pairs(), loads):
         (x, y), (u, v) = places[one], places[other]
-        dashes = ' stroke-dasharray="5 3"' if network.nodes[one].partition != network.nodes[other].partition else ""
-        stroke = f'stroke="{colour(loads[number])}" stroke-width="{width(loads[number]):.2f}"{dashes}'
+        dashes = ' stroke-dasharray="5 3"' if is_cut(network, one, other) else ""
+        stroke = f'stroke="{colour(load)}" stroke-width="{width(load):.2f}"{dashes}'
         lines.append(f'<line x1="{x:.1f}" y1="{y:.1f}" x2="{u:.1f}" y2="{v:.1f}" {stroke}/>')
     for number, node in enumerate(network.nodes):
         x, y = places[number]

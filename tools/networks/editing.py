@@ -49,14 +49,13 @@ def comments_of(text, start, end, tables):
 
 
 def route_lines(network, before, behind, old):
-    """The lines of the new array. A comment before a route that is no more goes to the next one that is; that on its
-    line, to the end."""
-    held = {(route.node, route.prefix, route.length, route.via) for route in network.routes}
-    kept = [(route.node, route.prefix, route.length, route.via) for route in old]
-    above, waiting, gone = {}, [], []
+    """The lines of the new array. A comment before a route that is gone goes to the next one; one on its line, last."""
+    held, kept = ([(route.node, route.prefix, route.length, route.via) for route in routes]
+                  for routes in (network.routes, old))
+    new, above, waiting, gone = set(held), {}, [], []
     for number, key in enumerate(kept):
         waiting += before[number]
-        if key in held:
+        if key in new:
             above[key], waiting = waiting, []
         elif number in behind:
             node, prefix, length, via = key
@@ -65,10 +64,10 @@ def route_lines(network, before, behind, old):
                         f"{behind[number]}")
     remark_of = {key: behind[number] for number, key in enumerate(kept) if number in behind}
     lines = []
-    for route in network.routes:
-        key = (route.node, route.prefix, route.length, route.via)
+    for key, route in zip(held, network.routes):
         lines += [f"  {comment}" for comment in above.get(key, [])]
-        lines.append(f"  {writing.route_line(network, route)},{f'  # {remark_of[key]}' if key in remark_of else ''}")
+        table = writing.said(writing.route_table(network, route))
+        lines.append(f"  {table},{f'  # {remark_of[key]}' if key in remark_of else ''}")
     return lines + [f"  {comment}" for comment in [*waiting, *before[-1], *gone]]
 
 
@@ -87,8 +86,7 @@ def with_routes(text, network, old):
              and not root.keys[key].is_block]
     if after:
         # Behind the rest of the line, where a comment may stand.
-        place = text.find("\n", after[0])
-        place = len(text) if place < 0 else place
+        place = f"{text}\n".index("\n", after[0])
         return spliced(text, [(place, place, f"\n\n{lines}")])
     place = min(blocks, default=len(text))
     return spliced(text, [(place, place, f"{lines}\n\n")])
@@ -96,10 +94,8 @@ def with_routes(text, network, old):
 
 def with_blocks(text, network, members):
     """The same where routes stand as [[route]]: the comments of those tables stay where they were."""
-    blocks = []
-    for route in network.routes:
-        line = writing.route_line(network, route)[1:-1]
-        blocks.append("[[route]]\n" + "\n".join(line.split(", ")))
+    tables = [writing.route_table(network, route) for route in network.routes]
+    blocks = ["\n".join(["[[route]]", *(f'{key} = "{name}"' for key, name in table.items())]) for table in tables]
     changes = []
     for number, table in enumerate(members):
         end = last_end(table)

@@ -21,6 +21,11 @@ def meant(word, known):
     return f'; did you mean "{near[0]}"?' if near else ""
 
 
+def unknown(place, key, what, word, known):
+    """The refusal of a key that names nothing that is known."""
+    return Refused(place(key), f'key "{key}": there is no {what} {shown(word)}{meant(word, known)}')
+
+
 def shown(word, most=40):
     """A word of the input in quotes, cut where it is long, with nothing that a terminal would act on."""
     text = str(word)

@@ -1,5 +1,4 @@
-"""How the values of a table are read: each reader takes a value and gives what it means, or says in a sentence what it
-has to be."""
+"""How the values of a table are read: each reader gives what a value means, or says in a sentence what it has to be."""
 
 import ipaddress
 
@@ -12,24 +11,20 @@ class Wrong(ValueError):
 
 def whole(least, most, what):
     """A whole number in a range."""
-
     def read(value):
-        if isinstance(value, bool) or not isinstance(value, int) or not least <= value <= most:
+        if type(value) is not int or not least <= value <= most:
             raise Wrong(f"has to be a whole number {least:,} to {most:,} ({what})")
         return value
-
     return read
 
 
 def quantity(bounds, table, what, example):
     """A whole number of the least unit, or a text with a unit."""
-
     def read(value):
         number = units.quantity(value, table) if isinstance(value, str) else value
-        if isinstance(number, bool) or not isinstance(number, int) or not bounds[0] <= number <= bounds[1]:
+        if type(number) is not int or not bounds[0] <= number <= bounds[1]:
             raise Wrong(f'has to be {bounds[0]:,} to {bounds[1]:,} {what}, or a text such as "{example}"')
         return number
-
     return read
 
 
@@ -45,13 +40,11 @@ def rate(bounds=limits.RATE):
 
 def choice(*words):
     """One of some words."""
-
     def read(value):
         if value not in words:
             near = errors.meant(value, words) if isinstance(value, str) else ""
             raise Wrong(f"has to be one of {', '.join(words)}{near}")
         return value
-
     return read
 
 
@@ -72,12 +65,15 @@ def flag(value):
 
 def place(value):
     """A latitude and a longitude in degrees."""
-    most = (90, 360)
-    if (not isinstance(value, list) or len(value) != 2
-            or any(isinstance(it, bool) or not isinstance(it, (int, float)) for it in value)
-            or not all(-end <= it <= end for it, end in zip(value, most))):
+    if (not isinstance(value, list) or [type(it) in (int, float) for it in value] != [True, True]
+            or not all(-end <= it <= end for it, end in zip(value, (90, 360)))):
         raise Wrong("has to be a latitude and a longitude in degrees, such as [50.85, 4.35]")
     return tuple(map(float, value))
+
+
+def anything(value):
+    """What is read elsewhere."""
+    return value
 
 
 def line(value):
@@ -89,22 +85,18 @@ def line(value):
 
 def several(one, most, least=0):
     """An array of so many values."""
-
     def read(value):
         if not isinstance(value, list) or not least <= len(value) <= most:
             count = f"{least:,} to {most:,}" if least else f"at most {most:,}"
             raise Wrong(f"has to be an array of {count} values")
         return [one(member) for member in value]
-
     return read
 
 
 def one_or_several(one, most):
     """A value, or an array of such values."""
-
     def read(value):
         return several(one, most)(value) if isinstance(value, list) else [one(value)]
-
     return read
 
 
@@ -127,15 +119,10 @@ def address(value):
 MARTIANS = ((0, (1 << 24) - 1), (127 << 24, (128 << 24) - 1), (224 << 24, (1 << 32) - 1))
 
 
-def is_martian(number):
-    """Whether nothing may be sent to an address."""
-    return any(low <= number <= high for low, high in MARTIANS)
-
-
 def real_address(value):
     """An address that is no martian."""
     number = address(value)
-    if is_martian(number):
+    if any(low <= number <= high for low, high in MARTIANS):
         raise Wrong("has to be an address outside 0.0.0.0/8, 127.0.0.0/8, 224.0.0.0/4 and 240.0.0.0/4")
     return number
 

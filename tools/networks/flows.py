@@ -164,8 +164,7 @@ def mapped(spec, table, recording, place):
         raise errors.Refused(place("addresses"), "a list of times and sizes has no addresses: write `from` and `to`")
     for name in table["addresses"].values():
         if name not in spec.nodes:
-            raise errors.Refused(place("addresses"), f'key "addresses": there is no node {errors.shown(name)}'
-                                                     f"{errors.meant(name, spec.nodes)}")
+            raise errors.unknown(place, "addresses", "node", name, spec.nodes)
     found = recorded.by_nodes(recording, table["addresses"])
     if not found:
         raise errors.Refused(place("addresses"), "no packet of the capture goes between two nodes of the map")

@@ -5,7 +5,7 @@ import itertools
 
 from networks import datagrams, limits, plans, rooms, scaling, trains
 from networks.topology import Source
-from networks.ways import Ways
+from networks.paths import Ways
 
 
 def is_short(runs, count, share):

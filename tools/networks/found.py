@@ -30,8 +30,7 @@ class FoundNode:
 
 @dataclass
 class FoundLink:
-    """`a` and `b` are keys of nodes; rate in bits per second, delay in nanoseconds, cost as in a SPEC; `remark` for
-    people."""
+    """`a` and `b` are keys of nodes; rate in bits per second, delay in nanoseconds; `remark` is for people."""
 
     a: object
     b: object
@@ -75,17 +74,13 @@ class Found:
 
     def once(self):
         """Leaves one of links between the same two nodes: where a file has each direction."""
-        kept, known = [], {}
+        known = {}
         for link in self.links:
-            pair = frozenset((link.a, link.b))
-            if pair in known:
-                continue
-            known[pair] = link
-            kept.append(link)
-        if len(kept) < len(self.links):
+            known.setdefault(frozenset((link.a, link.b)), link)
+        if len(known) < len(self.links):
             self.remarks.append("lines left out, for an earlier one joins the same nodes: "
-                                f"{len(self.links) - len(kept)}")
-        self.links = kept
+                                f"{len(self.links) - len(known)}")
+        self.links = list(known.values())
 
 
 def rate_of(text):
@@ -115,10 +110,7 @@ def checked_delay(delay, at, said):
 
 def number(text, at, said):
     """A number in decimal, exactly."""
-    try:
-        value = Fraction(text) if len(text) <= 40 and NUMBER.fullmatch(text) else None
-    except (ValueError, ZeroDivisionError):
-        value = None
+    value = Fraction(text) if len(text) <= 40 and NUMBER.fullmatch(text) else None
     if value is None or abs(value) > LARGEST:
         raise errors.Refused(at, f"{said} is {errors.shown(text)}, and has to be a number of a usual size")
     return value

@@ -8,6 +8,9 @@ from dataclasses import dataclass, field
 
 from networks import errors, fields, limits
 
+# The limits of nodes and links, for a sentence.
+MOST_SAID = f"a topology has at most {limits.NODES:,} nodes and {limits.LINKS:,} links: leave hosts or nodes out"
+
 
 @dataclass
 class Shape:
@@ -55,14 +58,10 @@ def star(table, _):
 
 def grid(table, _):
     """NAME-ROW-COLUMN, each joined to those beside and below it."""
-    rows, columns = table["rows"], table["columns"]
-    name = [[f"{table['name']}-{row}-{column}" for column in range(1, columns + 1)] for row in range(1, rows + 1)]
-    links = []
-    for row in range(rows):
-        for column in range(columns):
-            links += [(name[row][column], name[row][column + 1])] if column + 1 < columns else []
-            links += [(name[row][column], name[row + 1][column])] if row + 1 < rows else []
-    return flat([node for line_of in name for node in line_of], links)
+    name_of = {(row, column): f"{table['name']}-{row}-{column}"
+               for row in range(1, table["rows"] + 1) for column in range(1, table["columns"] + 1)}
+    near = [(here, there) for here in name_of for there in ((here[0], here[1] + 1), (here[0] + 1, here[1]))]
+    return flat(list(name_of.values()), [(name_of[here], name_of[there]) for here, there in near if there in name_of])
 
 
 def tree(table, _):
@@ -150,10 +149,5 @@ def make(table, chance, place):
     shape = KINDS[kind][0](table, chance)
     if len(shape.nodes) > limits.NODES or len(shape.links) > limits.LINKS:
         raise errors.Refused(place(), f"the group has {len(shape.nodes):,} nodes and {len(shape.links):,} links; "
-                                      f"{most_said()}")
+                                      f"{MOST_SAID}")
     return shape
-
-
-def most_said():
-    """The limits of nodes and links, for a sentence."""
-    return f"a topology has at most {limits.NODES:,} nodes and {limits.LINKS:,} links: leave hosts or nodes out"

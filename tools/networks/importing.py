@@ -1,16 +1,16 @@
 """A SPEC from a file of another maker's, which says what it took and from where.
 
-To add a format: a module with `read(name, text)`, which gives a `Found` (found.py); a line in READERS, one in
+To add a format: a function of a name and a text, which gives a `Found` (found.py); a line in READERS, one in
 `format_of`, and the word in command.py; what is taken of it in helps.py; a file in tests/data, and its mistakes in
 tests/test_imports.py."""
 
 import os
 import re
 
-from networks import brite, edges, errors, found, gml, graphml, limits, names, paths, rocketfuel, toml, units
+from networks import errors, found, graphs, limits, lists, names, paths, toml, units, writing
 
-READERS = {"graphml": graphml.read, "gml": gml.read, "edges": edges.read, "rocketfuel": rocketfuel.read,
-           "brite": brite.read}
+READERS = {"graphml": graphs.graphml, "gml": graphs.gml, "edges": lists.edges, "rocketfuel": lists.rocketfuel,
+           "brite": lists.brite}
 # So many letters leave room for -h1 to -h1023 behind them.
 LONGEST = limits.NAME_LENGTH - 6
 # With more routers than this there is no room for a host behind each.
@@ -43,37 +43,27 @@ def read(words):
         raise errors.Refused("", "--latencies stands with Rocketfuel weights: for other files say --format rocketfuel, "
                                  "or leave it out")
     if kind == "rocketfuel" and words.latencies:
-        latencies = rocketfuel.latencies_of(words.latencies, toml.octets(words.latencies))
-        return rocketfuel.read(words.file, text, latencies)
+        latencies = lists.latencies_of(words.latencies, toml.octets(words.latencies))
+        return lists.rocketfuel(words.file, text, latencies)
     return READERS[kind](words.file, text)
-
-
-def pieces(made):
-    """The keys of nodes that links join, the largest piece first."""
-    near = {key: [] for key in made.nodes}
-    for link in made.links:
-        near[link.a].append(link.b)
-        near[link.b].append(link.a)
-    return sorted(paths.pieces(made.nodes, near), key=len, reverse=True)
 
 
 def joined(made, name, is_largest):
     """Refuses a network in pieces, or leaves its largest piece."""
     if not made.nodes:
         raise errors.Refused(name, f"there is no node in it (read as {made.kind})")
-    several = pieces(made)
+    several = sorted(paths.pieces(made.nodes, [(link.a, link.b) for link in made.links]), key=len, reverse=True)
     if len(several) == 1:
         return
     one, other = (made.nodes[piece[0]] for piece in several[:2])
     if not is_largest:
         sizes = ", ".join(f"{len(piece)}" for piece in several[:5]) + (", .." if len(several) > 5 else "")
-        sentence = (f"the network is in {len(several)} pieces of {sizes} nodes: "
-                    f"no links lead from {errors.shown(one.label)} to {errors.shown(other.label)}")
-        raise errors.Refused(other.at, f"{sentence}; --largest takes the largest piece")
-    kept = set(several[0])
-    made.remarks.append(f"{len(made.nodes) - len(kept)} nodes outside the largest piece were left out")
-    made.nodes = {key: node for key, node in made.nodes.items() if key in kept}
-    made.links = [link for link in made.links if link.a in kept]
+        raise errors.Refused(other.at, f"the network is in {len(several)} pieces of {sizes} nodes: no links lead from "
+                                       f"{errors.shown(one.label)} to {errors.shown(other.label)}; --largest takes the "
+                                       "largest piece")
+    made.remarks.append(f"{len(made.nodes) - len(several[0])} nodes outside the largest piece were left out")
+    made.nodes = {key: node for key, node in made.nodes.items() if key in set(several[0])}
+    made.links = [link for link in made.links if link.a in made.nodes]
 
 
 def named(made):
@@ -82,9 +72,8 @@ def named(made):
     for key, node in made.nodes.items():
         # A label without a letter or number of a name is called after the node's id.
         word = names.plain(node.label) or f"n-{key}"
-        name = given.give(word, longest=LONGEST)
-        while f"{name}-h1" in given.taken:
-            name = given.give(word, longest=LONGEST)
+        while f"{(name := given.give(word, longest=LONGEST))}-h1" in given.taken:
+            pass
         found_names[key] = name
         given.taken.add(f"{name}-h1")
     return found_names
@@ -95,25 +84,19 @@ def comment(text):
     return "".join(letter if letter.isprintable() else "?" for letter in str(text)[:120])
 
 
-def node_lines(made, name_of):
-    """The nodes as an array of tables."""
-    lines = []
-    for key, node in made.nodes.items():
-        place = f", place = [{node.place[0]:.2f}, {node.place[1]:.2f}]" if node.place else ""
-        lines.append(f'  {{name = "{name_of[key]}"{place}}},')
-    return ["node = [", *lines, "]"]
+def node_table(node, name):
+    """A node as a table."""
+    place = f", place = [{node.place[0]:.2f}, {node.place[1]:.2f}]" if node.place else ""
+    return f'{{name = "{name}"{place}}}'
 
 
-def link_lines(made, name_of):
-    """The links as an array of tables."""
-    lines = []
-    for link in made.links:
-        parts = [f'a = "{name_of[link.a]}"', f'b = "{name_of[link.b]}"']
-        parts += [f'rate = "{units.rate_said(link.rate)}"'] if link.rate is not None else []
-        parts += [f'delay = "{units.time_said(link.delay)}"'] if link.delay is not None else []
-        parts += [f"cost = {link.cost}"] if link.cost is not None else []
-        lines.append(f"  {{{', '.join(parts)}}},{f'  # {comment(link.remark)}' if link.remark else ''}")
-    return ["link = [", *lines, "]"]
+def link_table(link, name_of):
+    """A link as a table."""
+    parts = [f'a = "{name_of[link.a]}"', f'b = "{name_of[link.b]}"']
+    parts += [f'rate = "{units.rate_said(link.rate)}"'] if link.rate is not None else []
+    parts += [f'delay = "{units.time_said(link.delay)}"'] if link.delay is not None else []
+    parts += [f"cost = {link.cost}"] if link.cost is not None else []
+    return f"{{{', '.join(parts)}}}"
 
 
 def renamed_lines(made, name_of):
@@ -126,25 +109,15 @@ def renamed_lines(made, name_of):
             *(f"#   {new.ljust(width)}  {comment(old)}" for new, old in changed)]
 
 
-def ending(made, weight):
+def ending(made):
     """Traffic to begin with, and the defaults, to be edited."""
     has_hosts = len(made.nodes) <= MOST_WITH_HOSTS and len(made.nodes) + len(made.links) <= limits.LINKS
-    lines = ["# Traffic to begin with: each sends to the one half the list away. Write your own."]
-    lines += ["[[flow]]", f'among = "{"*-h1" if has_hosts else "*"}"', 'pairs = "across"', 'rate = "1 Mbit/s"',
-              'stagger = "50 us"', ""]
-    lines += ["[defaults]",
-              f"node = {{hosts = {1 if has_hosts else 0}}}{'   # hosts behind each router' if has_hosts else ''}"]
-    lines += ['link = {rate = "1 Gbit/s", delay = "1 ms", queue = 100}   # what holds where a link says nothing else']
-    lines += ['host_link = {rate = "1 Gbit/s", delay = "10 us"}'] if has_hosts else []
-    return [f'weight = "{weight}"', "", *lines]
-
-
-def unsaid(made):
-    """How many links say no rate, and how many no delay."""
-    for key in ("rate", "delay"):
-        count = sum(getattr(link, key) is None for link in made.links)
-        if count:
-            yield f"{key}s that the file does not say: {count} of {len(made.links)}; the default holds for these links"
+    hosts, behind = (1, "   # hosts behind each router") if has_hosts else (0, "")
+    lines = ["# Traffic to begin with: each sends to the one half the list away. Write your own.", "[[flow]]",
+             f'among = "{"*-h1" if has_hosts else "*"}"', 'pairs = "across"', 'rate = "1 Mbit/s"', 'stagger = "50 us"',
+             "", "[defaults]", f"node = {{hosts = {hosts}}}{behind}",
+             'link = {rate = "1 Gbit/s", delay = "1 ms", queue = 100}   # what holds where a link says nothing else']
+    return lines + (['host_link = {rate = "1 Gbit/s", delay = "10 us"}'] if has_hosts else [])
 
 
 def spec_text(words):
@@ -154,11 +127,17 @@ def spec_text(words):
     found.delays_by_distance(made)
     name_of = named(made)
     weight = "cost" if any(link.cost is not None for link in made.links) else "delay"
-    said = [f"{len(made.nodes)} nodes, {len(made.links)} links, read as {made.kind}", *unsaid(made), *made.remarks]
-    tail = ending(made, weight)
+    said = [f"{len(made.nodes)} nodes, {len(made.links)} links, read as {made.kind}"]
+    for key in ("rate", "delay"):
+        count = sum(getattr(link, key) is None for link in made.links)
+        said += [f"{key}s that the file does not say: {count} of {len(made.links)}; the default holds for these "
+                 "links"] if count else []
+    said += made.remarks
     title = comment(os.path.basename(words.file)).replace("\\", "?").replace('"', "?")
+    nodes = writing.array("node", (node_table(node, name_of[key]) for key, node in made.nodes.items()))
+    links = writing.array("link", (link_table(link, name_of) for link in made.links),
+                          (comment(link.remark) for link in made.links))
     lines = [f"# A SPEC for `network make`, imported from {title}.", *(f"# {comment(line)}" for line in said), "#",
-             *renamed_lines(made, name_of), ""]
-    lines += [f'title = "Imported from {title}"', 'stop = "1 s"', tail[0], "", *node_lines(made, name_of), "",
-              *link_lines(made, name_of), *tail[1:]]
+             *renamed_lines(made, name_of), "", f'title = "Imported from {title}"', 'stop = "1 s"',
+             f'weight = "{weight}"', "", nodes, "", links, "", *ending(made)]
     return "\n".join(lines) + "\n", said

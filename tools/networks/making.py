@@ -1,7 +1,8 @@
 """A network from a SPEC: interfaces named after both ends, addresses, routes, sources."""
 
-from networks import (addresses, errors, fields, flows, forms, limits, names, rooms, routes, scaling, units,
-                      writing)
+from collections import namedtuple
+
+from networks import addresses, errors, fields, flows, forms, limits, names, rooms, routes, scaling, units, writing
 from networks.chance import Chance
 from networks.topology import Iface, Link, Network, Node, kinds_said
 
@@ -9,13 +10,10 @@ from networks.topology import Iface, Link, Network, Node, kinds_said
 FLOWS_SEED = 0x466C6F7773
 # Of how many flows is said what their packets became.
 PLANS_SAID = 20
-
-
-class Made:
-    """A network, and what was chosen for it, in lines."""
-
-    def __init__(self, network, chosen, first_line):
-        self.network, self.chosen, self.first_line = network, chosen, first_line
+# What helps against too many channels.
+CHANNEL_ADVICE = "put nodes that many links join into one partition, or choose fewer partitions"
+# A network, and what was chosen for it, in lines.
+Made = namedtuple("Made", "network chosen first_line")
 
 
 def joined(spec):
@@ -42,31 +40,21 @@ def joined(spec):
 def check_limits(network, name):
     """Refuses more interfaces or channels than a topology has."""
     if len(network.ifaces) > limits.IFACES:
-        raise errors.Refused(name,
-                             f"there are {len(network.ifaces):,} interfaces, and at most {limits.IFACES:,} may be")
+        raise errors.Refused(name, f"there are {len(network.ifaces):,} interfaces, and at most {limits.IFACES:,} may "
+                                   "be")
     cut = channels(network)
     if cut > limits.CHANNELS:
-        raise errors.Refused(
-            name, f"the partitions are joined by {cut:,} channels (two for each link between them), and at most "
-                  f"{limits.CHANNELS} may be: {channel_advice()}"
-        )
+        raise errors.Refused(name, f"the partitions are joined by {cut:,} channels (two for each link between them), "
+                                   f"and at most {limits.CHANNELS} may be: {CHANNEL_ADVICE}")
 
 
 def channels(network):
     """How many channels the partitions of a network have."""
-    nodes = network.nodes
-    return 2 * sum(nodes[one].partition != nodes[other].partition
-                   for one, other in map(network.link_nodes, range(len(network.links))))
-
-
-def channel_advice():
-    """What helps against too many channels."""
-    return "put nodes that many links join into one partition, or choose fewer partitions"
+    return network.channels([node.partition for node in network.nodes])
 
 
 def make(spec, name, say=None):
-    """The network of a SPEC; `name` is said where a fault has no line, `say` is told what fits before packets are
-    drawn."""
+    """The network of a SPEC; `name` is said where a fault has no line, `say` is told what fits before draws."""
     network, numbers, raised = joined(spec)
     check_limits(network, name)
     routes.check_joined(network, name, lambda number: spec.nodes[network.nodes[number].name].place())
@@ -76,9 +64,8 @@ def make(spec, name, say=None):
     blocks, taken = routed(spec, network)
     routes.check_counts(network, network.routes, name, spec.weight, spec.spread, spec.only_flows)
     routes.check_flows(network, lambda number: place_of[number])
-    first, formed = first_line(spec), planned(spec, network, say)
-    chosen = chosen_lines(spec, network, count, blocks, taken, raised)
-    return Made(network, [*chosen, *formed], first)
+    formed = planned(spec, network, say)
+    return Made(network, [*chosen_lines(spec, network, count, blocks, taken, raised), *formed], first_line(spec))
 
 
 def first_line(spec):
@@ -112,19 +99,18 @@ def planned(spec, network, say):
 
 
 def routed(spec, network):
-    """Gives addresses and routes in the order of nodes that needs fewer routes; says how many blocks and addresses
-    there are."""
+    """Gives addresses and routes in the order of nodes that needs fewer routes; says how many blocks and addresses."""
     chosen, goals = routes.choices(network, spec.weight, spec.spread), [source.to for source in network.sources]
-    best = None
-    for order in addresses.orders(network):
+    best = ()
+    # Which order needs fewer routes, as in a tree or as they are written, depends on the network.
+    for order in (addresses.tree_order(network), range(len(network.nodes))):
         addressed(spec, network, order, goals)
         found = routes.tables(network, chosen, spec.only_flows)
         size = (routes.most_of_a_node(found)[1] > limits.NODE_ROUTES, len(found))
-        if best is None or size < best[0]:
+        if not best or size < best[0]:
             best = (size, order, found)
-    counts = addressed(spec, network, best[1], goals)
-    network.routes = best[2]
-    return counts
+    _, order, network.routes = best
+    return addressed(spec, network, order, goals)
 
 
 def addressed(spec, network, order, goals):
@@ -140,8 +126,8 @@ def addressed(spec, network, order, goals):
 
 def chosen_lines(spec, network, flow_count, blocks, taken, raised):
     """What was chosen, a line each."""
-    packets = sum(source.count for source in network.sources)
-    before, partitions = routes.unaggregated(network), max(node.partition for node in network.nodes) + 1
+    # With one for each address of each other node.
+    before = sum(len(network.ifaces) - len(own) for own in network.ends())
     to = " to the ends of flows" if spec.only_flows else ""
     spread = "; of equal ones another for each destination" if spec.spread else "; of equal ones the first"
     lines = [
@@ -151,10 +137,11 @@ def chosen_lines(spec, network, flow_count, blocks, taken, raised):
         "behind it have one",
         f"routes      {len(network.routes):,}{to}, by least {spec.weight}{spread}; one for each address would be "
         f"{before:,}",
-        f"flows       {flow_count} with {packets:,} packets; where a cbr flow ends its port is open",
+        f"flows       {flow_count} with {sum(source.count for source in network.sources):,} packets; where a cbr flow "
+        "ends its port is open",
         f"stop        {units.time_said(spec.stop)}; a flow that says no other end ends at "
         f"{units.time_said(spec.stop * flows.TENTHS // 10)}",
-        f"partitions  {partitions}, with {channels(network)} channels",
+        f"partitions  {max(node.partition for node in network.nodes) + 1}, with {channels(network)} channels",
     ]
     if raised:
         shown = ", ".join(raised[:4]) + (f" and {len(raised) - 4} more" if len(raised) > 4 else "")

@@ -3,7 +3,7 @@
 import csv
 import io
 
-from networks import errors, program, tables, units
+from networks import errors, program, units
 
 COUNTS = ("sent", "delivered", "refused", "dropped", "discarded", "under_way", "octets", "answered")
 PERCENTILES = {"delay_50": 50, "delay_90": 90, "delay_99": 99}
@@ -104,4 +104,4 @@ def people_text(rows):
             cell = f"{cell:,}" if isinstance(cell, int) else cell
             cells.append(mark + cell if key in PERCENTILES else cell)
         lines.append(cells)
-    return "\n".join(tables.aligned(lines)) + "\n"
+    return "\n".join(units.aligned(lines)) + "\n"

@@ -1,5 +1,6 @@
 """Names: 1 to 32 of a to z, 0 to 9 and hyphen, not beginning with a hyphen."""
 
+import itertools
 import re
 import unicodedata
 
@@ -31,13 +32,9 @@ class Names:
 
     def give(self, word, otherwise="node", longest=limits.NAME_LENGTH):
         """The word as a name; where that is taken or long, cut and with a number behind it."""
-        base = plain(word) or otherwise
-        name = base[:longest].rstrip("-")
-        number = 1
-        while name in self.taken:
-            number += 1
-            tail = f"-{number}"
-            name = base[: longest - len(tail)].rstrip("-") + tail
+        base, tails = plain(word) or otherwise, itertools.chain([""], (f"-{number}" for number in itertools.count(2)))
+        names = (base[: longest - len(tail)].rstrip("-") + tail for tail in tails)
+        name = next(name for name in names if name not in self.taken)
         self.taken.add(name)
         return name
 

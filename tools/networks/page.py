@@ -4,7 +4,7 @@ import html
 import os
 
 from networks import drawing, fields, limits, topology, traffic, units
-from networks.tables import html_table
+from networks.units import html_table
 
 STYLE = """
 :root { color-scheme: light; }
@@ -27,13 +27,12 @@ p.small { color: #475569; font-size: .85rem; }
 def links_table(network, found, loads):
     """A row for each link."""
     rows = []
-    for number, link in enumerate(network.links):
-        one, other = network.link_nodes(number)
-        cut = {network.nodes[node].partition for node in (one, other)}
-        joined = " and ".join(map(str, sorted(cut))) if len(cut) > 1 else ""
-        rows.append((f"{network.nodes[one].name} to {network.nodes[other].name}", units.rate_said(link.rate),
-                     units.time_said(link.delay), network.ifaces[link.a].queue, f"{found.packets[link.a]:,}",
-                     f"{found.packets[link.b]:,}", f"{loads[number] / 10**4:.2f}%", joined))
+    for number, (link, pair) in enumerate(zip(network.links, network.pairs())):
+        cut = {network.nodes[node].partition for node in pair}
+        packets = (f"{found.packets[end]:,}" for end in (link.a, link.b))
+        rows.append((network.link_said(number), units.rate_said(link.rate), units.time_said(link.delay),
+                     network.ifaces[link.a].queue, *packets, f"{loads[number] / 10**4:.2f}%",
+                     " and ".join(map(str, sorted(cut))) if len(cut) > 1 else ""))
     return html_table(("link", "rate", "delay", "queue (packets)", "packets there", "packets back", "busy",
                        "joins partitions"), rows)
 
@@ -42,27 +41,25 @@ def flows_table(network, found):
     """A row for each source."""
     owners, rows = network.node_of_address(), []
     for number, source in enumerate(network.sources):
-        name, count = network.nodes[source.node].name, traffic.packets_of(network, source)
+        name = network.nodes[source.node].name
         if source.kind == "raw":
-            rows.append((f"{number}: raw", name, "", "", "", "", "", ""))
+            rows.append((f"{number}: raw", name, *[""] * 6))
             continue
         goal = network.nodes[owners[source.to]].name if source.to in owners else fields.address_said(source.to)
         rate = (source.size + limits.HEADERS) * 8 * 10**9 // source.interval
         end = f"{found.lengths[number]} links" if found.ends[number] is not None else "no route"
         port = f"port {source.dport}" if source.kind == "cbr" else f"identifier {source.ident}"
-        rows.append((f"{number}: {source.kind}", name, goal, port, source.size, f"{count:,}", units.rate_said(rate),
-                     end))
+        rows.append((f"{number}: {source.kind}", name, goal, port, source.size,
+                     f"{traffic.packets_of(network, source):,}", units.rate_said(rate), end))
     return html_table(("flow", "from", "to", "to port", "data (octets)", "packets", "rate", "way"), rows)
 
 
 def nodes_table(network, found):
     """A row for each node."""
-    routes, ends = network.node_routes(), network.ends()
     rows = []
-    for number, node in enumerate(network.nodes):
-        first = fields.address_said(network.ifaces[ends[number][0][0]].address) if ends[number] else ""
-        rows.append((node.name, node.kind, node.partition, len(ends[number]), first, len(routes[number]),
-                     f"{found.hops[number]:,}"))
+    for node, own, routes, hops in zip(network.nodes, network.ends(), network.node_routes(), found.hops):
+        first = fields.address_said(network.ifaces[own[0][0]].address) if own else ""
+        rows.append((node.name, node.kind, node.partition, len(own), first, len(routes), f"{hops:,}"))
     return html_table(("node", "kind", "partition", "links", "first address", "routes", "packets in and out"), rows)
 
 

@@ -1,6 +1,6 @@
 """Partitions for a topology text, and what each cut link costs."""
 
-from networks import coarse, editing, errors, fewest, limits, making, paths, tables, topology, traffic, units
+from networks import coarse, editing, errors, limits, making, paths, topology, traffic, units
 
 
 def chosen(text, count, by=None):
@@ -14,11 +14,10 @@ def chosen(text, count, by=None):
     parts, how = ([0] * len(network.nodes), "nothing to cut") if count == 1 else split(network, found, count, by)
     for node, part in zip(network.nodes, parts):
         node.partition = part
-    cut = [number for number in range(len(network.links))
-           if len({parts[node] for node in network.link_nodes(number)}) == 2]
+    cut = [number for number, (one, other) in enumerate(network.pairs()) if parts[one] != parts[other]]
     if 2 * len(cut) > limits.CHANNELS:
         raise errors.Refused(text.name, f"{2 * len(cut):,} channels would join the partitions, and at most "
-                                        f"{limits.CHANNELS} may be: {making.channel_advice()}")
+                                        f"{limits.CHANNELS} may be: {making.CHANNEL_ADVICE}")
     raised = {number: limits.CUT_DELAY for number in cut if network.links[number].delay < limits.CUT_DELAY}
     lines = said(network, found, parts, cut, how, raised)
     edited = editing.set_keys(text.text, "node", "partition", dict(enumerate(parts)))
@@ -29,24 +28,22 @@ def split(network, found, count, by):
     """The partition of each node, numbered in the order of the nodes. Where the cut for even work has more channels
     than there may be, one with fewer is taken."""
     parts, how = coarse.cut(network, found, count, by)
-    parts = filled(network, found, parts, count)
-    even = fewest.channels(network, parts)
+    parts = filled(found, parts, count)
+    even = network.channels(parts)
     if even > limits.CHANNELS:
-        few, by_links = fewest.cut(network, found, count, by)
-        few = filled(network, found, few, count)
-        if fewest.channels(network, few) < even:
+        few, by_links = coarse.cut_few(network, found, count, by)
+        few = filled(found, few, count)
+        if network.channels(few) < even:
             parts, how = few, f"{by_links}, for few channels: parts of even work would have {even:,}"
-    number_of = {}
-    for part in parts:
-        number_of.setdefault(part, len(number_of))
-    return [number_of[part] for part in parts], how
+    order = list(dict.fromkeys(parts))
+    return [order.index(part) for part in parts], how
 
 
-def filled(network, found, parts, count):
+def filled(found, parts, count):
     """Gives an empty partition the busiest node of the one with most packets that has another node."""
     parts = list(parts)
     for empty in sorted(set(range(count)) - set(parts)):
-        shares = {part: sum(found.hops[node] for node, held in enumerate(parts) if held == part)
+        shares = {part: sum(hops for hops, held in zip(found.hops, parts) if held == part)
                   for part in set(parts) if parts.count(part) > 1}
         most = max(shares, key=lambda part: (shares[part], -part))
         parts[max((node for node, held in enumerate(parts) if held == most), key=lambda node: found.hops[node])] = empty
@@ -55,28 +52,22 @@ def filled(network, found, parts, count):
 
 def said(network, found, parts, cut, how, raised):
     """The partitions, the cut links and what follows from them."""
-    total = sum(found.hops) or 1
-    rows = [("partition", "nodes", "packets in and out", "share")]
+    total, rows = sum(found.hops) or 1, [("partition", "nodes", "packets in and out", "share")]
     for part in range(max(parts) + 1):
-        nodes = [node for node, held in enumerate(parts) if held == part]
-        hops = sum(found.hops[node] for node in nodes)
-        rows.append((part, len(nodes), f"{hops:,}", f"{hops * 100 / total:.1f}%"))
-    lines = [f"cut by {how}", *tables.aligned(rows)]
+        some = [hops for hops, held in zip(found.hops, parts) if held == part]
+        rows.append((part, len(some), f"{sum(some):,}", f"{sum(some) * 100 / total:.1f}%"))
+    lines = [f"cut by {how}", *units.aligned(rows)]
     if cut:
         rows = [("cut link", "partitions", "lookahead (ns)", "packets", "events a window")]
         rows += [cut_row(network, found, parts, number) for number in cut]
-        lines += ["", *tables.aligned(rows), "", *summary(network, found, cut)]
-    for number in raised:
-        one, other = (network.nodes[node].name for node in network.link_nodes(number))
-        lines.append(f"the delay of {one} to {other} is now {limits.CUT_DELAY} ns: a link between partitions has one, "
-                     "and what is simulated changes by it")
+        lines += ["", *units.aligned(rows), "", *summary(network, found, cut)]
+    lines += [f"the delay of {network.link_said(number)} is now {limits.CUT_DELAY} ns: a link between partitions has "
+              "one, and what is simulated changes by it" for number in raised]
     lost = sum(end is None and source.kind != "raw" for source, end in zip(network.sources, found.ends))
     if lost:
         lines.append(f"{lost} of {len(network.sources)} flows do not arrive by the routes of this text, and count for "
                      "little: `network routes` computes routes")
-    if len(paths.parts(network)) > 1:
-        lines.append("the network is in pieces that no link joins")
-    return lines
+    return lines + (["the network is in pieces that no link joins"] if len(paths.parts(network)) > 1 else [])
 
 
 def window_events(network, packets, window):
@@ -86,22 +77,17 @@ def window_events(network, packets, window):
 
 def cut_row(network, found, parts, number):
     """What is said of a cut link."""
-    link = network.links[number]
-    one, other = network.link_nodes(number)
+    link, joined = network.links[number], ", ".join(str(parts[node]) for node in network.pairs()[number])
     packets, window = found.packets[link.a] + found.packets[link.b], traffic.lookahead(link)
-    ends = f"{network.nodes[one].name} to {network.nodes[other].name}"
-    return ends, f"{parts[one]}, {parts[other]}", f"{window:,}", f"{packets:,}", window_events(network, packets, window)
+    return network.link_said(number), joined, f"{window:,}", f"{packets:,}", window_events(network, packets, window)
 
 
 def summary(network, found, cut):
     """The least lookahead, and what the whole network does in such a window."""
     window = min(traffic.lookahead(network.links[number]) for number in cut)
     hops, channels = sum(found.packets), 2 * len(cut)
-    lines = [
-        f"{channels} channels; least lookahead {units.time_said(window)}; {window_events(network, hops, window)} "
-        "packet-hops of the whole network are expected"
-        " in such a window"
-    ]
+    lines = [f"{channels} channels; least lookahead {units.time_said(window)}; {window_events(network, hops, window)} "
+             "packet-hops of the whole network are expected in such a window"]
     if hops * window < network.stop * channels:
         lines.append("fewer events than channels a window: the partitions will wait for each other more than they "
                      "simulate; try fewer, or longer links")

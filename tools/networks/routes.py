@@ -1,16 +1,69 @@
 """The static routes of a network, by shortest paths, in as few prefixes as they need."""
 
+import bisect
 from collections import Counter
 
-from networks import aggregate, errors, limits, paths
+from networks import errors, limits, paths
 from networks.topology import Route
-from networks.ways import Ways
+from networks.paths import Ways
+
+
+class Tree:
+    """Few prefixes for many addresses: the least table of which the longest prefix decides as asked. The manner is that
+    of Draves, King, Venkatachary and Zill, "Constructing Optimal IP Routing Tables" (1999), with one difference: what
+    no interface has is left open, and a prefix is no shorter than what it stands for.
+
+    The addresses are a binary tree: a leaf for those of one owner that stand together, and an inner place where two
+    parts part. Each place has a prefix."""
+
+    def __init__(self, addresses, owners):
+        """`addresses` are numbers, rising; `owners` has a number for each."""
+        # Of each place its prefix, its two parts or none, and the owner of its first address.
+        self.prefixes, self.parts, self.owners = [], [], []
+        if addresses:
+            self.grow(addresses, owners, 0, len(addresses))
+
+    def grow(self, addresses, owners, first, past):
+        """The place of some addresses in turn; its parts have lesser numbers than it."""
+        low, high, parts = addresses[first], addresses[past - 1], ()
+        length = 32 - (low ^ high).bit_length()
+        if len(set(owners[first:past])) > 1:
+            middle = bisect.bisect_left(addresses, high >> 31 - length << 31 - length, first, past)
+            parts = (self.grow(addresses, owners, first, middle), self.grow(addresses, owners, middle, past))
+        self.prefixes.append((low >> 32 - length << 32 - length, length))
+        self.parts.append(parts)
+        self.owners.append(owners[first])
+        return len(self.parts) - 1
+
+    def wanted(self, asked):
+        """For each place the answers that are cheapest for it; none where all are open."""
+        held = []
+        for parts, owner in zip(self.parts, self.owners):
+            left, right = (held[part] for part in parts) if parts else [{asked[owner]} - {None}] * 2
+            held.append(left & right or left | right)
+        return held
+
+    def table(self, asked):
+        """Prefixes with answers: the longest that holds an address has asked[its owner], where that is not None."""
+        held, found = self.wanted(asked), []
+        waiting = [(len(held) - 1, None)] if held else []
+        while waiting:
+            place, given = waiting.pop()
+            sides = [held[part] for part in self.parts[place]]
+            # An answer where the two sides have none in common would save a prefix on one side and cost this one: the
+            # sides have their own, which reads more easily.
+            is_parted = not all(sides) or sides and not sides[0] & sides[1]
+            if held[place] and not is_parted and given not in held[place]:
+                given = min(held[place])
+                found.append((*self.prefixes[place], given))
+            waiting += [(part, given) for part in reversed(self.parts[place])]
+        return found
 
 
 def choices(network, weight, spread=False):
     """For each node as a goal the interface by which each other node sends to it."""
     ends = network.ends()
-    costs = [paths.cost(link, weight) for link in network.links]
+    costs = [paths.WEIGHTS[weight](link) for link in network.links]
     return [paths.next_ifaces(network, ends, costs, goal, spread) for goal in range(len(network.nodes))]
 
 
@@ -18,7 +71,7 @@ def tables(network, chosen, only_flows=False):
     """The routes of all nodes. A host with one link has a default route, the others what they need: to all nodes, or to
     those at the ends of flows."""
     order = sorted(network.ifaces, key=lambda iface: iface.address)
-    tree = aggregate.Tree([iface.address for iface in order], [iface.node for iface in order])
+    tree = Tree([iface.address for iface in order], [iface.node for iface in order])
     goals = flow_ends(network) if only_flows else range(len(network.nodes))
     routes = []
     for node, own in enumerate(network.ends()):
@@ -40,12 +93,15 @@ def check_counts(network, routes, name, weight, spread, only_flows):
     node, count = most_of_a_node(routes)
     if count <= limits.NODE_ROUTES and len(routes) <= limits.ROUTES:
         return
-    said = f"the network would need {len(routes):,} routes, and at most {limits.ROUTES:,} may be"
+    who, some, most = "the network", len(routes), limits.ROUTES
     if count > limits.NODE_ROUTES:
-        said = (f'node "{network.nodes[node].name}" would need {count:,} routes, and at most {limits.NODE_ROUTES:,} '
-                "may be")
+        who, some, most = f'node "{network.nodes[node].name}"', count, limits.NODE_ROUTES
     fewer = routes if only_flows else tables(network, choices(network, weight, spread), True)
-    raise errors.Refused(name, f"{said}: {advice(len(routes), len(fewer), spread)}")
+    ways = [f"route only to the ends of flows, which are {len(fewer):,} (`only_flows = true` in a SPEC, `routes "
+            "--only-flows`)"] if len(fewer) < len(routes) else []
+    advice = " or ".join(filter(None, [", ".join([*ways, *(["leave out spread"] if spread else [])]),
+                                       "have fewer routers"]))
+    raise errors.Refused(name, f"{who} would need {some:,} routes, and at most {most:,} may be: {advice}")
 
 
 def computed(network, weight, spread=False, name="", only_flows=False):
@@ -55,25 +111,12 @@ def computed(network, weight, spread=False, name="", only_flows=False):
     return routes
 
 
-def advice(count, fewer, spread):
-    """What helps against so many routes, of which fewer may lead to the ends of flows."""
-    ways = [f"route only to the ends of flows, which are {fewer:,} (`only_flows = true` in a SPEC, `routes "
-            "--only-flows`)"] if fewer < count else []
-    ways += ["leave out spread"] if spread else []
-    return " or ".join(filter(None, [", ".join(ways), "have fewer routers"]))
-
-
 def flow_ends(network):
     """The nodes that send or take a flow's packets, raw ones too: others get none."""
     owners = network.node_of_address()
     goals = {source.to for source in network.sources}
     goals.update(address for source in network.sources for address, _ in source.goals)
     return {source.node for source in network.sources} | {owners[goal] for goal in goals if goal in owners}
-
-
-def unaggregated(network):
-    """How many routes there would be with one for each address of each other node."""
-    return sum(len(network.ifaces) - len(own) for own in network.ends())
 
 
 def check_joined(network, name, place_of=None):

@@ -4,17 +4,12 @@ from dataclasses import dataclass, field
 
 from networks import errors, fields, flowkeys, groups, limits, names, paths
 from networks.chance import Chance
+from networks.topology import Node
 
 
 @dataclass
-class SpecNode:
-    name: str
-    kind: str
-    partition: int
-    ports: list
-    place: object
-    # Its latitude and longitude, where the SPEC says them.
-    where: tuple | None = None
+class SpecNode(Node):
+    place: object = None
 
 
 @dataclass
@@ -23,12 +18,12 @@ class SpecLink:
 
     a: str
     b: str
+    place: object
     rate: int
     delay: int
     queue: int
-    queue_octets: int | None
-    cost: int | None
-    place: object
+    queue_octets: int | None = None
+    cost: int | None = None
 
 
 @dataclass
@@ -76,8 +71,7 @@ TOP = {
 }
 DEFAULTS = {"node": NODE, "link": LINK, "host_link": LINK, "flow": flowkeys.FLOW}
 ARRAYS = ("node", "link", "group", "flow")
-# What holds where neither a table nor `defaults` says it: delays in nanoseconds, rates in bits per second, queues in
-# packets.
+# What holds where neither a table nor `defaults` says it: nanoseconds, bits per second, packets.
 BUILT_IN = {
     "node": {"kind": "router", "partition": 0, "hosts": 0},
     "link": {"rate": 10**9, "delay": 10**6, "queue": 100},
@@ -91,55 +85,51 @@ class Reading:
     """Reads the SPEC of a TOML text."""
 
     def __init__(self, text):
-        self.text = text
-        self.spec = Spec(name=text.name)
+        self.text, self.spec = text, Spec(name=text.name)
         self.defaults = {key: dict(value) for key, value in BUILT_IN.items()}
-        self.chance = None
         # They stand behind the other links.
-        self.host_links = []
+        self.host_links, self.chance = [], None
 
     def read(self):
         """The whole SPEC."""
         self.top()
-        self.each("node", self.node)
-        self.each("group", self.group)
-        self.each("link", self.link)
+        self.each("node", "group", "link")
         if not self.spec.nodes:
             raise errors.Refused(self.text.name, "there is no node: write `node = [..]` or `[[group]]`")
         self.spec.links += self.host_links
-        self.counts()
-        self.each("flow", self.flow)
+        for count, most, what in ((len(self.spec.nodes), limits.NODES, "nodes"),
+                                  (len(self.spec.links), limits.LINKS, "links")):
+            if count > most:
+                raise errors.Refused(self.text.name, f"there are {count:,} {what}, hosts and groups written out; "
+                                                     f"{groups.MOST_SAID}")
+        self.each("flow")
         return self.spec
 
-    def each(self, array, read):
-        """Reads the members of an array in turn."""
-        for number, table in enumerate(self.text.members(array)):
-            read(number, table)
+    def each(self, *arrays):
+        """Reads the members of arrays in turn."""
+        for array in arrays:
+            for number, table in enumerate(self.text.members(array)):
+                getattr(self, array)(number, table)
 
     def top(self):
         """What stands before the arrays, and the defaults."""
-        means = self.text.means
-        keys = {**TOP, **{key: lambda value: value for key in (*ARRAYS, "defaults")}}
+        means, text = self.text.means, self.text
         if "format" in means and "iface" in means:
-            raise errors.Refused(self.text.name, "this is a topology, not a SPEC: `network routes`, `partition` and "
-                                                 "`show` take it")
-        read = fields.table(means, keys, self.text.place)
-        self.spec.prefix_place = self.text.place("prefix") if "prefix" in means else self.text.name
+            raise errors.Refused(text.name, "this is a topology, not a SPEC: `network routes`, `partition` and `show` "
+                                            "take it")
+        read = fields.table(means, {**TOP, **dict.fromkeys((*ARRAYS, "defaults"), fields.anything)}, text.place)
+        self.spec.prefix_place = text.place("prefix") if "prefix" in means else text.name
         for key in TOP:
             if key in read:
                 setattr(self.spec, key, read[key])
         self.chance = None if self.spec.seed is None else Chance(self.spec.seed)
-        defaults = means.get("defaults", {})
-        fields.table(defaults, {key: lambda value: value for key in DEFAULTS},
-                     lambda *way: f"{self.text.place('defaults', *way)}: defaults")
+        defaults = fields.table(means.get("defaults", {}), dict.fromkeys(DEFAULTS, fields.anything),
+                                lambda *way: f"{text.place('defaults', *way)}: defaults")
         for key, members in DEFAULTS.items():
-            place = self.place_of_defaults(key)
+            def place(*way, key=key):
+                return f"{text.place('defaults', key, *way)}: defaults.{key}"
             self.defaults[key].update(fields.table(defaults.get(key, {}), members, place))
         self.defaults["host_link"] = {**self.defaults["link"], **self.defaults["host_link"]}
-
-    def place_of_defaults(self, key):
-        """How places in the defaults are said."""
-        return lambda *way: f"{self.text.place('defaults', key, *way)}: defaults.{key}"
 
     def add(self, name, kind, partition, place, ports=(), where=None):
         """A node."""
@@ -149,7 +139,7 @@ class Reading:
         if name in self.spec.nodes:
             raise errors.Refused(place(), f'two nodes have the name "{name}": the other one is at '
                                           f'{self.spec.nodes[name].place()}')
-        self.spec.nodes[name] = SpecNode(name, kind, partition, list(ports), place, where)
+        self.spec.nodes[name] = SpecNode(name, kind, partition, list(ports), where, place)
 
     def hosts(self, router, count, partition, place):
         """The hosts behind a router: ROUTER-h1 and so on."""
@@ -160,8 +150,7 @@ class Reading:
     def joined(self, one, other, table, defaults, place):
         """A link, with the defaults for what its table does not say."""
         held = {**self.defaults[defaults], **table}
-        return SpecLink(one, other, held["rate"], held["delay"], held["queue"], held.get("queue_octets"),
-                        held.get("cost"), place)
+        return SpecLink(one, other, place, **{key: held[key] for key in (*LINK, *COST) if key in held})
 
     def node(self, number, value):
         named = errors.shown(value["name"]) if isinstance(value, dict) and "name" in value else ""
@@ -179,8 +168,8 @@ class Reading:
         kind = value.get("kind") if isinstance(value, dict) else None
         named = f"{kind} {errors.shown(value['name'])}" if kind in groups.KINDS and "name" in value else ""
         place = self.text.member("group", number, named)
-        own = groups.KINDS[kind][1] if kind in groups.KINDS else {key: lambda value: value
-                                                                  for _, keys in groups.KINDS.values() for key in keys}
+        every = {key: fields.anything for _, keys in groups.KINDS.values() for key in keys}
+        own = groups.KINDS[kind][1] if kind in groups.KINDS else every
         keys = {"kind": fields.choice(*groups.KINDS), "name": fields.name, **own, "hosts": HOSTS,
                 "partition": PARTITION, **LINK, **COST}
         table = fields.table(value, keys, place, ("kind", "name", *(own if kind in groups.KINDS else ())))
@@ -188,36 +177,24 @@ class Reading:
         partition = table.get("partition", self.defaults["node"]["partition"])
         for name in shape.nodes:
             self.add(name, "router", partition, place)
-        for one, other in shape.links:
-            self.spec.links.append(self.joined(one, other, {key: table[key] for key in (*LINK, *COST) if key in table},
-                                               "link", place))
+        self.spec.links += [self.joined(one, other, table, "link", place) for one, other in shape.links]
         count = table.get("hosts", shape.hosts or self.defaults["node"]["hosts"])
         for name in shape.leaves:
             self.hosts(name, count, partition, place)
 
     def link(self, number, value):
-        ends = [value.get(key) for key in ("a", "b")] if isinstance(value, dict) else []
-        are_names = ends and all(isinstance(end, str) for end in ends)
-        named = " to ".join(map(errors.shown, ends)) if are_names else ""
+        ends = [value.get(key) for key in ("a", "b")] if isinstance(value, dict) else [None]
+        named = " to ".join(map(errors.shown, ends)) if all(isinstance(end, str) for end in ends) else ""
         place = self.text.member("link", number, named)
         table = fields.table(value, {"a": fields.name, "b": fields.name, **LINK, **COST}, place, ("a", "b"))
         for key in ("a", "b"):
             if table[key] not in self.spec.nodes:
-                near = errors.meant(table[key], self.spec.nodes)
-                raise errors.Refused(place(key), f'key "{key}": there is no node {errors.shown(table[key])}{near}')
+                raise errors.unknown(place, key, "node", table[key], self.spec.nodes)
         if table["a"] == table["b"]:
             raise errors.Refused(place(), "a link joins two nodes, and both ends of this are one")
         kinds = {self.spec.nodes[table[key]].kind for key in ("a", "b")}
-        self.spec.links.append(self.joined(table["a"], table["b"], table, "host_link" if "host" in kinds else "link",
-                                           place))
-
-    def counts(self):
-        """Refuses more nodes, links or interfaces than a topology has."""
-        for count, most, what in ((len(self.spec.nodes), limits.NODES, "nodes"),
-                                  (len(self.spec.links), limits.LINKS, "links")):
-            if count > most:
-                raise errors.Refused(self.text.name, f"there are {count:,} {what}, hosts and groups written out; "
-                                                     f"{groups.most_said()}")
+        defaults = "host_link" if "host" in kinds else "link"
+        self.spec.links.append(self.joined(table["a"], table["b"], table, defaults, place))
 
     def flow(self, number, value):
         place = self.text.member("flow", number)

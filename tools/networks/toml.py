@@ -1,13 +1,10 @@
 """TOML texts: read with the standard library, each mistake with its line."""
 
+import contextlib
 import sys
+import tomllib
 
 from networks import errors, limits, spans
-
-try:
-    import tomllib
-except ImportError:  # Python before 3.11
-    tomllib = None
 
 
 class Tables:
@@ -30,8 +27,6 @@ class Text(Tables):
     """A TOML text: its name, its octets as text, what it means, and where its parts stand."""
 
     def __init__(self, name, text):
-        if tomllib is None:
-            raise errors.Lacking(f"this needs Python 3.11 or later, and {sys.executable} is {sys.version.split()[0]}")
         self.name, self.text = name, text
         try:
             self.means = tomllib.loads(text)
@@ -39,8 +34,8 @@ class Text(Tables):
             other = "; it looks like XML, which `network import` takes" if text.lstrip().startswith("<") else ""
             raise errors.Refused(name, f"this is no TOML text: {why}{other}") from None
         except RecursionError:
-            why = "this is no TOML text that can be read: its arrays or tables are nested too deep"
-            raise errors.Refused(name, why) from None
+            raise errors.Refused(name, "this is no TOML text that can be read: its arrays or tables are nested too "
+                                       "deep") from None
         self.spans = spans.read(text)
 
     def place(self, *way):
@@ -48,11 +43,6 @@ class Text(Tables):
         item = self.spans.at(*way)
         start = item.key_start if way and isinstance(way[-1], str) and item.key_start else item.start
         return f"{self.name}:{spans.line_of(self.text, start)}"
-
-    def line_end(self, place):
-        """Where the line ends in which a place is."""
-        end = self.text.find("\n", place)
-        return end if end >= 0 else len(self.text)
 
 
 def load(name):
@@ -63,11 +53,8 @@ def load(name):
 def octets(name):
     """The text of a file."""
     try:
-        if name == "-":
-            held = sys.stdin.buffer.read(limits.TEXT_OCTETS + 1)
-        else:
-            with open(name, "rb") as file:
-                held = file.read(limits.TEXT_OCTETS + 1)
+        with contextlib.nullcontext(sys.stdin.buffer) if name == "-" else open(name, "rb") as file:
+            held = file.read(limits.TEXT_OCTETS + 1)
     except OSError as why:
         raise errors.Refused(name, f"it cannot be read: {why.strerror}") from None
     if len(held) > limits.TEXT_OCTETS:

@@ -13,7 +13,7 @@ class Node:
     kind: str = "router"
     partition: int = 0
     ports: list = field(default_factory=list)
-    # Its latitude and longitude, which a comment says: a topology has no key for them.
+    # Its latitude and longitude, which a SPEC says, or a comment: a topology has no key for them.
     where: tuple | None = None
 
 
@@ -28,8 +28,7 @@ class Iface:
 
 @dataclass
 class Link:
-    """Between two interfaces; `rate` in bits per second, `delay` in nanoseconds, `cost` a number that a SPEC may
-    give."""
+    """Between two interfaces; rate in bits per second, delay in nanoseconds, cost a number that a SPEC may give."""
 
     a: int
     b: int
@@ -90,10 +89,22 @@ class Network:
                 found[self.ifaces[own].node].append((own, far, number))
         return [sorted(ends) for ends in found]
 
-    def link_nodes(self, number):
-        """The two nodes of a link."""
+    def pairs(self):
+        """The two nodes of each link."""
+        return [(self.ifaces[link.a].node, self.ifaces[link.b].node) for link in self.links]
+
+    def link_said(self, number):
+        """A link as "a to b"."""
         link = self.links[number]
-        return self.ifaces[link.a].node, self.ifaces[link.b].node
+        return " to ".join(self.nodes[self.ifaces[end].node].name for end in (link.a, link.b))
+
+    def near(self):
+        """The nodes at the far ends of each node's links."""
+        return [[self.ifaces[far].node for _, far, _ in own] for own in self.ends()]
+
+    def channels(self, parts):
+        """How many channels join the partitions of the nodes."""
+        return 2 * sum(parts[one] != parts[other] for one, other in self.pairs())
 
     def node_of_address(self):
         """Which node has an address."""
@@ -141,7 +152,7 @@ SOURCE = {
     "count": fields.whole(*limits.COUNT, "packets"),
     "ttl": fields.whole(*limits.TTL, "links"),
     "via": fields.name,
-    "packet": lambda value: value,
+    "packet": fields.anything,
 }
 TOP = {
     "format": fields.whole(1, 2, "the format"),
@@ -150,7 +161,6 @@ TOP = {
 }
 # Keys that a SPEC has, and a topology has not.
 ARE_OF_SPECS = {"title", "group", "flow", "defaults", "weight", "prefix", "seed"}
-ARRAYS = ("node", "iface", "link", "route", "source")
 MOST = {"node": limits.NODES, "iface": limits.IFACES, "link": limits.LINKS, "route": limits.ROUTES,
         "source": limits.SOURCES}
 # What is said of a node behind its table.
@@ -164,27 +174,19 @@ class Reading:
     """Reads the network of a topology text. `nullsim check` tests more: this reads what the tool needs."""
 
     def __init__(self, text):
-        self.text = text
+        self.text, self.network = text, None
         self.nodes, self.ifaces = {}, {}
 
-    def place(self, array, number, name=""):
+    def place(self, array, number, value):
         """How places in a member of an array are said."""
+        name = value.get("name") if isinstance(value, dict) and array in ("node", "iface") else None
         return self.text.member(array, number, errors.shown(name) if name else "")
 
-    def tables(self, array):
-        """The members of an array, each with its number."""
-        members = self.text.members(array)
-        if len(members) > MOST[array]:
-            raise errors.Refused(self.text.place(array),
-                                 f'"{array}" has {len(members):,} members, and at most {MOST[array]:,} may be')
-        return enumerate(members)
-
-    def named(self, known, word, place, key, what):
-        """The number of what has a name."""
-        if word not in known:
-            raise errors.Refused(place(key), f'key "{key}": there is no {what} '
-                                             f'{errors.shown(word)}{errors.meant(word, known)}')
-        return known[word]
+    def named(self, known, table, place, key, what):
+        """The number of what a key names."""
+        if table[key] not in known:
+            raise errors.unknown(place, key, what, table[key], known)
+        return known[table[key]]
 
     def new(self, known, word, number, place, what):
         """Gives a name to a number, once."""
@@ -195,78 +197,73 @@ class Reading:
 
     def read(self):
         """The whole network."""
-        if "format" not in self.text.means and ARE_OF_SPECS & set(self.text.means):
+        means = self.text.means
+        if "format" not in means and ARE_OF_SPECS & set(means):
             raise errors.Refused(self.text.name, "this is a SPEC, not a topology: `network make` makes one of it")
-        top = {key: value for key, value in self.text.means.items() if key not in ARRAYS}
-        head = fields.table(top, TOP, lambda *keys: self.text.place(*keys), tuple(TOP))
-        network = Network(head["stop"], head["mtu"])
-        network.nodes = [self.node(number, table) for number, table in self.tables("node")]
-        network.ifaces = [self.iface(number, table) for number, table in self.tables("iface")]
-        network.links = [self.link(number, table) for number, table in self.tables("link")]
-        network.routes = [self.route(number, table, network) for number, table in self.tables("route")]
-        network.sources = [self.source(number, table) for number, table in self.tables("source")]
-        self.once(network)
-        return network
+        top = {key: value for key, value in means.items() if key not in MOST}
+        head = fields.table(top, TOP, self.text.place, tuple(TOP))
+        self.network = Network(head["stop"], head["mtu"])
+        for array, most in MOST.items():
+            members, held, read = self.text.members(array), getattr(self.network, f"{array}s"), getattr(self, array)
+            if len(members) > most:
+                raise errors.Refused(self.text.place(array), f'"{array}" has {len(members):,} members, and at most '
+                                                             f"{most:,} may be")
+            for number, value in enumerate(members):
+                held.append(read(number, value, self.place(array, number, value)))
+        self.once()
+        return self.network
 
-    def once(self, network):
+    def once(self):
         """Each interface is at one end of one link, and has an address of its own."""
-        uses = Counter(end for link in network.links for end in (link.a, link.b))
-        for number, iface in enumerate(network.ifaces):
+        uses, held = Counter(end for link in self.network.links for end in (link.a, link.b)), {}
+        places = [self.text.member("iface", *it) for it in enumerate(map(errors.shown, self.ifaces))]
+        for number, place in enumerate(places):
             if uses[number] != 1:
-                raise errors.Refused(self.place("iface", number, iface.name)(),
-                                     f"it is at {uses[number]} ends of links, and has to be at one")
-        held = {}
-        for number, iface in enumerate(network.ifaces):
-            if iface.address in held:
-                raise errors.Refused(self.place("iface", number, iface.name)("address"),
-                                     f"interface {held[iface.address]} has this address too")
-            held[iface.address] = number
+                raise errors.Refused(place(), f"it is at {uses[number]} ends of links, and has to be at one")
+        for number, (iface, place) in enumerate(zip(self.network.ifaces, places)):
+            if held.setdefault(iface.address, number) != number:
+                raise errors.Refused(place("address"), f"interface {held[iface.address]} has this address too")
 
-    def node(self, number, value):
-        place = self.place("node", number, value.get("name", "") if isinstance(value, dict) else "")
+    def node(self, number, value, place):
         table = fields.table(value, NODE, place, ("name", "kind"))
         self.new(self.nodes, table["name"], number, place, "node")
-        return Node(table["name"], table["kind"], table.get("partition", 0), table.get("ports", []), self.where(number))
+        return Node(**table, where=self.where(number))
 
     def where(self, number):
         """The place that the comment on a node's line says, or none."""
-        item = self.text.spans.at("node", number)
-        found = WHERE.search(self.text.text, item.start, self.text.line_end(item.end or item.start))
+        text, item = self.text.text, self.text.spans.at("node", number)
+        end = text.find("\n", item.end or item.start)
+        found = WHERE.search(text, item.start, end if end >= 0 else len(text))
         return tuple(map(float, found.groups())) if found else None
 
-    def iface(self, number, value):
-        place = self.place("iface", number, value.get("name", "") if isinstance(value, dict) else "")
+    def iface(self, number, value, place):
         table = fields.table(value, IFACE, place, ("name", "node", "address", "queue"))
         self.new(self.ifaces, table["name"], number, place, "interface")
-        table["node"] = self.named(self.nodes, table["node"], place, "node", "node")
-        return Iface(**table)
+        return Iface(**{**table, "node": self.named(self.nodes, table, place, "node", "node")})
 
-    def link(self, number, value):
-        place = self.place("link", number)
+    def link(self, _, value, place):
         table = fields.table(value, LINK, place, tuple(LINK))
-        ends = [self.named(self.ifaces, table[key], place, key, "interface") for key in ("a", "b")]
-        return Link(*ends, table["rate"], table["delay"])
+        ends = {key: self.named(self.ifaces, table, place, key, "interface") for key in ("a", "b")}
+        return Link(**{**table, **ends})
 
-    def route(self, number, value, network):
-        place = self.place("route", number)
+    def route(self, _, value, place):
         table = fields.table(value, ROUTE, place, tuple(ROUTE))
-        node = self.named(self.nodes, table["node"], place, "node", "node")
-        via = self.named(self.ifaces, table["via"], place, "via", "interface")
-        if network.ifaces[via].node != node:
+        node = self.named(self.nodes, table, place, "node", "node")
+        via = self.named(self.ifaces, table, place, "via", "interface")
+        if self.network.ifaces[via].node != node:
             raise errors.Refused(place("via"), f"{errors.shown(table['via'])} is no interface of node "
                                                f"{errors.shown(table['node'])}")
         return Route(node, *table["to"], via)
 
-    def source(self, number, value):
-        place = self.place("source", number)
+    def source(self, _, value, place):
         is_raw = isinstance(value, dict) and value.get("kind") == "raw"
-        required = ("kind", "node", *(("via", "packet") if is_raw else TIMED))
-        table = fields.table(value, SOURCE, place, required)
-        table["node"] = self.named(self.nodes, table["node"], place, "node", "node")
-        source = Source(**{key: found for key, found in table.items() if key not in ("via", "packet")})
-        if source.kind == "raw":
-            source.via = self.named(self.ifaces, table["via"], place, "via", "interface")
-            source.goals = goals_of(table["packet"])
+        table = fields.table(value, SOURCE, place, ("kind", "node", *(("via", "packet") if is_raw else TIMED)))
+        node = self.named(self.nodes, table, place, "node", "node")
+        packets = table.pop("packet", None)
+        source = Source(**{**table, "node": node, "via": None})
+        if is_raw:
+            source.via = self.named(self.ifaces, table, place, "via", "interface")
+            source.goals = goals_of(packets)
         return source
 
 

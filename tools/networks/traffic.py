@@ -4,7 +4,7 @@ queues are not either."""
 from dataclasses import dataclass
 
 from networks import limits
-from networks.ways import Ways
+from networks.paths import Ways
 
 
 @dataclass
@@ -66,6 +66,5 @@ def load(network, traffic, iface, link):
 
 
 def lookahead(link):
-    """How far ahead of the sender's clock nothing can arrive over a link: its delay and the transmission of one octet
-    (nanoseconds)."""
+    """The nanoseconds before which nothing can arrive over a link: its delay and the transmission of one octet."""
     return max(link.delay, limits.CUT_DELAY) + max(1, -(-8 * 10**9 // link.rate))

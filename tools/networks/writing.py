@@ -5,35 +5,19 @@ import itertools
 from networks import fields, units
 
 
-def node_line(node):
-    """A node as a table."""
-    ports = f", ports = [{', '.join(map(str, node.ports))}]" if node.ports else ""
-    return f'{{name = "{node.name}", kind = "{node.kind}", partition = {node.partition}{ports}}}'
+def said(value):
+    """A value as TOML has it on one line; a table has no key whose value is None."""
+    if isinstance(value, dict):
+        return "{" + ", ".join(f"{key} = {said(held)}" for key, held in value.items() if held is not None) + "}"
+    if isinstance(value, list):
+        return f"[{', '.join(map(said, value))}]"
+    return f'"{value}"' if isinstance(value, str) else str(value)
 
 
-def node_remark(node):
-    """Where a node is, which `network show` reads again."""
-    return f"latitude {node.where[0]:.2f}, longitude {node.where[1]:.2f}" if node.where else ""
-
-
-def iface_line(network, iface):
-    """An interface as a table."""
-    octets = "" if iface.queue_octets is None else f", queue_octets = {iface.queue_octets}"
-    node, address = network.nodes[iface.node].name, fields.address_said(iface.address)
-    place = f'name = "{iface.name}", node = "{node}", address = "{address}"'
-    return f"{{{place}, queue = {iface.queue}{octets}}}"
-
-
-def link_line(network, link):
-    """A link as a table."""
-    a, b = network.ifaces[link.a].name, network.ifaces[link.b].name
-    return f'{{a = "{a}", b = "{b}", rate = {link.rate}, delay = {link.delay}}}'
-
-
-def route_line(network, route):
+def route_table(network, route):
     """A route as a table."""
-    to = fields.prefix_said(route.prefix, route.length)
-    return f'{{node = "{network.nodes[route.node].name}", to = "{to}", via = "{network.ifaces[route.via].name}"}}'
+    return {"node": network.nodes[route.node].name, "to": fields.prefix_said(route.prefix, route.length),
+            "via": network.ifaces[route.via].name}
 
 
 def packet_line(at, packet):
@@ -41,49 +25,50 @@ def packet_line(at, packet):
     return f'  {{at = {at}, data = "{packet}"}},\n'
 
 
-def raw_line(network, source):
-    """A raw source as a table, which has a line for each packet."""
-    node, via = network.nodes[source.node].name, network.ifaces[source.via].name
-    packets = "".join(packet_line(at, packet) for at, packet in source.packets)
-    return f'{{kind = "raw", node = "{node}", via = "{via}", packet = [\n{packets}  ]}}'
-
-
 def source_line(network, source):
-    """A source as a table."""
+    """A source as a table, which has a line for each packet of a raw one."""
+    node, is_cbr = network.nodes[source.node].name, source.kind == "cbr"
     if source.kind == "raw":
-        return raw_line(network, source)
-    node, to = network.nodes[source.node].name, fields.address_said(source.to)
-    ends = f'kind = "{source.kind}", node = "{node}", to = "{to}"'
-    ports = f"sport = {source.sport}, dport = {source.dport}" if source.kind == "cbr" else f"ident = {source.ident}"
-    when = f"start = {source.start}, interval = {source.interval}, count = {source.count}"
-    more = (f", ttl = {source.ttl}" if source.ttl != 64 else "") + (f", fill = {source.fill}" if source.fill else "")
-    return f"{{{ends}, {ports}, size = {source.size}, {when}{more}}}"
+        packets = "".join(packet_line(at, packet) for at, packet in source.packets)
+        via = network.ifaces[source.via].name
+        return f'{{kind = "raw", node = "{node}", via = "{via}", packet = [\n{packets}  ]}}'
+    ports = {"sport": source.sport, "dport": source.dport} if is_cbr else {"ident": source.ident}
+    return said({"kind": source.kind, "node": node, "to": fields.address_said(source.to), **ports, "size": source.size,
+                 "start": source.start, "interval": source.interval, "count": source.count,
+                 "ttl": source.ttl if source.ttl != 64 else None, "fill": source.fill or None})
 
 
 def array(key, tables, remarks=()):
     """An array of tables, one a line, perhaps each with what is said of it."""
-    said = itertools.zip_longest(tables, remarks)
-    return "\n".join([f"{key} = [", *(f"  {table},{f'  # {remark}' if remark else ''}" for table, remark in said), "]"])
+    both = itertools.zip_longest(tables, remarks)
+    lines = (f"  {table},{f'  # {remark}' if remark else ''}" for table, remark in both)
+    return "\n".join([f"{key} = [", *lines, "]"])
 
 
 def tables(network):
     """The tables of each array."""
+    nodes, ifaces = network.nodes, network.ifaces
     return {
-        "node": [node_line(node) for node in network.nodes],
-        "iface": [iface_line(network, iface) for iface in network.ifaces],
-        "link": [link_line(network, link) for link in network.links],
-        "route": [route_line(network, route) for route in network.routes],
+        "node": [said({"name": node.name, "kind": node.kind, "partition": node.partition, "ports": node.ports or None})
+                 for node in nodes],
+        "iface": [said({"name": iface.name, "node": nodes[iface.node].name,
+                        "address": fields.address_said(iface.address), "queue": iface.queue,
+                        "queue_octets": iface.queue_octets}) for iface in ifaces],
+        "link": [said({"a": ifaces[link.a].name, "b": ifaces[link.b].name, "rate": link.rate, "delay": link.delay})
+                 for link in network.links],
+        "route": [said(route_table(network, route)) for route in network.routes],
         "source": [source_line(network, source) for source in network.sources],
     }
 
 
 def text(made, title=""):
-    """The whole text, with what people read of nodes, links and sources."""
+    """The whole text, with what people read of nodes, links and sources; `network show` reads the places again."""
     network = made.network
     is_second = any(iface.queue_octets is not None for iface in network.ifaces)
     owners, stop = network.node_of_address(), f"{network.stop}   # nanoseconds: {units.time_said(network.stop)}"
     remarks = {
-        "node": map(node_remark, network.nodes),
+        "node": (f"latitude {node.where[0]:.2f}, longitude {node.where[1]:.2f}" if node.where else ""
+                 for node in network.nodes),
         "link": (f"{units.rate_said(link.rate)}, {units.time_said(link.delay)}" for link in network.links),
         "source": (f"to {network.nodes[owners[source.to]].name}" for source in network.sources),
     }

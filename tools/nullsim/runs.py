@@ -40,8 +40,8 @@ def processors() -> int:
 def pays(network: "topologies.Network") -> bool:
     """Whether the partitions have more events than channels in a window as long as the least lookahead."""
     nodes, found = network.nodes, traffic.expected(network)
-    cut = [link for number, link in enumerate(network.links)
-           if len({nodes[node].partition for node in network.link_nodes(number)}) == 2]
+    cut = [link for link, (one, other) in zip(network.links, network.pairs())
+           if nodes[one].partition != nodes[other].partition]
     window = min(map(traffic.lookahead, cut), default=network.stop)
     return sum(found.packets) * window >= network.stop * 2 * len(cut)
 

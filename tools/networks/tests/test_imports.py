@@ -22,9 +22,12 @@ REFUSED = [
 class Imports(tool.Folder):
     def imported(self, name, *words):
         """The SPEC of a file of the tests."""
-        status, said, beside = tool.call("import", os.path.join(tool.DATA, name), *words)
-        self.assertEqual(status, 0, beside)
-        return said
+        return self.done("import", os.path.join(tool.DATA, name), *words)[0]
+
+    def imported_from(self, name, text, *words):
+        """The SPEC of a file with a text: the text, and what it means."""
+        said, _ = self.done("import", *words, self.file(name, text))
+        return said, tomllib.loads(said)
 
     def test_each_kind_becomes_a_spec_of_its_nodes_and_links(self):
         for name, (nodes, links) in FILES.items():
@@ -48,13 +51,13 @@ class Imports(tool.Folder):
 
     def test_a_directed_graph_has_each_link_once(self):
         edges = '<edge source="0" target="1"/><edge source="1" target="0"/>'
-        for kind, count in (("directed", 1), ("undirected", 2)):
-            path = self.file("a.graphml",
-                             GRAPH.format(NODES + edges).replace("<graph>", f'<graph edgedefault="{kind}">'))
-            self.assertEqual(len(tomllib.loads(tool.call("import", path)[1])["link"]), count)
-        path = self.file("a.gml", "graph [ directed 1 node [ id 0 ] node [ id 1 ] edge [ source 0 target 1 ] edge [ "
-                                  "source 1 target 0 ] ]")
-        self.assertEqual(len(tomllib.loads(tool.call("import", path)[1])["link"]), 1)
+        graph = GRAPH.format(NODES + edges)
+        for count, name, text in (
+                (1, "a.graphml", graph.replace("<graph>", '<graph edgedefault="directed">')),
+                (2, "a.graphml", graph.replace("<graph>", '<graph edgedefault="undirected">')),
+                (1, "a.gml", "graph [ directed 1 node [ id 0 ] node [ id 1 ] edge [ source 0 target 1 ] edge [ source "
+                             "1 target 0 ] ]")):
+            self.assertEqual(len(self.imported_from(name, text)[1]["link"]), count)
 
     def test_gml_says_the_same(self):
         links = tomllib.loads(self.imported("towns.gml"))["link"]
@@ -65,13 +68,12 @@ class Imports(tool.Folder):
         links = tomllib.loads(self.imported("edges.txt"))["link"]
         self.assertEqual((links[0]["rate"], links[0]["delay"], links[1]["rate"], links[1]["delay"]),
                          ("10 Gbit/s", "3 ms", "10 Gbit/s", "4 ms"))
-        path = self.file("e.csv", "source,target,rate\nNew York,Los Angeles,10 Gbps\n")
-        self.assertEqual(tomllib.loads(tool.call("import", path)[1])["link"],
-                         [{"a": "new-york", "b": "los-angeles", "rate": "10 Gbit/s"}])
+        _, means = self.imported_from("e.csv", "source,target,rate\nNew York,Los Angeles,10 Gbps\n")
+        self.assertEqual(means["link"], [{"a": "new-york", "b": "los-angeles", "rate": "10 Gbit/s"}])
 
     def test_rocketfuels_weights_decide(self):
-        said = self.imported("weights.intra", "--latencies", os.path.join(tool.DATA, "latencies.intra"))
-        means = tomllib.loads(said)
+        latencies = os.path.join(tool.DATA, "latencies.intra")
+        means = tomllib.loads(self.imported("weights.intra", "--latencies", latencies))
         self.assertEqual(means["weight"], "cost")
         self.assertEqual([(link["cost"], link["delay"]) for link in means["link"]],
                          [(450, "4 ms"), (300, "4 ms"), (225, "4 ms"), (2000, "9 ms")])
@@ -84,37 +86,24 @@ class Imports(tool.Folder):
         for line, text in REFUSED:
             name, _, wanted = line.partition(" ")
             with self.subTest(wanted=wanted):
-                path = self.file(name, text)
-                status, said, beside = tool.call("import", path)
-                self.assertEqual((status, said), (3, ""), beside)
-                self.assertIn(wanted, beside.replace(self.folder + "/", ""))
-                self.assertEqual(beside.count("\n"), 1)
+                self.assertIn(wanted, self.refused("import", self.file(name, text)))
 
     def test_the_largest_piece(self):
-        path = self.file("a.txt", "a b\nb c\nd e\n")
-        means = tomllib.loads(tool.call("import", "--largest", path)[1])
+        _, means = self.imported_from("a.txt", "a b\nb c\nd e\n", "--largest")
         self.assertEqual([node["name"] for node in means["node"]], ["a", "b", "c"])
 
-    def test_names_that_clash_with_hosts(self):
-        path = self.file("a.txt", "x-h1 x\nx y\n")
-        status, said, _ = tool.call("import", path)
-        self.assertEqual(status, 0)
-        self.assertEqual(len(tomllib.loads(tool.made(said))["node"]), 6)
-
-    def test_a_long_name_with_capitals_and_accents(self):
+    def test_names_that_clash_with_hosts_or_are_long(self):
         long = "ÉCOLE-" + "Très-Loin-" * 6
-        path = self.file("a.txt", f"{long} {long}2\n")
-        status, said, _ = tool.call("import", path)
-        self.assertEqual(status, 0)
-        self.assertIn("ecole-tres-loin-tres-loin", said)
-        self.assertEqual(len(tomllib.loads(tool.made(said))["node"]), 4)
+        for text, name, count in (("x-h1 x\nx y\n", "x-h1", 6),
+                                  (f"{long} {long}2\n", "ecole-tres-loin-tres-loin", 4)):
+            said, _ = self.imported_from("a.txt", text)
+            self.assertIn(name, said)
+            self.assertEqual(len(tomllib.loads(tool.made(said))["node"]), count)
 
     def test_a_network_too_large_for_hosts_has_none(self):
-        path = self.file("a.txt", "".join(f"n{number} n{number + 1}\n" for number in range(600)))
-        status, said, _ = tool.call("import", path)
-        self.assertEqual(status, 0)
-        self.assertEqual(tomllib.loads(said)["defaults"]["node"]["hosts"], 0)
-        self.assertEqual(tomllib.loads(said)["flow"][0]["among"], "*")
+        text = "".join(f"n{number} n{number + 1}\n" for number in range(600))
+        _, means = self.imported_from("a.txt", text)
+        self.assertEqual((means["defaults"]["node"]["hosts"], means["flow"][0]["among"]), (0, "*"))
 
     @tool.needs_nullsim
     def test_what_is_imported_arrives(self):

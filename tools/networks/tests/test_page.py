@@ -5,7 +5,7 @@ import os
 import re
 from html.parser import HTMLParser
 
-from networks import drawing, places
+from networks import drawing
 from networks.tests import tool
 
 EMPTY = ("meta", "br", "hr", "img", "input", "link")
@@ -19,8 +19,7 @@ class Balanced(HTMLParser):
         self.open, self.faults = [], []
 
     def handle_starttag(self, tag, attrs):
-        if tag not in EMPTY:
-            self.open.append(tag)
+        self.open += [] if tag in EMPTY else [tag]
 
     def handle_startendtag(self, tag, attrs):
         pass
@@ -31,16 +30,12 @@ class Balanced(HTMLParser):
 
 
 class Pages(tool.Folder):
-    def page(self, name):
-        status, said, beside = tool.call("show", tool.path_of(name))
-        self.assertEqual(status, 0, beside)
-        checked = Balanced()
+    def check(self, name, drawer):
+        """The page is whole, loads nothing, says who drew it and has every node."""
+        said, checked = self.done("show", tool.path_of(name))[0], Balanced()
         checked.feed(said)
         self.assertEqual((checked.open, checked.faults), ([], []))
-        return said
-
-    def check(self, said, name):
-        """It loads nothing, and has every node."""
+        self.assertIn(drawer, said)
         addresses = set(re.findall(r"https?://[^\"'<> ]*", said))
         self.assertLessEqual(addresses, {"http://www.w3.org/2000/svg", "http://www.w3.org/1999/xlink"})
         for word in ("<script", " src=", "@import", "url("):
@@ -51,32 +46,28 @@ class Pages(tool.Folder):
     @tool.needs_program("dot")
     def test_by_graphviz(self):
         for name in ("abilene", "fat-tree", "campus", "office"):
-            said = self.page(name)
-            self.assertIn("Drawn by Graphviz.", said)
-            self.check(said, name)
+            self.check(name, "Drawn by Graphviz.")
 
     @tool.needs_program("dot")
     def test_a_network_with_places_is_a_map(self):
-        spec = tool.call("import", os.path.join(tool.EXAMPLES, "research-40.graphml"))[1]
-        cut = tool.call("partition", self.file("x.toml", tool.made(spec)), "2")[1]
+        spec, _ = self.done("import", os.path.join(tool.EXAMPLES, "research-40.graphml"))
+        cut, _ = self.done("partition", self.file("x.toml", tool.made(spec)), "2")
         network = tool.network_of(cut)
-        points = {node.name: places.points_of(network)[number] for number, node in enumerate(network.nodes)}
+        points = {node.name: drawing.points_of(network)[number] for number, node in enumerate(network.nodes)}
         self.assertLess(points["lisbon"][0], points["wien"][0])
         self.assertLess(points["roma"][1], points["oslo"][1])
-        self.assertLess(abs(points["oslo-h1"][0] - points["oslo"][0]), 2 * places.BESIDE)
+        self.assertLess(abs(points["oslo-h1"][0] - points["oslo"][0]), 2 * drawing.BESIDE)
         self.assertIn("each node about where", tool.call("show", self.file("y.toml", cut))[1])
-        self.assertIsNone(places.points_of(tool.network_of(tool.made(re.sub(", place = [^]]*]", "", spec)))))
+        self.assertIsNone(drawing.points_of(tool.network_of(tool.made(re.sub(", place = [^]]*]", "", spec)))))
 
     def test_the_globe_is_cut_where_nothing_is(self):
-        found = places.flat({0: (-36.85, 174.76), 1: (37.77, -122.42), 2: (-33.87, 151.21)})
+        found = drawing.flat({0: (-36.85, 174.76), 1: (37.77, -122.42), 2: (-33.87, 151.21)})
         self.assertEqual(sorted(found, key=lambda number: found[number][0]), [2, 0, 1])
 
     def test_without_graphviz(self):
         with tool.without(drawing.shutil, "which"):
             for name in ("abilene", "campus", "ring"):
-                said = self.page(name)
-                self.assertIn("Graphviz is not installed", said)
-                self.check(said, name)
+                self.check(name, "Graphviz is not installed")
 
     def test_names_of_files_are_escaped(self):
         path = self.file("<b>&.toml", tool.example("ring"))

@@ -4,7 +4,7 @@ import re
 import tomllib
 from unittest import mock
 
-from networks import coarse, cutting, errors, fewest, limits, partition, topology, traffic
+from networks import coarse, cutting, errors, limits, partition, topology, traffic
 from networks.tests import tool
 from networks.tests.test_routes import spec_of
 
@@ -16,8 +16,7 @@ class Partitions(tool.Folder):
     def cut(self, text, count, by):
         """A text with partitions, as a file, and the same in one partition."""
         whole = self.file("whole.toml", WHOLE.sub("partition = 0", text))
-        status, said, beside = tool.call("partition", whole, count, "--by", by)
-        self.assertEqual(status, 0, beside)
+        said, beside = self.done("partition", whole, count, "--by", by)
         self.assertEqual({node["partition"] for node in tomllib.loads(said)["node"]}, set(range(count)))
         self.assertEqual(WHOLE.sub("partition = 0", said), WHOLE.sub("partition = 0", text))
         return self.file("cut.toml", said), whole, beside
@@ -25,47 +24,39 @@ class Partitions(tool.Folder):
     def both(self, by):
         for name, count in EXAMPLES.items():
             with self.subTest(name=name):
-                path, _, beside = self.cut(tool.example(name), count, by)
+                (path, _, beside), again = (self.cut(tool.example(name), count, by) for _ in range(2))
                 self.assertIn("cut link", beside)
-                again = self.cut(tool.example(name), count, by)[0]
-                self.assertEqual(path, again)
+                self.assertEqual(path, again[0])
         path, _, beside = self.cut(tool.example("campus"), 4, by)
         self.assertEqual(tool.read(path), tool.example("campus"), "the places of the campus are found again")
         self.assertIn("north to south           0, 1       2,000,008    4,243            16.97", beside)
 
-    @tool.needs_program("gpmetis")
-    def test_metis(self):
-        self.both("metis")
-
-    @tool.needs_module("networkx")
-    def test_kernighan_lin(self):
-        self.both("kernighan-lin")
+    test_metis = tool.needs_program("gpmetis")(lambda self: self.both("metis"))
+    test_kernighan_lin = tool.needs_module("networkx")(lambda self: self.both("kernighan-lin"))
 
     @tool.needs_program("gpmetis")
     def test_few_channels(self):
         """Where a cut for even work has more channels than there may be, one with fewer is taken."""
         network = tool.network_of(tool.example("campus"))
         found = traffic.expected(network)
-        even = fewest.channels(network, partition.split(network, found, 8, "metis")[0])
+        even = network.channels(partition.split(network, found, 8, "metis")[0])
         with mock.patch.object(limits, "CHANNELS", even - 1):
             parts, how = partition.split(network, found, 8, "metis")
-        self.assertLess(fewest.channels(network, parts), even)
+        self.assertLess(network.channels(parts), even)
         self.assertEqual(set(parts), set(range(8)))
         self.assertIn(f"parts of even work would have {even}", how)
 
-    def certify(self, by):
-        for name, count in EXAMPLES.items():
+    def certify(self, by, further=()):
+        for name, count, *replicas in (*EXAMPLES.items(), *further):
             with self.subTest(name=name):
                 path, whole, _ = self.cut(tool.example(name), count, by)
                 self.nullsim("check", path)
-                self.assertGreater(self.certified(path, whole), 0)
+                self.assertGreater(self.certified(path, whole, 2, *replicas), 0)
 
     @tool.needs_nullsim
     @tool.needs_program("gpmetis")
     def test_metis_is_certified(self):
-        self.certify("metis")
-        path, whole, _ = self.cut(tool.example("campus"), 4, "metis")
-        self.assertGreater(self.certified(path, whole, 2, 2), 0)
+        self.certify("metis", [("campus", 4, 2)])
 
     @tool.needs_nullsim
     @tool.needs_module("networkx")
@@ -74,15 +65,14 @@ class Partitions(tool.Folder):
 
     def test_what_is_refused(self):
         path = self.file("x.toml", tool.example("ring"))
-        self.assertIn("3 nodes cannot be shared out among 4 partitions", tool.call("partition", path, 4)[2])
+        self.assertIn("3 nodes cannot be shared out among 4 partitions", self.refused("partition", path, 4))
         for count in (0, 65, -1):
-            self.assertIn("N has to be 1 to 64", tool.call("partition", path, "--", count)[2])
+            self.assertIn("N has to be 1 to 64", self.refused("partition", path, "--", count))
         self.assertEqual(tool.call("partition", path, "two")[0], 2)
 
     def test_a_missing_package_is_said(self):
         with tool.without(cutting.shutil, "which"), tool.without(cutting, "module"):
-            status, said, beside = tool.call("partition", self.file("x.toml", tool.example("ring")), 2)
-        self.assertEqual((status, said), (4, ""))
+            beside = self.refused("partition", self.file("x.toml", tool.example("ring")), 2, status=4)
         self.assertIn("METIS is not installed: apt-get install metis, or pip install pymetis; and networkx is not "
                       "installed for it", beside)
         self.assertIn("the Python that runs is /", beside)
@@ -109,26 +99,17 @@ class Partitions(tool.Folder):
         text = tool.example("ring").replace("source = [\n  ", f"source = [\n  {raw}")
         self.assertIn(raw, text)
         path = self.file("x.toml", text)
-        for words in (("routes",), ("show",)):
-            status, said, beside = tool.call(*words, path)
-            self.assertEqual(status, 0, beside)
-            self.assertIn("raw", said)
+        for word in ("routes", "show"):
+            self.assertIn("raw", self.done(word, path)[0])
 
     def test_long_links_are_cut(self):
         network = tool.network_of(tool.example("campus"))
-        group_of = coarse.groups_below(network, 2_000_008)
-        self.assertEqual(max(group_of) + 1, 4)
-        self.assertEqual([group_of[number] for number in range(len(network.nodes))],
-                         [node.partition for node in network.nodes])
+        self.assertEqual(coarse.groups_below(network, 2_000_008), [node.partition for node in network.nodes])
 
-
-class Traffic(tool.Folder):
     def test_packets_are_those_of_the_sources(self):
         network = tool.network_of(tool.made(spec_of("line").replace('among = "*"', 'among = "*-h1"')))
         found = traffic.expected(network)
-        self.assertEqual(found.lengths, [4, 4, 4, 4])
-        self.assertEqual(sum(found.packets), 4 * 4 * 3)
-        self.assertEqual(sum(found.hops), 4 * 5 * 3)
+        self.assertEqual((found.lengths, sum(found.packets), sum(found.hops)), ([4] * 4, 4 * 4 * 3, 4 * 5 * 3))
 
     def test_lookahead_is_that_of_the_program(self):
         self.assertEqual(traffic.lookahead(topology.Link(0, 1, 2_000_000, 10_000_000)), 10_004_000)
@@ -140,8 +121,6 @@ class Traffic(tool.Folder):
             found = {iface.name: count for iface, count in zip(network.ifaces, traffic.expected(network).packets)}
             self.assertEqual(self.measured(tool.path_of(name), "interface", "packets_out"), found)
 
-
-class Texts(tool.Folder):
     def test_mistakes_in_a_topology_have_their_place(self):
         text = tool.example("office")
         for old, new, said in (
@@ -159,10 +138,8 @@ class Texts(tool.Folder):
             ("queue = 5}, ", "queu = 5}, ", 'key "queu" is unknown; did you mean "queue"?'),
         ):
             self.assertIn(old, text)
-            for words in (("routes",), ("partition",), ("show",)):
-                path = self.file("x.toml", text.replace(old, new, 1))
-                status, out, beside = tool.call(*words, path, *((2,) if words == ("partition",) else ()))
-                self.assertEqual((status, out), (3, ""), said)
-                self.assertIn(said, beside)
+            path = self.file("x.toml", text.replace(old, new, 1))
+            for words in (("routes", path), ("partition", path, 2), ("show", path)):
+                self.assertIn(said, self.refused(*words))
         with self.assertRaises(errors.Refused):
             tool.network_of("format = 1\n")

@@ -1,11 +1,13 @@
 """Routes: the tables decide as asked, paths are shortest, and comments stay."""
 
+import itertools
+import math
 import unittest
 from unittest import mock
 
-from networks import aggregate, chance, errors, limits, paths, routes, topology
+from networks import chance, errors, limits, paths, routes, topology
 from networks.tests import tool
-from networks.ways import Ways
+from networks.paths import Ways
 
 GROUPS = {
     "ring": 'kind = "ring"\nname = "r"\nnodes = 7\nhosts = 1',
@@ -35,9 +37,8 @@ def mixed(weight, spread):
             rate, delay = 10 ** (6 + some.below(4)), some.below(4) * 1000
             lines.append(f'[[link]]\na = "h{number}"\nb = "x-{other}"\nrate = {rate}\ndelay = {delay}\ncost = '
                          f'{1 + some.below(3)}')
-    for number in range(20):
-        lines.append(f'[[link]]\na = "x-{1 + some.below(12)}"\nb = "x-{13 + some.below(13)}"\nrate = '
-                     f'{10 ** (6 + some.below(4))}\ndelay = {some.below(3) * 10**6}')
+    lines += [f'[[link]]\na = "x-{1 + some.below(12)}"\nb = "x-{13 + some.below(13)}"\nrate = '
+              f'{10 ** (6 + some.below(4))}\ndelay = {some.below(3) * 10**6}' for _ in range(20)]
     return "\n".join(lines)
 
 
@@ -47,7 +48,7 @@ class Tables(unittest.TestCase):
         for size in range(1, 60):
             addresses = sorted({some.below(1 << 12) for _ in range(size)})
             asked = [None if some.below(6) == 0 else some.below(3) for _ in addresses]
-            found = aggregate.Tree(addresses, range(len(addresses))).table(asked)
+            found = routes.Tree(addresses, range(len(addresses))).table(asked)
             table = [topology.Route(0, prefix, length, via) for prefix, length, via in found]
             self.assertEqual(len({(route.prefix, route.length) for route in table}), len(table))
             self.assertLessEqual(len(table), sum(via is not None for via in asked))
@@ -61,12 +62,12 @@ class Tables(unittest.TestCase):
         for _ in range(60):
             addresses = sorted({some.below(16) for _ in range(4)})
             asked = [some.below(2) for _ in addresses]
-            tree = aggregate.Tree(addresses, range(len(addresses)))
+            tree = routes.Tree(addresses, range(len(addresses)))
             self.assertEqual(len(tree.table(asked)), least_table(tree, addresses, asked))
 
     def test_none_is_asked(self):
-        self.assertEqual(aggregate.Tree([], []).table([]), [])
-        self.assertEqual(aggregate.Tree([5, 9], [0, 1]).table([None, None]), [])
+        for addresses in ([], [5, 9]):
+            self.assertEqual(routes.Tree(addresses, range(len(addresses))).table([None] * len(addresses)), [])
 
 
 def longest(table, address):
@@ -77,12 +78,10 @@ def longest(table, address):
 
 def least_table(tree, addresses, asked):
     """How many prefixes the smallest table has, by trying all."""
-    places = tree.prefixes
     best = len(asked)
-    for code in range(3 ** len(places)):
-        chosen = [(code // 3**number) % 3 for number in range(len(places))]
-        table = [topology.Route(0, *place, via - 1) for place, via in zip(places, chosen) if via]
-        if len(table) < best and all(longest(table, address) == via for address, via in zip(addresses, asked)):
+    for chosen in itertools.product((None, 0, 1), repeat=len(tree.prefixes)):
+        table = [topology.Route(0, *place, via) for place, via in zip(tree.prefixes, chosen) if via is not None]
+        if len(table) < best and [longest(table, address) for address in addresses] == asked:
             best = len(table)
     return best
 
@@ -91,14 +90,12 @@ class Paths(unittest.TestCase):
     def lengths(self, network, weight):
         """The cost of the way that packets go, for each two nodes; None where there is none."""
         ways, found = Ways(network), {}
-        first = {}
-        for iface in network.ifaces:
-            first.setdefault(iface.node, iface.address)
+        first = {iface.node: iface.address for iface in reversed(network.ifaces)}
         for start in range(len(network.nodes)):
             for goal, address in first.items():
                 passed, end = ways.way(start, address)
-                found[start, goal] = sum(paths.cost(network.links[link], weight)
-                                         for _, _, link in passed) if end is not None else None
+                costs = (paths.WEIGHTS[weight](network.links[link]) for _, _, link in passed)
+                found[start, goal] = sum(costs) if end is not None else None
         return found
 
     def test_shortest_by_all_pairs(self):
@@ -124,39 +121,30 @@ class Paths(unittest.TestCase):
 
     def test_a_host_with_one_link_has_a_default_route(self):
         network = tool.network_of(tool.made(spec_of("star")))
-        for number, own in enumerate(network.node_routes()):
-            if network.nodes[number].kind == "host":
+        for node, own in zip(network.nodes, network.node_routes()):
+            if node.kind == "host":
                 self.assertEqual([(route.prefix, route.length) for route in own], [(0, 0)])
 
     def test_spread_uses_every_core(self):
         for spread, least in (("false", 1), ("true", 4)):
             network = tool.network_of(tool.made(spec_of("fat-tree", f'weight = "hops"\nspread = {spread}')))
-            ways, used = Ways(network), set()
-            for iface in network.ifaces:
-                if network.nodes[iface.node].kind == "host":
-                    used |= {network.nodes[node].name
-                             for node, _, _ in ways.way(network.nodes.index(network.nodes[-1]), iface.address)[0]}
+            ways, last = Ways(network), len(network.nodes) - 1
+            goals = [iface.address for iface in network.ifaces if network.nodes[iface.node].kind == "host"]
+            used = {network.nodes[node].name for goal in goals for node, _, _ in ways.way(last, goal)[0]}
             self.assertGreaterEqual(sum("core" in name for name in used), least)
 
 
 def floyd(network, weight):
     """Shortest paths between all nodes, hosts only at their ends: Floyd and Warshall's way."""
-    count = len(network.nodes)
-    found = {(one, other): 0 if one == other else None for one in range(count) for other in range(count)}
-    for number, link in enumerate(network.links):
-        one, other = network.link_nodes(number)
-        price = paths.cost(link, weight)
+    nodes = range(len(network.nodes))
+    found = {(one, other): 0 if one == other else math.inf for one in nodes for other in nodes}
+    for link, (one, other) in zip(network.links, network.pairs()):
         for pair in ((one, other), (other, one)):
-            if found[pair] is None or price < found[pair]:
-                found[pair] = price
-    for middle in (number for number, node in enumerate(network.nodes) if node.kind == "router"):
-        for one in range(count):
-            for other in range(count):
-                left, right = found[one, middle], found[middle, other]
-                if left is not None and right is not None and (found[one, other] is None
-                                                               or left + right < found[one, other]):
-                    found[one, other] = left + right
-    return found
+            found[pair] = min(found[pair], paths.WEIGHTS[weight](link))
+    for middle in (number for number in nodes if network.nodes[number].kind == "router"):
+        for one, other in found:
+            found[one, other] = min(found[one, other], found[one, middle] + found[middle, other])
+    return {pair: None if price == math.inf else price for pair, price in found.items()}
 
 
 def by_networkx(network, weight):
@@ -164,26 +152,22 @@ def by_networkx(network, weight):
     import networkx
 
     graph, found = networkx.DiGraph(), {}
-    for number, link in enumerate(network.links):
-        one, other = network.link_nodes(number)
+    for link, (one, other) in zip(network.links, network.pairs()):
         for left, right in ((one, other), (other, one)):
             # A host is two nodes: where paths begin, and where they end.
             begin = ("from", left) if network.nodes[left].kind == "host" else left
-            price = min(paths.cost(link, weight), graph.get_edge_data(begin, right, {}).get("weight", 1 << 80))
+            price = min(paths.WEIGHTS[weight](link), graph.get_edge_data(begin, right, {}).get("weight", 1 << 80))
             graph.add_edge(begin, right, weight=price)
     for start, node in enumerate(network.nodes):
         begin = ("from", start) if node.kind == "host" else start
         lengths = networkx.single_source_dijkstra_path_length(graph, begin)
-        for goal in range(len(network.nodes)):
-            found[start, goal] = 0 if start == goal else lengths.get(goal)
+        found.update(((start, goal), 0 if start == goal else lengths.get(goal)) for goal in range(len(network.nodes)))
     return found
 
 
-class OnlyFlows(unittest.TestCase):
+class Counts(unittest.TestCase):
     def test_routes_to_the_ends_of_flows_are_fewer_and_as_short(self):
-        text = spec_of("random").replace('among = "*"',
-                                         'from = "x-1-h1"\nto = ["x-9-h1", "x-20-h1"]').replace('pairs = "across"\n',
-                                                                                                "")
+        text = spec_of("random").replace('among = "*"\npairs = "across"', 'from = "x-1-h1"\nto = ["x-9-h1", "x-20-h1"]')
         every = tool.network_of(tool.made(text))
         few = tool.network_of(tool.made("only_flows = true\n" + text))
         self.assertLess(len(few.routes), len(every.routes) / 2)
@@ -193,8 +177,6 @@ class OnlyFlows(unittest.TestCase):
             self.assertEqual(Ways(every).way(source.node, source.to), Ways(few).way(source.node, source.to))
             self.assertEqual(Ways(every).way(goal, back), Ways(few).way(goal, back))
 
-
-class Limits(unittest.TestCase):
     def test_too_many_routes_are_refused_with_advice(self):
         every = tool.network_of(tool.made(spec_of("random")))
         some = tool.network_of(tool.made(spec_of("random").replace('among = "*"\npairs = "across"',

@@ -1,8 +1,10 @@
 """How tests call tools/network and nullsim."""
 
 import contextlib
+import importlib.util
 import io
 import os
+import pathlib
 import shutil
 import subprocess
 import sys
@@ -10,11 +12,10 @@ import tempfile
 import unittest
 from unittest import mock
 
-from networks import command, making, spec, toml, writing
+from networks import command, making, spec, toml, topology, writing
 
-HERE = os.path.dirname(os.path.abspath(__file__))
-ROOT = os.path.dirname(os.path.dirname(os.path.dirname(HERE)))
-DATA = os.path.join(HERE, "data")
+DATA = os.path.join(os.path.dirname(os.path.abspath(__file__)), "data")
+ROOT = os.path.abspath(f"{DATA}/../../../..")
 EXAMPLES = os.path.join(ROOT, "examples")
 NULLSIM = os.environ.get("NULLSIM", os.path.join(ROOT, "bin", "nullsim"))
 SECONDS = 60
@@ -24,11 +25,8 @@ needs_nullsim = unittest.skipUnless(os.access(NULLSIM, os.X_OK), f"nullsim is no
 
 def needs_module(name):
     """Passes over a test where a package is missing."""
-    try:
-        __import__(name)
-        return lambda test: test
-    except ImportError:
-        return unittest.skip(f"the package {name} is not installed for {sys.executable}")
+    is_there = importlib.util.find_spec(name)
+    return unittest.skipUnless(is_there, f"the package {name} is not installed for {sys.executable}")
 
 
 def needs_program(name):
@@ -38,14 +36,7 @@ def needs_program(name):
 
 def read(*parts):
     """The text of a file."""
-    with open(os.path.join(*parts), encoding="utf-8") as file:
-        return file.read()
-
-
-def octets(*parts):
-    """The octets of a file."""
-    with open(os.path.join(*parts), "rb") as file:
-        return file.read()
+    return pathlib.Path(*parts).read_text(encoding="utf-8")
 
 
 def path_of(name):
@@ -89,8 +80,6 @@ def made(text, name="x.spec.toml"):
 
 def network_of(text, name="x.toml"):
     """The network of a topology text."""
-    from networks import topology
-
     return topology.read(toml.Text(name, text))
 
 
@@ -103,15 +92,25 @@ class Folder(unittest.TestCase):
 
     def file(self, name, content):
         """A file with a text, or with octets."""
-        path = os.path.join(self.folder, name)
-        with open(path, "wb") as file:
-            file.write(content.encode() if isinstance(content, str) else content)
-        return path
+        path = pathlib.Path(self.folder, name)
+        path.write_bytes(content.encode() if isinstance(content, str) else content)
+        return str(path)
+
+    def done(self, *words):
+        """What tools/network prints, which has to end well, and what it says beside."""
+        status, said, beside = call(*words)
+        self.assertEqual(status, 0, beside)
+        return said, beside
+
+    def refused(self, *words, status=3):
+        """What tools/network says that refuses its input: one line, without the folder of the test."""
+        found, said, beside = call(*words)
+        self.assertEqual((found, said, beside.count("\n")), (status, "", 1), beside)
+        return beside.replace(self.folder + "/", "")
 
     def nullsim(self, *words):
         """What nullsim prints, which has to end well."""
-        ended = subprocess.run([NULLSIM, *words], stdout=subprocess.PIPE, stderr=subprocess.PIPE, timeout=SECONDS,
-                               check=False)
+        ended = subprocess.run([NULLSIM, *words], capture_output=True, timeout=SECONDS, check=False)
         self.assertEqual(ended.returncode, 0, (words, ended.stdout[-500:], ended.stderr))
         return ended.stdout
 
@@ -135,11 +134,11 @@ class Folder(unittest.TestCase):
     def certified(self, path, whole, workers=2, replicas=1):
         """A topology is certified, and its files are those of the whole one in one partition; gives how many files."""
         found = []
-        for topology, *words in ((path, workers, replicas), (whole, 1, 1)):
+        for text, *words in ((path, workers, replicas), (whole, 1, 1)):
             with tempfile.TemporaryDirectory(dir=self.folder) as folder:
-                said = self.nullsim("run", topology, folder, *map(str, words)).decode()
+                said = self.nullsim("run", text, folder, *map(str, words)).decode()
                 self.assertTrue(said.startswith("certified\n"), said[:200])
-                found.append({name: octets(folder, name) for name in sorted(os.listdir(folder))})
-        self.assertEqual(*map(list, found))
+                found.append({file.name: file.read_bytes() for file in pathlib.Path(folder).iterdir()})
+        self.assertEqual(found[0].keys(), found[1].keys())
         self.assertEqual([name for name in found[0] if found[0][name] != found[1][name]], [])
         return len(found[0])
