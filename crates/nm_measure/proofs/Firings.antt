@@ -33,7 +33,7 @@ use Rattle.nm_measure.specs.Lanes.{CanBe, lanes_in, with_offer}
 use Rattle.nm_model.specs.Before.{events_at, is_at, same_place}
 use Rattle.nm_measure.specs.Sent.{AreSent, is_fire, made_by, sent_in}
 use Rattle.nm_measure.specs.Tagged.{SendsByOwn}
-use Rattle.nm_measure.specs.Ways.{WayEnd, dropped_as, end_of, ends_at, ends_in, ends_next, made_as, own_tag, time_of, tagged_list, tagged_net, tagging}
+use Rattle.nm_measure.specs.Ways.{WayEnd, dropped_as, way_end, ends_at, ends_in, ends_next, made_as, own_tag, time_of, tagged_list, tagged_net, tagging}
 use Rattle.nm_measure.proofs.Tagged.{lanes_of, lanes_offered, tagged_first}
 use Rattle.nm_measure.proofs.Turns.{next_state}
 use Rattle.nm_measure.proofs.Following.{came_with, can_be, few_arrived, offering_kept, sends_there, tag_of}
@@ -65,7 +65,7 @@ pub record SourceStep (t : TopologyValue) (n now j : ℕ) (h : Happened) : Type 
   pub packet : List ℕ
   pub can : CanBe (length t.ifaces) (lanes_in t (tagged_list t n)) h.offering
   pub lanes : (k : ℕ) → with_offer h.offering (own_tag j (sent_in (net_of t) j n) now) (lanes_in t (tagged_list t n)) k ≡ lanes_in t (tagged_list t (suc n)) k
-  pub ends : ends_in t n ++ made_as (end_of now (own_tag j (sent_in (net_of t) j n) now, packet)) h.offering ≡ ends_in t (suc n)
+  pub ends : ends_in t n ++ made_as (way_end now (own_tag j (sent_in (net_of t) j n) now, packet)) h.offering ≡ ends_in t (suc n)
 
 module _ (t : TopologyValue) (own : SendsByOwn t) (n : ℕ) (kept : IsUntagged (tagged_list t n) (one_list (net_of t) n)) (is_net : IsNet (tagged_net t)) (orderly : IsOrderly (tagged_net t) (λ q. true) (tagged_list t n))
     (rises : KeysRise (net_of t) n) (now j : ℕ) (p : PartValue Held) (h : Happened) (next : IsNext t n now (Fire j) p h) where
@@ -126,7 +126,7 @@ module _ (t : TopologyValue) (own : SendsByOwn t) (n : ℕ) (kept : IsUntagged (
         (λ i. with_offer (offer_is i) (sym tag_is i) (lanes_in t (tagged_list t n)) k)
         ∙ sym (lanes_offered (tagged_net t) is_net state.port state.sent state.arrived low next.event.0.time None r.0 (with_tag made.0.0 r.1) follows made.0.0 (λ x. tag_of made.0.0 r.1 x) k)
         ∙ sym (after k);
-    ends = (λ i. ends_in t n ++ made_as (end_of (sym next.at_time i) (sym tag_is i, made.0.1)) (offer_is i))
+    ends = (λ i. ends_in t n ++ made_as (way_end (sym next.at_time i) (sym tag_is i, made.0.1)) (offer_is i))
         ∙ sym (ap (λ o. ends_in t n ++ ends_next t state o) there.1 ∙ ap (λ f. ends_in t n ++ ends_at t state next.event.0.time f) made.1);
   }
 

@@ -14,7 +14,7 @@ use Rattle.nm_measure.specs.declared.flow_counts.PacketOutcome.{PacketOutcome}
 use Rattle.nm_measure.specs.declared.flow_counts.PacketOutcome.TheVariants.{Delivered, Refused, Dropped, Discarded}
 use Rattle.nm_measure.specs.declared.flow_times.FlowTimes.{FlowTimes}
 use Rattle.nm_measure.specs.declared.tag.Tag.{Tag}
-use Rattle.nm_measure.specs.Counted.{AreArrivals, AreFlows, AreOutcomes, HasArrivals, HasEnds, HasOutcomes, delays_of, ended_so, how_many, is_own, is_sent, lasting, outcome_number}
+use Rattle.nm_measure.specs.Counted.{AreArrivals, AreFlows, AreOutcomes, HasArrivals, HasEnds, HasOutcomes, delays_of, ended_so, how_many, counts_for, is_sent, lasting, outcome_number}
 use Rattle.nm_measure.specs.Added.{AreAdded}
 use Rattle.nm_measure.specs.Delays.{AreDelays}
 use Rattle.nm_measure.specs.declared.spread.Spread.{Spread}
@@ -35,34 +35,34 @@ keep_no : {X : Type 0} (p : X → Bool) (xs : List X) (y : X) → p y ≡ false 
 keep_no p xs y h = kept-append p xs (y ∷ []) ∙ ap (λ b. keep_where p xs ++ cond b (y ∷ []) []) h ∙ append-nil (keep_where p xs)
 
 -- whose a tag is
-pub own_is : (j : ℕ) (tag : Tag) → is_sent tag.role ≡ true → tag.source ≡ j → is_own j tag ≡ true
+pub own_is : (j : ℕ) (tag : Tag) → is_sent tag.role ≡ true → tag.source ≡ j → counts_for j tag ≡ true
 own_is j tag sent at = ap (λ b. b && (tag.source == j)) sent ∙ ap (λ k. k == j) at ∙ number_tied j
 
 never : (b : Bool) → (b && false) ≡ false
 never true = refl
 never false = refl
 
-pub own_not : (j : ℕ) (tag : Tag) → tag.source ≢ j → is_own j tag ≡ false
+pub own_not : (j : ℕ) (tag : Tag) → tag.source ≢ j → counts_for j tag ≡ false
 own_not j tag apart = ap (λ b. is_sent tag.role && b) (number_apart tag.source j apart) ∙ never (is_sent tag.role)
 
-pub own_none : (j : ℕ) (tag : Tag) → is_sent tag.role ≡ false → is_own j tag ≡ false
+pub own_none : (j : ℕ) (tag : Tag) → is_sent tag.role ≡ false → counts_for j tag ≡ false
 own_none j tag none = ap (λ b. b && (tag.source == j)) none
 
-pub one_is : (j : ℕ) (tag : Tag) → is_own j tag ≡ true → one_of j tag ≡ 1
+pub one_is : (j : ℕ) (tag : Tag) → counts_for j tag ≡ true → one_of j tag ≡ 1
 one_is j tag h = ap (λ b. cond b 1 0) h
 
-pub one_not : (j : ℕ) (tag : Tag) → is_own j tag ≡ false → one_of j tag ≡ 0
+pub one_not : (j : ℕ) (tag : Tag) → counts_for j tag ≡ false → one_of j tag ≡ 0
 one_not j tag h = ap (λ b. cond b 1 0) h
 
 module _ (j : ℕ) (ends : List WayEnd) (e : WayEnd) where
   -- the end of another's packet
-  many_same : is_own j e.tag ≡ false → (o : PacketOutcome) → how_many j o (ends ++ e ∷ []) ≡ how_many j o ends
+  many_same : counts_for j e.tag ≡ false → (o : PacketOutcome) → how_many j o (ends ++ e ∷ []) ≡ how_many j o ends
   many_same h o =
       let a = count_push (ended_so j o) ends e in
       let b : ◌≡◌ {A = ℕ} (cond (ended_so j o e) 1 0) 0 = ap (λ b. cond (b && (outcome_number e.outcome == outcome_number o)) 1 0) h in
       omega (arith, a, b)
 
-  pub outcomes_same : is_own j e.tag ≡ false → (n : ℕ) (f : FlowCounts) → HasOutcomes j ends n f → HasOutcomes j (ends ++ e ∷ []) n f
+  pub outcomes_same : counts_for j e.tag ≡ false → (n : ℕ) (f : FlowCounts) → HasOutcomes j ends n f → HasOutcomes j (ends ++ e ∷ []) n f
   outcomes_same h n f was = record {
     delivered = was.delivered ∙ sym (many_same h Delivered);
     refused = was.refused ∙ sym (many_same h Refused);
@@ -72,13 +72,13 @@ module _ (j : ℕ) (ends : List WayEnd) (e : WayEnd) where
   }
 
   -- of a source's own
-  many_is : is_own j e.tag ≡ true → (o : PacketOutcome) → how_many j o (ends ++ e ∷ []) ≡ how_many j o ends + cond (outcome_number e.outcome == outcome_number o) 1 0
+  many_is : counts_for j e.tag ≡ true → (o : PacketOutcome) → how_many j o (ends ++ e ∷ []) ≡ how_many j o ends + cond (outcome_number e.outcome == outcome_number o) 1 0
   many_is h o =
       let a = count_push (ended_so j o) ends e in
       let b : ◌≡◌ {A = ℕ} (cond (ended_so j o e) 1 0) (cond (outcome_number e.outcome == outcome_number o) 1 0) = ap (λ b. cond (b && (outcome_number e.outcome == outcome_number o)) 1 0) h in
       omega (arith, a, b)
 
-  many_as : is_own j e.tag ≡ true → (o p : PacketOutcome) → e.outcome ≡ p → how_many j o (ends ++ e ∷ []) ≡ how_many j o ends + cond (outcome_number p == outcome_number o) 1 0
+  many_as : counts_for j e.tag ≡ true → (o p : PacketOutcome) → e.outcome ≡ p → how_many j o (ends ++ e ∷ []) ≡ how_many j o ends + cond (outcome_number p == outcome_number o) 1 0
   many_as h o p is = subst (λ q. how_many j o (ends ++ e ∷ []) ≡ how_many j o ends + cond (outcome_number q == outcome_number o) 1 0) is (many_is h o)
 
   -- the parts of two equal lists of counts
@@ -100,7 +100,7 @@ module _ (j : ℕ) (ends : List WayEnd) (e : WayEnd) where
     ap (λ l. first (rest (rest (rest (rest (rest l)))))) is,
   )
 
-  pub outcomes_more : is_own j e.tag ≡ true → (n : ℕ) (f g : FlowCounts) → HasOutcomes j ends (suc n) f → (p : PacketOutcome) → e.outcome ≡ p → Ends p f g → HasOutcomes j (ends ++ e ∷ []) n g
+  pub outcomes_more : counts_for j e.tag ≡ true → (n : ℕ) (f g : FlowCounts) → HasOutcomes j ends (suc n) f → (p : PacketOutcome) → e.outcome ≡ p → Ends p f g → HasOutcomes j (ends ++ e ∷ []) n g
   outcomes_more own n f g was Delivered is ends_so =
       let z = parts g.sent g.delivered g.refused g.dropped g.discarded g.under_way f.sent (f.delivered + 1) f.refused f.dropped f.discarded (f.under_way - 1) ends_so in
       let u = z.4 in let w = was.on_way in
@@ -149,24 +149,24 @@ module _ (j : ℕ) (ends : List WayEnd) (e : WayEnd) where
   arrivals_by : (l : List WayEnd) (x : FlowTimes) → keep_where (ended_so j Delivered) (ends ++ e ∷ []) ≡ l → by_kept l x → HasArrivals j (ends ++ e ∷ []) x
   arrivals_by l x is h = let z = subst (λ k. by_kept k x) (sym is) h in record { delays = z.0; octets = z.1 }
 
-  not_so : is_own j e.tag ≡ false → ended_so j Delivered e ≡ false
+  not_so : counts_for j e.tag ≡ false → ended_so j Delivered e ≡ false
   not_so h = ap (λ b. b && (outcome_number e.outcome == 0)) h
 
   other_end : (p : PacketOutcome) → e.outcome ≡ p → (outcome_number p == 0) ≡ false → ended_so j Delivered e ≡ false
-  other_end p is differs = ap (λ q. is_own j e.tag && (outcome_number q == 0)) is ∙ ap (λ b. is_own j e.tag && b) differs ∙ never (is_own j e.tag)
+  other_end p is differs = ap (λ q. counts_for j e.tag && (outcome_number q == 0)) is ∙ ap (λ b. counts_for j e.tag && b) differs ∙ never (counts_for j e.tag)
 
   pub arrivals_same : ended_so j Delivered e ≡ false → (x : FlowTimes) → HasArrivals j ends x → HasArrivals j (ends ++ e ∷ []) x
   arrivals_same h x was = arrivals_by (keep_where (ended_so j Delivered) ends) x (keep_no (ended_so j Delivered) ends e h) (was.delays, was.octets)
 
-  pub arrivals_of_another : is_own j e.tag ≡ false → (x : FlowTimes) → HasArrivals j ends x → HasArrivals j (ends ++ e ∷ []) x
+  pub arrivals_of_another : counts_for j e.tag ≡ false → (x : FlowTimes) → HasArrivals j ends x → HasArrivals j (ends ++ e ∷ []) x
   arrivals_of_another h = arrivals_same (not_so h)
 
-  pub arrivals_more : is_own j e.tag ≡ true → e.outcome ≡ Delivered → (x y : FlowTimes) → HasArrivals j ends x
+  pub arrivals_more : counts_for j e.tag ≡ true → e.outcome ≡ Delivered → (x y : FlowTimes) → HasArrivals j ends x
       → ((ds : List ℕ) → AreDelays ds x.delays → AreDelays (ds ++ (e.time - e.tag.at) ∷ []) y.delays) → y.octets ≡ saturated (x.octets + e.octets)
       → HasArrivals j (ends ++ e ∷ []) y
   arrivals_more own is x y was added octets =
       let kept = keep_where (ended_so j Delivered) ends in
-      let yes : ended_so j Delivered e ≡ true = ap (λ q. is_own j e.tag && (outcome_number q == 0)) is ∙ ap (λ b. b && true) own in
+      let yes : ended_so j Delivered e ≡ true = ap (λ q. counts_for j e.tag && (outcome_number q == 0)) is ∙ ap (λ b. b && true) own in
       arrivals_by (kept ++ e ∷ []) y (keep_yes (ended_so j Delivered) ends e yes) (
         subst (λ ds. AreDelays ds y.delays) (sym (map-append (λ (d : WayEnd). d.time - d.tag.at) kept (e ∷ []))) (added (delays_of j ends) was.delays),
         octets ∙ ap (λ n. saturated (n + e.octets)) was.octets ∙ (let s = sum_by_push (λ (d : WayEnd). d.octets) kept e in saturated_more (sum_by (λ (d : WayEnd). d.octets) kept) e.octets) ∙ ap saturated (sym (sum_by_push (λ (d : WayEnd). d.octets) kept e)),
@@ -177,10 +177,10 @@ module _ (j : ℕ) (ends : List WayEnd) (e : WayEnd) where
 
 -- of all sources: the end of a packet of source k
 module _ (ends : List WayEnd) (e : WayEnd) (tag : Tag) (same : e.tag ≡ tag) (u : ℕ → ℕ) where
-  own_of : (j : ℕ) → is_own j e.tag ≡ is_own j tag
-  own_of j = ap (is_own j) same
+  own_of : (j : ℕ) → counts_for j e.tag ≡ counts_for j tag
+  own_of j = ap (counts_for j) same
 
-  less : (j : ℕ) → is_own j tag ≡ false → one_of j tag + u j ≡ u j
+  less : (j : ℕ) → counts_for j tag ≡ false → one_of j tag + u j ≡ u j
   less j not = let z = one_not j tag not in omega (arith, z)
 
   -- there is one under way
@@ -200,7 +200,7 @@ module _ (ends : List WayEnd) (e : WayEnd) (tag : Tag) (same : e.tag ≡ tag) (u
       → AreOutcomes (ends ++ e ∷ []) u (slice_set counts k g)
   outcomes_set counts k f g was at sent source ends_so j z found = ⊎_elim
       (λ (eq : j ≡ k).
-      let own : is_own k tag ≡ true = own_is k tag sent source in
+      let own : counts_for k tag ≡ true = own_is k tag sent source in
       let before = was k f at in
       let one = one_is k tag own in
       let way = before.on_way in
@@ -210,18 +210,18 @@ module _ (ends : List WayEnd) (e : WayEnd) (tag : Tag) (same : e.tag ≡ tag) (u
       (subst (HasOutcomes k (ends ++ e ∷ []) (u k)) is
       (outcomes_more k ends e (own_of k ∙ own) (u k) f g as_next e.outcome refl (ends_so (omega (arith, way, one))))))
       (λ apart.
-      let none : is_own j tag ≡ false = own_not j tag (λ w. apart (sym w ∙ source)) in
+      let none : counts_for j tag ≡ false = own_not j tag (λ w. apart (sym w ∙ source)) in
       let before = was j z (sym (set_other counts k j g apart) ∙ found) in
       outcomes_same j ends e (own_of j ∙ none) (u j) z (subst (λ n. HasOutcomes j ends n z) (less j none) before))
       (same_number j k)
 
-  pub outcomes_none : (counts : List FlowCounts) → AreOutcomes ends (λ j. one_of j tag + u j) counts → ((j : ℕ) → j < length counts → is_own j tag ≡ false)
+  pub outcomes_none : (counts : List FlowCounts) → AreOutcomes ends (λ j. one_of j tag + u j) counts → ((j : ℕ) → j < length counts → counts_for j tag ≡ false)
       → AreOutcomes (ends ++ e ∷ []) u counts
   outcomes_none counts was none j z found =
       let not = none j (slice_get_within counts j z found) in
       outcomes_same j ends e (own_of j ∙ not) (u j) z (subst (λ n. HasOutcomes j ends n z) (less j not) (was j z found))
 
-  pub arrivals_none : (times : List FlowTimes) → AreArrivals ends times → ((j : ℕ) → j < length times → is_own j tag ≡ false) → AreArrivals (ends ++ e ∷ []) times
+  pub arrivals_none : (times : List FlowTimes) → AreArrivals ends times → ((j : ℕ) → j < length times → counts_for j tag ≡ false) → AreArrivals (ends ++ e ∷ []) times
   arrivals_none times was none j z found = arrivals_of_another j ends e (own_of j ∙ none j (slice_get_within times j z found)) z (was j z found)
 
   -- one that was not delivered
@@ -275,7 +275,7 @@ flows_lost ends e tag same u counts after times p is other was outcomes count = 
 -- another source's packet, or nobody's, ended
 pub flows_end : (ends : List WayEnd) (e : WayEnd) (tag : Tag) → e.tag ≡ tag → (u : ℕ → ℕ) (counts after : List FlowCounts) (times : List FlowTimes)
     → AreFlows ends (λ j. one_of j tag + u j) counts times → AreOutcomes (ends ++ e ∷ []) u after → length after ≡ length counts
-    → ((j : ℕ) → j < length times → is_own j tag ≡ false) → AreFlows (ends ++ e ∷ []) u after times
+    → ((j : ℕ) → j < length times → counts_for j tag ≡ false) → AreFlows (ends ++ e ∷ []) u after times
 flows_end ends e tag same u counts after times was outcomes count none = record {
   outcomes = outcomes;
   arrivals = arrivals_none ends e tag same u times was.arrivals none;
@@ -344,7 +344,7 @@ flows_times_as ends u counts times k x y was at spread sums octets = record {
 
 -- a source makes a packet
 module _ (k : ℕ) where
-  own_at : (j number at : ℕ) → is_own j (own_tag k number at) ≡ (k == j)
+  own_at : (j number at : ℕ) → counts_for j (own_tag k number at) ≡ (k == j)
   own_at j number at = refl
 
   pub outcomes_sent : (ends : List WayEnd) (u : ℕ → ℕ) (counts : List FlowCounts) (f g : FlowCounts) → AreOutcomes ends u counts → slice_get counts k ≡ Some f

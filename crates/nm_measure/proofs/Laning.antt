@@ -16,7 +16,7 @@ use Rattle.nm_measure.specs.declared.tag.Role.TheVariants as role
 use Rattle.nm_measure.specs.declared.tag.Tag.{Tag}
 use Rattle.nm_measure.specs.Counted.{AreFlows, lasting}
 use Rattle.nm_measure.specs.Lanes.{AreWatched, IsLane, left_in_hand, one_of, own_among, own_in, with_offer, with_start, with_wait}
-use Rattle.nm_measure.specs.Ways.{WayEnd, answer_tag, dropped_as, ended_as, nobodys, outcome_by, reply_as, reply_to}
+use Rattle.nm_measure.specs.Ways.{WayEnd, answer_tag, dropped_as, ended_as, nobodys, outcome_by, reply_as, reply_tag}
 use Rattle.nm_measure.proofs.Flowing.{flows_lasting, flows_of_lasting, flows_under}
 use Rattle.nm_measure.proofs.Lists.{set_other, set_same}
 
@@ -198,7 +198,7 @@ nobodys_to_hand count all tag ends lanes counts times none was = record {
 }
 
 -- an answer is no source's own
-reply_counts_none : (j : ℕ) (tag : Tag) → one_of j (reply_to tag) ≡ 0
+reply_counts_none : (j : ℕ) (tag : Tag) → one_of j (reply_tag tag) ≡ 0
 reply_counts_none j tag = go tag.role
   where
     go : (r : Role) → one_of j (reply_as r tag) ≡ 0
@@ -218,7 +218,7 @@ answer_counts_none j fate.Discarded tag other = refl
 pub answer_to_hand : (count : ℕ) (all : ℕ → List Tag × List Tag) (f : Fate) (tag : Tag) (ends : List WayEnd) (lanes : List Lane) (counts : List FlowCounts) (times : List FlowTimes)
     → AreWatched count all (left_in_hand (outcome_by f) tag) ends lanes counts times → AreWatched count all (answer_tag f tag ∷ []) ends lanes counts times
 answer_to_hand count all fate.SentOn tag ends lanes counts times was = was
-answer_to_hand count all fate.Requested tag ends lanes counts times was = nobodys_to_hand count all (reply_to tag) ends lanes counts times (λ j. reply_counts_none j tag) was
+answer_to_hand count all fate.Requested tag ends lanes counts times was = nobodys_to_hand count all (reply_tag tag) ends lanes counts times (λ j. reply_counts_none j tag) was
 answer_to_hand count all fate.Delivered tag ends lanes counts times was = nobodys_to_hand count all nobodys ends lanes counts times (λ j. refl) was
 answer_to_hand count all fate.Told tag ends lanes counts times was = nobodys_to_hand count all nobodys ends lanes counts times (λ j. refl) was
 answer_to_hand count all fate.Refused tag ends lanes counts times was = nobodys_to_hand count all nobodys ends lanes counts times (λ j. refl) was

@@ -20,7 +20,7 @@ use Rattle.nm_topology.specs.TopologyValue.{TopologyValue}
 use Rattle.nm_sim.specs.Network.{net_of}
 use Rattle.nm_sim.specs.Part.{PartValue}
 use Rattle.nm_sim.specs.declared.told.Happened.{Happened}
-use Rattle.nm_measure.specs.Interfaces.{IsNext, IsTurn, offered_at, turned_by, waits_at}
+use Rattle.nm_measure.specs.Interfaces.{IsNext, IsTurn, offered_at, queue_turned, waits_at}
 use Rattle.nm_measure.proofs.Turns.{delivery_turns, port_beside_completed, port_same}
 
 -- an event happens at the place of its key
@@ -29,7 +29,7 @@ event_at : {P N : Type 0} (net : Net P N) (n : ℕ) (e : Key × Event P) → lea
 event_at net n e first orderly q at = sym (placed_of net (λ q. true) (one_list net n) orderly e.0 e.1 (least_has (one_list net n).pending e first)) ∙ at
 
 -- at the place of a delivery
-by_offer : {P : Type 0} (o : Origin) (x : P) (offering : Offering) → turned_by (event_place (Delivery o x)) offering ≡ offered_at offering
+by_offer : {P : Type 0} (o : Origin) (x : P) (offering : Offering) → queue_turned (event_place (Delivery o x)) offering ≡ offered_at offering
 by_offer (Arrival i) x offering = refl
 by_offer (Source j) x offering = refl
 
@@ -37,14 +37,14 @@ module _ (t : TopologyValue) (n now : ℕ) (place : Place) (p : PartValue Held) 
   at : event_place next.event.1 ≡ place
   at = event_at (net_of t) n next.event next.first orderly place next.at_place
 
-  pub turn_told : IsTurn t n (turned_by place what.offering)
+  pub turn_told : IsTurn t n (queue_turned place what.offering)
   turn_told i within other = ap waits_at (go next.event.1 refl)
     where
       go : (f : Event (List ℕ)) → next.event.1 ≡ f → (one_list (net_of t) (suc n)).port i ≡ (one_list (net_of t) n).port i
       go (Completion a) is = port_beside_completed (net_of t) n next.event next.first a is i
-          (λ e. other (ap (λ q. turned_by q what.offering) (sym at ∙ ap event_place is) ∙ ap Some (sym e)))
+          (λ e. other (ap (λ q. queue_turned q what.offering) (sym at ∙ ap event_place is) ∙ ap Some (sym e)))
       go (Delivery o x) is = port_same (net_of t) n next.event next.first i (λ w turn e. other
-          (ap (λ q. turned_by q what.offering) (sym at ∙ ap event_place is) ∙ by_offer o x what.offering
+          (ap (λ q. queue_turned q what.offering) (sym at ∙ ap event_place is) ∙ by_offer o x what.offering
           ∙ ap offered_at (next.happened.offering ∙ ap (offering_in (net_of t) (one_list (net_of t) n).node (one_list (net_of t) n).port) is)
           ∙ delivery_turns (net_of t) (one_list (net_of t) n).node (one_list (net_of t) n).port next.event.0.time next.event.0.number o x w
           (ap (λ g. (effect (net_of t) (one_list (net_of t) n).node (one_list (net_of t) n).port next.event.0.time next.event.0.number g).turn) (sym is) ∙ turn)

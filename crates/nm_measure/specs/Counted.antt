@@ -18,8 +18,8 @@ is_sent role.Reply = false
 is_sent role.Nothing = false
 
 -- a packet that source j made
-abbrev pub is_own : ℕ → Tag → Bool
-is_own j tag = is_sent tag.role && (tag.source == j)
+abbrev pub counts_for : ℕ → Tag → Bool
+counts_for j tag = is_sent tag.role && (tag.source == j)
 
 abbrev pub outcome_number : PacketOutcome → ℕ
 outcome_number Delivered = 0
@@ -30,7 +30,7 @@ outcome_number Discarded = 3
 -- packets of source j whose ways ended so
 abbrev pub ended_so : ℕ → PacketOutcome → WayEnd → Bool
 ended_so j outcome e =
-    is_own j e.tag && (outcome_number e.outcome == outcome_number outcome)
+    counts_for j e.tag && (outcome_number e.outcome == outcome_number outcome)
 
 abbrev pub how_many : ℕ → PacketOutcome → List WayEnd → ℕ
 how_many j outcome ends = count_by (ended_so j outcome) ends
@@ -40,8 +40,8 @@ how_many j outcome ends = count_by (ended_so j outcome) ends
 abbrev pub delays_of : ℕ → List WayEnd → List ℕ
 delays_of j ends = map (λ e. e.time - e.tag.at) (keep_where (ended_so j Delivered) ends)
 
-abbrev pub octets_of : ℕ → List WayEnd → ℕ
-octets_of j ends = sum_by (λ e. e.octets) (keep_where (ended_so j Delivered) ends)
+abbrev pub octets_delivered : ℕ → List WayEnd → ℕ
+octets_delivered j ends = sum_by (λ e. e.octets) (keep_where (ended_so j Delivered) ends)
 
 -- what became of the packets of source j; so many are under way
 pub record HasOutcomes (j : ℕ) (ends : List WayEnd) (under_way : ℕ) (f : FlowCounts) : Type 0 where
@@ -58,7 +58,7 @@ HasEnds j ends f = HasOutcomes j ends f.under_way f
 -- how much of what source j sent arrived, and how late
 pub record HasArrivals (j : ℕ) (ends : List WayEnd) (x : FlowTimes) : Type 0 where
   pub delays : AreDelays (delays_of j ends) x.delays
-  pub octets : x.octets ≡ saturated (octets_of j ends)
+  pub octets : x.octets ≡ saturated (octets_delivered j ends)
 
 -- of all sources
 abbrev pub AreOutcomes : List WayEnd → (under_way : ℕ → ℕ) → List FlowCounts → Type 0

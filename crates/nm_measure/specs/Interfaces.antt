@@ -76,10 +76,10 @@ StartsNone t n = (e : Key × Event (List ℕ)) → least (one_list (net_of t) n)
     e.0.number e.1).transmission ≡ None
 
 -- the interface whose queue an event at this place may change, by what became of what was sent
-abbrev pub turned_by : Place → Offering → Option ℕ
-turned_by (Complete i) offering = Some i
-turned_by (Arrive i) offering = offered_at offering
-turned_by (Fire j) offering = offered_at offering
+abbrev pub queue_turned : Place → Offering → Option ℕ
+queue_turned (Complete i) offering = Some i
+queue_turned (Arrive i) offering = offered_at offering
+queue_turned (Fire j) offering = offered_at offering
 
 -- event n leaves all queues but this one as they are
 abbrev pub IsTurn : TopologyValue → ℕ → Option ℕ → Type 0

@@ -16,7 +16,7 @@ use Rattle.nm_measure.specs.declared.flows.Arrival.{Arrival}
 use Rattle.nm_measure.specs.declared.lane.Lane.{Lane}
 use Rattle.nm_measure.specs.declared.tag.Tag.{Tag}
 use Rattle.nm_measure.specs.declared.watched.Watched.{Watched}
-use Rattle.nm_measure.specs.Counted.{AreFlows, is_own}
+use Rattle.nm_measure.specs.Counted.{AreFlows, counts_for}
 use Rattle.nm_measure.specs.Ways.{WayEnd, ends_in, tagged_list}
 
 -- of each interface: the packets on the link that it sends on, from the start of their transmission
@@ -50,7 +50,7 @@ pub record IsLane (tags : List Tag × List Tag) (lane : Lane) : Type 0 where
 
 -- how many of these are packets that source j made
 abbrev pub one_of : ℕ → Tag → ℕ
-one_of j tag = if is_own j tag then 1 else 0
+one_of j tag = if counts_for j tag then 1 else 0
 
 abbrev pub own_among : ℕ → List Tag → ℕ
 own_among j tags = sum_by (one_of j) tags

@@ -47,8 +47,8 @@ reply_as role.Sent tag = record {
 reply_as role.Reply tag = nobodys
 reply_as role.Nothing tag = nobodys
 
-abbrev pub reply_to : Tag → Tag
-reply_to tag = reply_as tag.role tag
+abbrev pub reply_tag : Tag → Tag
+reply_tag tag = reply_as tag.role tag
 
 -- what a node did with a packet that arrived, by the counter that rose
 abbrev pub fate_by : Counter → Fate
@@ -75,7 +75,7 @@ fate_by count.Raw = fate.Discarded
 -- the tag of what a node sends in reaction to a packet with this tag
 abbrev pub answer_tag : Fate → Tag → Tag
 answer_tag fate.SentOn tag = tag
-answer_tag fate.Requested tag = reply_to tag
+answer_tag fate.Requested tag = reply_tag tag
 answer_tag fate.Delivered tag = nobodys
 answer_tag fate.Told tag = nobodys
 answer_tag fate.Refused tag = nobodys
@@ -102,8 +102,8 @@ pub record WayEnd : Type 0 where
   pub time : ℕ
   pub octets : ℕ
 
-abbrev pub end_of : (time : ℕ) → Tag × List ℕ → PacketOutcome → WayEnd
-end_of time x outcome = record {
+abbrev pub way_end : (time : ℕ) → Tag × List ℕ → PacketOutcome → WayEnd
+way_end time x outcome = record {
   tag = x.0;
   outcome = outcome;
   time = time;
@@ -156,12 +156,12 @@ module _ (t : TopologyValue) where
   abbrev pub ends_at : State (Tag × List ℕ) NodeStateValue → (time : ℕ) → Event (Tag × List ℕ)
       → List WayEnd
   ends_at s time (Delivery (Arrival i) x) =
-      ended_as (end_of time x) (outcome_by (fate_at ((net_of t).owner i) x.1))
+      ended_as (way_end time x) (outcome_by (fate_at ((net_of t).owner i) x.1))
       ++ dropped_as
-      (end_of time (sent_tag ((net_of t).owner i) (Arrival i) x, x.1))
+      (way_end time (sent_tag ((net_of t).owner i) (Arrival i) x, x.1))
       (offering_in tagged_net s.node s.port (Delivery (Arrival i) x))
   ends_at s time (Delivery (Source j) x) =
-      made_as (end_of time x) (offering_in tagged_net s.node s.port (Delivery (Source j) x))
+      made_as (way_end time x) (offering_in tagged_net s.node s.port (Delivery (Source j) x))
   ends_at s time (Completion i) = []
 
   abbrev pub ends_next : State (Tag × List ℕ) NodeStateValue

@@ -2,7 +2,7 @@
 
 ghost use Rattle.std.specs.Prelude.{◌≡◌, ℕ, ◌+◌, ◌<◌, ◌++◌, ◌∷◌, [], List, length, map, option_map, true, false, None, Some, ◌^◌, IfOk, IfSome, OnOk, slice_get};
 ghost use Rattle.nm_measure.specs.declared.flow_counts.PacketOutcome.TheVariants.{Delivered};
-ghost use Rattle.nm_measure.specs.Counted.{AreArrivals, AreFlows, AreOutcomes, is_own, is_sent, lasting};
+ghost use Rattle.nm_measure.specs.Counted.{AreArrivals, AreFlows, AreOutcomes, counts_for, is_sent, lasting};
 ghost use Rattle.nm_measure.specs.Lanes.{one_of};
 ghost use Rattle.nm_measure.specs.Ways.{WayEnd, own_tag};
 ghost use Rattle.nm_measure.specs.Flows.{sent_numbers};
@@ -157,7 +157,7 @@ impl Flows {
         ensures ended { result ≡ true → is_sent tag.now.role ≡ true }
         ensures none { result ≡ false → (ends : List WayEnd) (under_way : ℕ → ℕ)
             → AreOutcomes ends (λ j. one_of j tag.now + under_way j) self.old.counts.items
-            → (j : ℕ) → j < length self.old.counts.items → is_own j tag.now ≡ false }
+            → (j : ℕ) → j < length self.old.counts.items → counts_for j tag.now ≡ false }
         ensures sent { sent_numbers self.new.counts.items ≡ sent_numbers self.old.counts.items }
     {
         let Role::Sent = tag.role else {

@@ -10,7 +10,7 @@ ghost use Rattle.std.specs.Prelude.{List};
 ghost use Rattle.nm_sim.specs.Effects.{IsPlaceIn};
 ghost use Rattle.nm_sim.specs.Part.{Represents};
 ghost use Rattle.nm_measure.specs.Interfaces.{AreSeen, HasQueue, HasStarted, IsNext, OneChanges};
-ghost use Rattle.nm_measure.specs.Interfaces.{offered_at, queue_in, turned_by};
+ghost use Rattle.nm_measure.specs.Interfaces.{offered_at, queue_in, queue_turned};
 
 use crate::queue::{Queue, Waits};
 use crate::seen::Seen;
@@ -73,8 +73,8 @@ fn offered_at(offering: Offering) -> Option<IfaceNo>
 }
 
 /// The interface whose queue an event at this place may have changed.
-fn turned_by(place: &Place, offering: Offering) -> Option<IfaceNo>
-    ensures { result ≡ turned_by place.now offering }
+fn queue_turned(place: &Place, offering: Offering) -> Option<IfaceNo>
+    ensures { result ≡ queue_turned place.now offering }
 {
     match place {
         Place::Complete(iface) => Some(*iface),
@@ -170,7 +170,7 @@ impl Interfaces {
         if let Some(started) = &happened.started {
             return self.start(part, started, now, time_left(topology, now));
         }
-        if let Some(iface) = turned_by(place, happened.offering) {
+        if let Some(iface) = queue_turned(place, happened.offering) {
             self.change(part, iface, now);
         }
     }

@@ -1,7 +1,7 @@
 //! The source of a packet.
 
 ghost use Rattle.std.specs.Prelude.{◌≡◌};
-ghost use Rattle.nm_measure.specs.Ways.{nobodys, own_tag, reply_to};
+ghost use Rattle.nm_measure.specs.Ways.{nobodys, own_tag, reply_tag};
 
 use nm_base::{SourceNo, Time};
 
@@ -57,7 +57,7 @@ impl Tag {
 
     /// The tag of the echo reply to this packet.
     pub(crate) fn of_reply(&self) -> Tag
-        ensures { result ≡ reply_to self.now }
+        ensures { result ≡ reply_tag self.now }
     {
         match self.role {
             Role::Sent => Tag {

@@ -23,22 +23,22 @@ returns-in-Some c = λ first n seen next.
     (subst (λ (y : ℕ × ℕ). OneChanges z.iface (HasStarted (max 1 y.0) c.args.now y.1 (queue_in z.iface (one_list net (suc n)))) c.args.self.now.all.items c.start.new.self.all.items)
     (λ k. (starts.2 k, c.time_left.ensures k)) (c.start.ensures t (one_list net (suc n)) next.represents seen.count))
 
-pub returns-in-Some-turned_by : goal.returns-in-Some-turned_by
-returns-in-Some-turned_by c = λ first n seen next.
+pub returns-in-Some-queue_turned : goal.returns-in-Some-queue_turned
+returns-in-Some-queue_turned c = λ first n seen next.
     let t = c.args.topology.now in
     let net = net_of t in
     let network = c.every_topology_is_a_network.ensures.network in
     let none : StartsNone t n = λ e f. event_only net n next.event e next.first f (none_went t Nothing (one_list net n) next.event c.args.happened.now next.happened c.in_default.is) in
     seen_turned t first n c.args.now c.args.place.now c.args.part.now c.args.happened.now c.args.self.now.all.items seen network (c.keys_rise.ensures net network) next
-    c.change.new.self.all.items c.in-Some-turned_by.iface none
-    (subst (IsTurn t n) (sym c.turned_by.ensures ∙ c.in-Some-turned_by.is) (turn_told t n c.args.now c.args.place.now c.args.part.now c.args.happened.now next.before.1.orderly next))
+    c.change.new.self.all.items c.in-Some-queue_turned.iface none
+    (subst (IsTurn t n) (sym c.queue_turned.ensures ∙ c.in-Some-queue_turned.is) (turn_told t n c.args.now c.args.place.now c.args.part.now c.args.happened.now next.before.1.orderly next))
     (c.change.ensures t (one_list net (suc n)) next.represents seen.count)
 
-pub returns-in_default-turned_by : goal.returns-in_default-turned_by
-returns-in_default-turned_by c = λ first n seen next.
+pub returns-in_default-queue_turned : goal.returns-in_default-queue_turned
+returns-in_default-queue_turned c = λ first n seen next.
     let t = c.args.topology.now in
     let net = net_of t in
     let network = c.every_topology_is_a_network.ensures.network in
     let none : StartsNone t n = λ e f. event_only net n next.event e next.first f (none_went t Nothing (one_list net n) next.event c.args.happened.now next.happened c.in_default.is) in
     seen_same t first n c.args.now c.args.place.now c.args.part.now c.args.happened.now c.args.self.now.all.items seen network (c.keys_rise.ensures net network) next
-    none (subst (IsTurn t n) (sym c.turned_by.ensures ∙ c.in_default-turned_by.is) (turn_told t n c.args.now c.args.place.now c.args.part.now c.args.happened.now next.before.1.orderly next))
+    none (subst (IsTurn t n) (sym c.queue_turned.ensures ∙ c.in_default-queue_turned.is) (turn_told t n c.args.now c.args.place.now c.args.part.now c.args.happened.now next.before.1.orderly next))

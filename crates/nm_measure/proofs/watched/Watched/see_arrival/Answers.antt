@@ -4,7 +4,7 @@ use Rattle.nm_model.specs.Lists.{set_at}
 use Rattle.nm_sim.specs.Network.{net_of}
 use Rattle.nm_sim.specs.declared.told.Arrived.{Arrived}
 use Rattle.nm_measure.specs.Lanes.{AreWatched, Watches, lanes_in, one_of, with_offer}
-use Rattle.nm_measure.specs.Ways.{answer_tag, dropped_as, end_of, ended_as, ends_in, fate_at, outcome_by, tagged_list}
+use Rattle.nm_measure.specs.Ways.{answer_tag, dropped_as, way_end, ended_as, ends_in, fate_at, outcome_by, tagged_list}
 use Rattle.nm_measure.proofs.Flowing.{on_ok}
 use Rattle.nm_measure.proofs.Following.{arrival_step, far_end_is, far_end_low}
 use Rattle.nm_measure.proofs.Laning.{answer_to_hand, watched_as}
@@ -42,7 +42,7 @@ returns-clause-watches c =
     let told : step.told.0 ≡ c.in-Some.arrived = some_inj step.told.0 c.in-Some.arrived (sym step.told.1 ∙ c.in-Some.is) in
     let fate : c.said_of-fate.result.0 ≡ fate_at t v x.1 = c.said_of-fate.ensures _ (ap (λ (a : Arrived). a.counter) (sym told) ∙ step.told.2) in
     let octets : length x.1 ≡ c.from.result = sym step.told.3 ∙ ap (λ (a : Arrived). a.octets) told ∙ sym c.from.ensures in
-    let how = end_of c.args.now x in
+    let how = way_end c.args.now x in
     let three = c.in_ok-see_end.ensures.watches count popped ends how (λ o. (sym left.0, refl, refl, octets)) two in
     let w3 = c.see_end.new.self in
     let four = answer_to_hand count popped c.said_of-fate.result.0 tag (ends ++ ended_as how (outcome_by c.said_of-fate.result.0)) w3.lanes.items w3.flows.counts.items w3.flows.times.items three in
@@ -52,7 +52,7 @@ returns-clause-watches c =
     subst (λ f. Watches count popped (c.answer_to.result ∷ []) (ends ++ ended_as how (outcome_by f)) w3) fate
     (subst (λ g. Watches count popped (g ∷ []) (ends ++ ended_as how (outcome_by c.said_of-fate.result.0)) w3) (sym c.answer_to.ensures) four) in
     let is = c.answer_to.ensures ∙ answers in
-    let dropped = end_of c.args.now (answer, x.1) in
+    let dropped = way_end c.args.now (answer, x.1) in
     let new = c.see_offer.new.self in
     let six = offers count popped (ends ++ ended_as how (outcome_by (fate_at t v x.1))) dropped (sym is, refl) step.can (λ j none. ap (one_of j) is ∙ step.nothing j none) five in
     subst (λ l. AreWatched count (lanes_in t (tagged_list t (suc n))) [] l new.lanes.items new.flows.counts.items new.flows.times.items) step.ends

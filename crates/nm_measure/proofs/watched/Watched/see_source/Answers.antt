@@ -4,7 +4,7 @@ use Rattle.nm_measure.specs.declared.flow_counts.PacketOutcome.TheVariants.{Disc
 use Rattle.nm_measure.specs.Flows.{sent_numbers}
 use Rattle.nm_measure.specs.Lanes.{AreWatched, Watches, lanes_in, with_offer}
 use Rattle.nm_measure.specs.Sent.{sent_in}
-use Rattle.nm_measure.specs.Ways.{dropped_as, end_of, ends_in, made_as, own_tag, tagged_list}
+use Rattle.nm_measure.specs.Ways.{dropped_as, way_end, ends_in, made_as, own_tag, tagged_list}
 use Rattle.nm_measure.proofs.Flowing.{on_ok}
 use Rattle.nm_measure.proofs.Firings.{made_dropped, sent_at, source_step}
 use Rattle.nm_measure.proofs.Laning.{to_hand, watched_as}
@@ -33,7 +33,7 @@ returns-in-Nothing-clause-watches c =
     let two : Watches count all (tag ∷ []) ends begun =
     subst (λ v. AreWatched count all (tag ∷ []) ends v.items begun.flows.counts.items begun.flows.times.items) (sym c.begin.ensures.lanes)
     (subst (λ f. AreWatched count all (tag ∷ []) ends w.lanes.items f.counts.items f.times.items) (sym c.begin.ensures.flows) one) in
-    let way = end_of c.args.now (own_tag j k c.args.now, step.packet) in
+    let way = way_end c.args.now (own_tag j k c.args.now, step.packet) in
     let three = loses count all ends (way Discarded) (sym is) refl two in
     subst (λ l. AreWatched count (lanes_in t (tagged_list t (suc n))) [] l new.lanes.items new.flows.counts.items new.flows.times.items)
     (ap (λ o. ends ++ made_as way o) (sym c.in-Nothing.is) ∙ step.ends)
@@ -63,7 +63,7 @@ returns-clause-watches c =
     let two : Watches count all (tag ∷ []) ends begun =
     subst (λ v. AreWatched count all (tag ∷ []) ends v.items begun.flows.counts.items begun.flows.times.items) (sym c.begin.ensures.lanes)
     (subst (λ f. AreWatched count all (tag ∷ []) ends w.lanes.items f.counts.items f.times.items) (sym c.begin.ensures.flows) one) in
-    let way = end_of c.args.now (own_tag j k c.args.now, step.packet) in
+    let way = way_end c.args.now (own_tag j k c.args.now, step.packet) in
     let other = c.in_default-offering.not-Nothing in
     let three = offers count all ends way (sym is, refl) step.can (λ i none. absurd (other none)) two in
     subst (λ l. AreWatched count (lanes_in t (tagged_list t (suc n))) [] l new.lanes.items new.flows.counts.items new.flows.times.items)
