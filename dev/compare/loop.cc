@@ -174,12 +174,9 @@ class Simulation {
     }
 
     static const Prefix* Find(const Place& place, uint32_t to) {
-        for (const Prefix& prefix : place.routes) {
-            if ((to & prefix.mask) == prefix.to) {
-                return &prefix;
-            }
-        }
-        return nullptr;
+        auto found = std::find_if(place.routes.begin(), place.routes.end(),
+                                  [to](const Prefix& prefix) { return (to & prefix.mask) == prefix.to; });
+        return found == place.routes.end() ? nullptr : &*found;
     }
 
     static void SetChecksum(uint8_t* head) {

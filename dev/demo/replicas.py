@@ -22,10 +22,7 @@ class Loopback:
     proxy_host = nodes.HOST
 
     def __init__(self, keys):
-        self.ports = {key: (self.proxy_host, nodes.free_port()) for key in keys}
-
-    def address(self, key):
-        return self.ports[key]
+        self.addresses = {key: (self.proxy_host, nodes.free_port()) for key in keys}
 
     def enter(self, key):
         """What a child does to be in its network."""
@@ -46,19 +43,17 @@ class Namespaces:
 
     def __init__(self, keys, has_netem):
         self.title = "in namespaces, " + ("5 ms, 2 % lost" if has_netem else "no netem")
-        self.switch, self.machines = machines.Switch(), {}
+        self.switch, self.machines, self.addresses = machines.Switch(), {}, {}
         try:
             for number, key in enumerate(keys, 10):
                 self.machines[key] = self.switch.machine(HOST.format(number), number)
+                self.addresses[key] = self.machines[key].host, PORT
                 if has_netem:
                     self.machines[key].disturb(*NETEM)
             self.switch.enter(SWITCH)
         except (machines.Unable, OSError):
             self.close()
             raise
-
-    def address(self, key):
-        return self.machines[key].host, PORT
 
     def enter(self, key):
         machines.enter(self.machines[key].name)

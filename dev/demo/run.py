@@ -20,10 +20,6 @@ CUT_SECONDS, BYE_CHANCE = 1.8, 0.5
 TRICKLED_ONE_OF, TRICKLED = 4, 200
 
 
-class Failed(Exception):
-    """The demonstration did not come to what it is to show."""
-
-
 class Counts:
     """What the proxy counts: messages of each sender, sent again and lost, and connections that were cut. Processes are
     pairs (partition, replica)."""
@@ -109,10 +105,10 @@ class Run:
     def begin(self):
         """Opens the proxy, and begins all processes."""
         self.begun = time.monotonic()
-        own = {key: self.places.address(key) for key in self.network.keys()}
+        own = self.places.addresses
         self.doors = proxy.doors_of(self.network, own, lambda pair: plan_of(pair, self.seed), random.Random(self.seed),
                                     watch=self.counts, host=self.places.proxy_host)
-        ports = {pair: (self.places.proxy_host, door.number()) for pair, door in self.doors.items()}
+        ports = {pair: (self.places.proxy_host, door.number) for pair, door in self.doors.items()}
         for key in own:
             reached = {other: ports.get((key, other), place) for other, place in own.items()}
             self.processes[key] = Replica(self.network, key, self.folder, reached, self.places)
@@ -138,7 +134,7 @@ class Run:
 
     def check_running(self, others, what):
         if any(other.status() is not None for other in others):
-            raise Failed(f"a process had ended when {self.name(KILLED)} was {what}")
+            raise process.Failed(f"a process had ended when {self.name(KILLED)} was {what}")
 
     def look(self):
         """Looks at all processes: whether all have ended."""
@@ -147,7 +143,7 @@ class Run:
                 continue
             replica.look()
             if replica.status() not in (None, 0):
-                raise Failed(f"{self.name(key)} ended with status {replica.status()} {replica.fault()}".strip())
+                raise process.Failed(f"{self.name(key)} ended with status {replica.status()} {replica.fault()}".strip())
         return not self.away and all(replica.status() == 0 for replica in self.processes.values())
 
     def until_all_ended(self, view):
@@ -155,14 +151,14 @@ class Run:
             if self.seconds() > self.places.max_seconds:
                 running = [key for key, replica in self.processes.items() if replica.status() is None]
                 left = "; ".join(f"{self.name(key)} at {self.processes[key].share()} %" for key in running)
-                raise Failed(f"after {self.places.max_seconds} s these had not ended: {left}")
+                raise process.Failed(f"after {self.places.max_seconds} s these had not ended: {left}")
             self.kill_and_begin_again()
             resent = self.places.resent_segments(self.processes.values())
             self.resent = resent if not self.resent else max(resent, self.resent)
             view.show(self, self.seconds())
             time.sleep(TURN_SECONDS)
         if self.processes[KILLED].times_begun != 2:
-            raise Failed("all processes ended before one was killed")
+            raise process.Failed("all processes ended before one was killed")
 
     def verify(self):
         """Has the program verify the files of both replicas of each partition: how many it did."""
@@ -171,7 +167,7 @@ class Run:
             folder, names = self.processes[key].folder, self.network.ifaces(key[0])
             ended = process.nullsim("verify", self.network.path, folder, *names)
             if ended.status or not ended.out.startswith(b"verified\n"):
-                raise Failed(f"the files of {self.name(key)} are not verified: {process.ending(ended)}")
+                raise process.Failed(f"the files of {self.name(key)} are not verified: {process.ending(ended)}")
             count += ended.out.count(b"\niface ")
         return count
 
@@ -179,7 +175,7 @@ class Run:
         """Has the program certify what replica 0 of each partition left, and what replica 1 did."""
         faults, _ = nodes.uncertified(self.network, self.processes, 4)
         if faults:
-            raise Failed(faults[0])
+            raise process.Failed(faults[0])
 
     def check_counts(self):
         """What the proxy saw: no message was lost, some Byes were, and each connection broke several times."""
@@ -189,7 +185,7 @@ class Run:
         faults += ["no Bye was lost"] if not self.counts.byes else []
         faults += [f"a connection broke {least} times only"] if least < 2 else []
         if faults:
-            raise Failed(faults[0])
+            raise process.Failed(faults[0])
         return least
 
     def broken(self):

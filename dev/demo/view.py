@@ -1,5 +1,6 @@
 """The screen: one line a partition, and what happened; live in a terminal, or a line now and then; and as a picture."""
 
+import re
 import shutil
 import sys
 import time
@@ -17,6 +18,8 @@ MILLISECOND = 1_000_000
 REFRESH_SECONDS = {True: 0.2, False: 2.0}
 COLOURS = {"": "", "bold": "\033[1m", "dim": "\033[2m", "good": "\033[32m", "bad": "\033[31m", "bar": "\033[36m"}
 PLAIN = "\033[0m"
+# What stands between runs of two spaces and more.
+WORDS = re.compile(r"\S+(?: \S+)*")
 # Of the picture.
 COLUMN, ROW, MARGIN, TOP = 8.43, 19, 18, 40
 FILLS = {"": "#d8dee9", "bold": "#ffffff", "dim": "#8b95a7", "good": "#7ee787", "bad": "#ff9d96", "bar": "#79c0ff"}
@@ -84,15 +87,6 @@ def blocks(column, row, count, style):
     return f'<rect x="{x:.1f}" y="{y:.1f}" width="{count * COLUMN:.1f}" height="{ROW - 6}" fill="{FILLS[style]}"/>\n'
 
 
-def words(text):
-    """The parts of a text between runs of two spaces and more, with their columns."""
-    column = 0
-    for part in text.split("  "):
-        if part.strip():
-            yield column + len(part) - len(part.lstrip()), part.strip()
-        column += len(part) + 2
-
-
 def drawn(lines, label):
     """The picture (SVG), which needs nothing else, of some lines, each a list of pieces of text with their styles."""
     columns = max(sum(len(text) for text, _ in line) for line in lines)
@@ -104,7 +98,7 @@ def drawn(lines, label):
             if text and not text.strip("█"):
                 made.append(blocks(column, row, len(text), style))
             else:
-                made += [piece(column + at, row, part, style) for at, part in words(text)]
+                made += [piece(column + it.start(), row, it[0], style) for it in WORDS.finditer(text)]
             column += len(text)
     return "".join(made) + "</g>\n</svg>\n"
 

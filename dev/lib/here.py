@@ -82,14 +82,9 @@ def files(*parts, ends=""):
     return sorted(os.path.join(folder, name) for folder, _, names in walked for name in names if name.endswith(ends))
 
 
-def marks(name):
-    """What stands before and behind the part of a document that a script writes."""
-    return f"<!-- {name}: begin -->\n", f"<!-- {name}: end -->"
-
-
 def between(document, name):
     """The part of a document between its marks, and what stands before and behind it."""
-    begin, end = marks(name)
+    begin, end = f"<!-- {name}: begin -->\n", f"<!-- {name}: end -->"
     before, found, rest = read(document).partition(begin)
     part, closed, behind = rest.partition(end)
     if not found or not closed:

@@ -53,7 +53,7 @@ class Network:
 
 def made(folder, name, text):
     """A topology text as a file: its path."""
-    return topologies.write(os.path.join(folder, f"{name}.toml"), text)
+    return here.write(os.path.join(folder, f"{name}.toml"), text)
 
 
 def small_grid(folder, packets=60):

@@ -46,6 +46,8 @@ class Crate:
     def __init__(self, name, uses, crates):
         self.name = name
         self.own = [crates[it] for it in uses if it in crates]
+        # The crates below it, each after those that it depends on.
+        self.below = list(dict.fromkeys(it for crate in self.own for it in (*crate.below, crate)))
         self.kit = ["std", *(it for it in uses if it not in crates)]
         self.folder = here.path("crates", name)
         self.made = os.path.join(self.folder, "out", "build")
@@ -54,10 +56,6 @@ class Crate:
         self.stamp = here.read(stamp) if os.path.exists(stamp) else None
         self.rlib = os.path.join(self.made, f"{name}.rlib")
         self.is_program = os.path.exists(os.path.join(self.folder, "src", "main.rt"))
-
-    def below(self):
-        """The crates below it, each after those that it depends on."""
-        return list(dict.fromkeys(it for crate in self.own for it in (*crate.below(), crate)))
 
 
 def crates():
@@ -85,7 +83,7 @@ def words_of(crate, toolchain, jobs):
     words += ["-L", f"dependency={toolchain.path('rlibs')}"]
     for it in crate.own:
         words += ["--extern", f"{it.name}={it.rlib}"]
-    for it in crate.below():
+    for it in crate.below:
         words += ["-L", f"dependency={it.made}"]
     words += ["--antt-project", toolchain.path("rattle", "logic", "antt-project.json")]
     return [*words, "--logic-built", toolchain.path("logic_built"), "--jobs", str(jobs), "--links", f"{crate.name}="]

@@ -171,10 +171,8 @@ class Door:
         self.socket.setsockopt(socket.SOL_SOCKET, socket.SO_RCVBUF, WINDOW)
         self.socket.bind((host, 0))
         self.socket.listen(64)
+        self.number = self.socket.getsockname()[1]
         threading.Thread(target=self.serve, daemon=True).start()
-
-    def number(self):
-        return self.socket.getsockname()[1]
 
     def has_bye(self):
         return bool(self.byes)

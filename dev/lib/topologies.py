@@ -20,6 +20,7 @@ What each kind is, with how many packets where no number is given:
 - limits: at the limits of nodes, interfaces, routes, sources, partitions and channels; 4.5 MB of text."""
 
 import os
+import pathlib
 import sys
 
 if sys.version_info < (3, 11):
@@ -66,16 +67,13 @@ class Net(Network):
 
     def reach(self, target):
         """Routes of every node to the first address of a node, by breadth-first search: the name of the node."""
-        seen, front = {target}, [target]
-        while front:
-            after = []
-            for here in front:
-                for there in self.next[here]:
-                    if there not in seen:
-                        seen.add(there)
-                        after.append(there)
-                        self.route(there, target, self.next[there][here])
-            front = after
+        seen, reached = {target}, [target]
+        for here in reached:
+            fresh = [there for there in self.next[here] if there not in seen]
+            seen.update(fresh)
+            reached += fresh
+            for there in fresh:
+                self.route(there, target, self.next[there][here])
         return target
 
     def flow(self, node, target, octets, start, interval, count):
@@ -121,14 +119,10 @@ def both(packets=5):
     return ring(packets, lambda number: HEADERS + 20 * number + 1, 4, 8 * 10**6, 10**6, 2 * 10**7, 2, 10**5, 1_500_000)
 
 
-def same_links(delay=10_000):
-    """A grid's links, all of one rate and delay."""
-    return lambda number, count: (GIGABIT, delay)
-
-
-def grid(packets=2_000, octets=228, interval=50_000, side=8, links=same_links(), is_whole=True, stop=LATE,
-         cuts=(1, 1)):
-    """Flows from the routers of a grid, or of two edges, to those across; it is cut into so many by so many parts."""
+def grid(packets=2_000, octets=228, interval=50_000, side=8, links=lambda *_: (GIGABIT, 10_000), is_whole=True,
+         stop=LATE, cuts=(1, 1)):
+    """Flows from the routers of a grid, or of two edges, to those across; it is cut into so many by so many parts.
+    `links` gives the rate and the delay of each link by its number and how many there are."""
     net, (rows, columns) = Net(), cuts
     places = [(x, y) for x in range(side) for y in range(side)]
     for x, y in places:
@@ -150,7 +144,7 @@ CUTS = {1: (1, 1), 2: (1, 2), 4: (2, 2), 8: (2, 4), 16: (4, 4)}
 
 def edge_grid(partitions, delay):
     """Routers at two edges of a grid of 16 by 16 send packets of 1,000 octets across: some million packet-hops."""
-    return grid(708, 1_000, 100_000, 16, same_links(delay), False, 110_000_000, CUTS[partitions])
+    return grid(708, 1_000, 100_000, 16, lambda *_: (GIGABIT, delay), False, 110_000_000, CUTS[partitions])
 
 
 def star(packets=20_000, octets=528, interval=60_000, leaves=32, delay=lambda part: 1_000, gap=100, has_sink=True):
@@ -275,16 +269,10 @@ KINDS = {
 }
 
 
-def write(path, text):
-    """Writes the text of a topology to a file: its path."""
-    with open(path, "w", encoding="ascii") as file:
-        file.write(text)
-    return path
-
-
 def generate(kind, path, *numbers):
     """Writes a topology of a kind to a file: its path."""
-    return write(path, KINDS[kind](*map(int, numbers)))
+    pathlib.Path(path).write_text(KINDS[kind](*map(int, numbers)), encoding="ascii")
+    return path
 
 
 if __name__ == "__main__":

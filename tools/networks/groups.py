@@ -4,6 +4,7 @@ names.
 To add a kind: a function that gives a `Shape`, and a line in KINDS; its keys in helps.py; a line in GROUPS of
 tests/test_routes.py, and how many nodes and links there are in tests/test_spec.py."""
 
+import itertools
 from dataclasses import dataclass, field
 
 from networks import errors, fields, limits
@@ -32,22 +33,12 @@ def flat(nodes, links):
     return Shape(nodes, list(nodes), links)
 
 
-def line(table, _):
-    """Each node is joined to the next."""
-    nodes = numbered(table["name"], table["nodes"])
-    return flat(nodes, list(zip(nodes, nodes[1:])))
-
-
-def ring(table, _):
-    """A line whose ends are joined."""
-    nodes = numbered(table["name"], table["nodes"])
-    return flat(nodes, list(zip(nodes, nodes[1:] + nodes[:1])))
-
-
-def full(table, _):
-    """Each node is joined to each."""
-    nodes = numbered(table["name"], table["nodes"])
-    return flat(nodes, [(one, other) for number, one in enumerate(nodes) for other in nodes[number + 1 :]])
+def joined(links_of):
+    """What makes a shape of NAME-1 and so on, of whose names a function gives the links."""
+    def make_shape(table, _):
+        nodes = numbered(table["name"], table["nodes"])
+        return flat(nodes, list(links_of(nodes)))
+    return make_shape
 
 
 def star(table, _):
@@ -68,7 +59,7 @@ def tree(table, _):
     """NAME is the root; each node of a level has `branches` below it, NAME-1, then NAME-1-1 and so on."""
     shape, level = Shape([table["name"]]), [table["name"]]
     for _ in range(table["levels"]):
-        below = [(node, f"{node}-{number}") for node in level for number in range(1, table["branches"] + 1)]
+        below = [(node, child) for node in level for child in numbered(node, table["branches"])]
         shape.links += below
         level = [child for _, child in below]
         shape.nodes += level
@@ -83,11 +74,10 @@ def fat_tree(table, _):
     hosts a lower router."""
     k, name = table["k"], table["name"]
     half = k // 2
-    core = [f"{name}-core-{number}" for number in range(1, half * half + 1)]
+    core = numbered(f"{name}-core", half * half)
     shape = Shape(list(core), hosts=half)
     for pod in range(1, k + 1):
-        upper = [f"{name}-p{pod}-up-{number}" for number in range(1, half + 1)]
-        lower = [f"{name}-p{pod}-low-{number}" for number in range(1, half + 1)]
+        upper, lower = (numbered(f"{name}-p{pod}-{level}", half) for level in ("up", "low"))
         shape.nodes += upper + lower
         shape.leaves += lower
         shape.links += [(core[number * half + port], upper[number]) for number in range(half) for port in range(half)]
@@ -124,9 +114,9 @@ def even(value):
 SIDE = fields.whole(1, limits.GROUP_NODES, "nodes")
 # For each kind its maker and the keys that it has beside those of all groups.
 KINDS = {
-    "line": (line, counted(2)),
-    "ring": (ring, counted(3)),
-    "full": (full, counted(2)),
+    "line": (joined(itertools.pairwise), counted(2)),
+    "ring": (joined(lambda nodes: zip(nodes, nodes[1:] + nodes[:1])), counted(3)),
+    "full": (joined(lambda nodes: itertools.combinations(nodes, 2)), counted(2)),
     "star": (star, counted(1)),
     "grid": (grid, {"rows": SIDE, "columns": SIDE}),
     "tree": (tree, {"branches": fields.whole(1, 64, "nodes"), "levels": fields.whole(1, 10, "levels")}),

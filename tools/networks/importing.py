@@ -92,11 +92,9 @@ def node_table(node, name):
 
 def link_table(link, name_of):
     """A link as a table."""
-    parts = [f'a = "{name_of[link.a]}"', f'b = "{name_of[link.b]}"']
-    parts += [f'rate = "{units.rate_said(link.rate)}"'] if link.rate is not None else []
-    parts += [f'delay = "{units.time_said(link.delay)}"'] if link.delay is not None else []
-    parts += [f"cost = {link.cost}"] if link.cost is not None else []
-    return f"{{{', '.join(parts)}}}"
+    rate = None if link.rate is None else units.rate_said(link.rate)
+    delay = None if link.delay is None else units.time_said(link.delay)
+    return writing.said({"a": name_of[link.a], "b": name_of[link.b], "rate": rate, "delay": delay, "cost": link.cost})
 
 
 def renamed_lines(made, name_of):

@@ -42,15 +42,10 @@ def check_limits(network, name):
     if len(network.ifaces) > limits.IFACES:
         raise errors.Refused(name, f"there are {len(network.ifaces):,} interfaces, and at most {limits.IFACES:,} may "
                                    "be")
-    cut = channels(network)
+    cut = network.channels()
     if cut > limits.CHANNELS:
         raise errors.Refused(name, f"the partitions are joined by {cut:,} channels (two for each link between them), "
                                    f"and at most {limits.CHANNELS} may be: {CHANNEL_ADVICE}")
-
-
-def channels(network):
-    """How many channels the partitions of a network have."""
-    return network.channels([node.partition for node in network.nodes])
 
 
 def make(spec, name, say=None):
@@ -116,9 +111,7 @@ def routed(spec, network):
 def addressed(spec, network, order, goals):
     """Gives addresses in an order, those of the flows' goals to the sources too."""
     counts = addresses.give(network, order, spec.prefix, spec.prefix_place)
-    first = {}
-    for iface in network.ifaces:
-        first.setdefault(iface.node, iface.address)
+    first = {iface.node: iface.address for iface in reversed(network.ifaces)}
     for source, goal in zip(network.sources, goals):
         source.to = first[goal]
     return counts
@@ -141,7 +134,7 @@ def chosen_lines(spec, network, flow_count, blocks, taken, raised):
         "ends its port is open",
         f"stop        {units.time_said(spec.stop)}; a flow that says no other end ends at "
         f"{units.time_said(spec.stop * flows.TENTHS // 10)}",
-        f"partitions  {max(node.partition for node in network.nodes) + 1}, with {channels(network)} channels",
+        f"partitions  {max(node.partition for node in network.nodes) + 1}, with {network.channels()} channels",
     ]
     if raised:
         shown = ", ".join(raised[:4]) + (f" and {len(raised) - 4} more" if len(raised) > 4 else "")

@@ -92,10 +92,8 @@ class Ways:
 
     def via(self, node, address):
         """The interface of the node's longest prefix that holds an address, or None."""
-        best = None
-        for route in self.node_routes[node]:
-            if (address ^ route.prefix) >> 32 - route.length == 0 and (best is None or route.length > best.length):
-                best = route
+        held = (route for route in self.node_routes[node] if (address ^ route.prefix) >> 32 - route.length == 0)
+        best = max(held, key=lambda route: route.length, default=None)
         return None if best is None else best.via
 
     def way(self, start, address, ttl=MOST_LINKS, first=None):

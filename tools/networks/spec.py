@@ -1,6 +1,6 @@
 """Reads a SPEC, the short description of a network: `network make --help` has each key."""
 
-from dataclasses import dataclass, field
+from dataclasses import dataclass, field, replace
 
 from networks import errors, fields, flowkeys, groups, limits, names, paths
 from networks.chance import Chance
@@ -118,10 +118,8 @@ class Reading:
             raise errors.Refused(text.name, "this is a topology, not a SPEC: `network routes`, `partition` and `show` "
                                             "take it")
         read = fields.table(means, {**TOP, **dict.fromkeys((*ARRAYS, "defaults"), fields.anything)}, text.place)
-        self.spec.prefix_place = text.place("prefix") if "prefix" in means else text.name
-        for key in TOP:
-            if key in read:
-                setattr(self.spec, key, read[key])
+        place = text.place("prefix") if "prefix" in means else text.name
+        self.spec = replace(self.spec, prefix_place=place, **{key: read[key] for key in TOP if key in read})
         self.chance = None if self.spec.seed is None else Chance(self.spec.seed)
         defaults = fields.table(means.get("defaults", {}), dict.fromkeys(DEFAULTS, fields.anything),
                                 lambda *way: f"{text.place('defaults', *way)}: defaults")

@@ -102,8 +102,9 @@ class Network:
         """The nodes at the far ends of each node's links."""
         return [[self.ifaces[far].node for _, far, _ in own] for own in self.ends()]
 
-    def channels(self, parts):
-        """How many channels join the partitions of the nodes."""
+    def channels(self, parts=None):
+        """How many channels join the partitions of the nodes: their own, or others."""
+        parts = parts or [node.partition for node in self.nodes]
         return 2 * sum(parts[one] != parts[other] for one, other in self.pairs())
 
     def node_of_address(self):
@@ -190,10 +191,9 @@ class Reading:
 
     def new(self, known, word, number, place, what):
         """Gives a name to a number, once."""
-        if word in known:
+        if known.setdefault(word, number) != number:
             raise errors.Refused(place("name"), f"two {what}s have the name {errors.shown(word)}: {what} {known[word]} "
                                                 "too")
-        known[word] = number
 
     def read(self):
         """The whole network."""
