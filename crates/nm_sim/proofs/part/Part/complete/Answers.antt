@@ -44,15 +44,15 @@ returns g c = rw (← c.self.view_is) (
       let p : PartValue g.row.L.Denot = record { part = c.self.inside.part; devices = c.self.inside.devices; timeline = c.self.inside.timeline; outgoing = c.self.inside.outgoing; records = c.self.inside.records; steps = c.self.inside.steps } in
       let q : PartValue g.row.L.Denot = record { part = c.self.inside.part; devices = c.complete-start.new.self; timeline = c.self.inside.timeline; outgoing = c.self.inside.outgoing; records = c.self.inside.records; steps = c.self.inside.steps } in
       let does = c.complete-start.ensures.does (states_in part s) c.args.due.number ready.devices in (
-      c.finish.ensures.represents (to_do part (keyed c.args.due.time c.args.due.number (Completion c.args.iface)) s) (record {
-        taken = taken_same g.L.EventList.pending c.args.topology.now c.args.due.time (to_do part (keyed c.args.due.time c.args.due.number (Completion c.args.iface)) s) p q (record { is_part = refl; sent = refl; outgoing = refl; steps = refl; wanted = c.complete-start.ensures.wanted; keeping = refl }) ready.taken refl refl;
-        does = does;
-      }),
-      record {
-        arrived = refl;
-        offering = refl;
-        started = c.octets_of_start-started.ensures ∙ octets_are c.complete-start.result ∙ ap started_octets does.does.transmission;
-      },
+        c.finish.ensures.represents (to_do part (keyed c.args.due.time c.args.due.number (Completion c.args.iface)) s) (record {
+          taken = taken_same g.L.EventList.pending c.args.topology.now c.args.due.time (to_do part (keyed c.args.due.time c.args.due.number (Completion c.args.iface)) s) p q (record { is_part = refl; sent = refl; outgoing = refl; steps = refl; wanted = c.complete-start.ensures.wanted; keeping = refl }) ready.taken refl refl;
+          does = does;
+        }),
+        record {
+          arrived = refl;
+          offering = refl;
+          started = c.octets_of_start-started.ensures ∙ octets_are c.complete-start.result ∙ ap started_octets does.does.transmission;
+        },
       ),
   c.finish.ensures.steps,
   c.finish.ensures.keeping,
