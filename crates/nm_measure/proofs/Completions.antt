@@ -15,6 +15,7 @@ use Rattle.nm_model.specs.Port.{Busy, completed, waiting_of}
 use Rattle.nm_model.specs.Run.{Effect, State, arrived_after, effect, one_list, at_iface, sent_after, turned, turned_by}
 use Rattle.nm_model.specs.Tags.{IsUntagged, untagged_busy, untagged_event}
 use Rattle.nm_model.proofs.Keys.{key_at, least_has}
+use Rattle.nm_model.proofs.Untagging.{tagged_first}
 use Rattle.nm_topology.specs.TopologyValue.{TopologyValue}
 use Rattle.nm_sim.specs.Network.{net_of}
 use Rattle.nm_sim.specs.Part.{PartValue}
@@ -25,7 +26,7 @@ use Rattle.nm_measure.specs.declared.tag.Tag.{Tag}
 use Rattle.nm_measure.specs.Interfaces.{IsNext}
 use Rattle.nm_measure.specs.Lanes.{lanes_in}
 use Rattle.nm_measure.specs.Ways.{ends_at, ends_in, ends_next, tagged_list, tagged_net}
-use Rattle.nm_measure.proofs.Tagged.{lanes_of, lanes_started, lanes_turned, set_as, tagged_first}
+use Rattle.nm_measure.proofs.Tagged.{lanes_of, lanes_started, lanes_turned, set_as}
 use Rattle.nm_measure.proofs.Turns.{next_state}
 use Rattle.nm_measure.proofs.Following.{few_arrived}
 

@@ -23,6 +23,7 @@ use Rattle.nm_measure.specs.declared.flow_counts.PacketOutcome.{PacketOutcome}
 use Rattle.nm_model.specs.declared.offering.Offering.TheVariants.{Nothing, Waits, Dropped}
 use Rattle.nm_model.proofs.Keys.{key_at, least_has}
 use Rattle.nm_model.proofs.ListLemmas.{not_some, number_apart, number_tied, same_number, some_inj}
+use Rattle.nm_model.proofs.Untagging.{tagged_first}
 use Rattle.nm_topology.specs.TopologyValue.{TopologyValue}
 use Rattle.nm_sim.specs.Network.{net_of}
 use Rattle.nm_sim.specs.Part.{PartValue}
@@ -34,7 +35,7 @@ use Rattle.nm_model.specs.Before.{events_at, is_at, same_place}
 use Rattle.nm_measure.specs.Sent.{AreSent, is_fire, made_by, sent_in}
 use Rattle.nm_measure.specs.Tagged.{SendsByOwn}
 use Rattle.nm_measure.specs.Ways.{WayEnd, dropped_as, way_end, ends_at, ends_in, ends_next, made_as, own_tag, time_of, tagged_list, tagged_net, tagging}
-use Rattle.nm_measure.proofs.Tagged.{lanes_of, lanes_offered, tagged_first}
+use Rattle.nm_measure.proofs.Tagged.{lanes_of, lanes_offered}
 use Rattle.nm_measure.proofs.Turns.{next_state}
 use Rattle.nm_measure.proofs.Following.{came_with, can_be, few_arrived, offering_kept, sends_there, tag_of}
 

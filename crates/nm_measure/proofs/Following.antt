@@ -33,6 +33,7 @@ use Rattle.nm_model.specs.declared.offering.Offering.TheVariants.{Nothing, Waits
 use Rattle.nm_model.proofs.Keys.{key_at, least_has}
 use Rattle.nm_model.proofs.ListLemmas.{below_nth, not_some, nth_cong, nth_last, nth_prefix, number_tied, prefix_length, prefix_nth, same_number, set_here, set_there, some_inj}
 use Rattle.nm_model.proofs.Traces.{arrivals_begin, arrived_counts, passed-append}
+use Rattle.nm_model.proofs.Untagging.{tagged_first}
 use Rattle.nm_topology.specs.TopologyValue.{TopologyValue}
 use Rattle.nm_sim.specs.Network.{net_of}
 use Rattle.nm_sim.specs.Part.{PartValue}
@@ -47,7 +48,7 @@ use Rattle.nm_measure.specs.Lanes.{CanBe, lanes_in, one_of, with_offer}
 use Rattle.nm_measure.specs.Tagged.{SendsByOwn}
 use Rattle.nm_measure.specs.Ways.{answer_tag, dropped_as, way_end, ended_as, ends_at, ends_in, ends_next, fate_at, fate_by, outcome_by, sent_tag, tagged_list, tagged_net, tagging}
 use Rattle.nm_measure.proofs.Laning.{answer_counts_none}
-use Rattle.nm_measure.proofs.Tagged.{lanes_arrived, lanes_of, lanes_offered, tagged_first}
+use Rattle.nm_measure.proofs.Tagged.{lanes_arrived, lanes_of, lanes_offered}
 use Rattle.nm_topology.specs.PartValues.{IfaceValue}
 use Rattle.nm_measure.proofs.Nodes.{far_is}
 use Rattle.nm_measure.proofs.Turns.{effect_at, next_records, next_state}

@@ -1,40 +1,15 @@
 -- The run over packets with tags, one event later.
 use Rattle.std.proofs.Common.{◌≡◌, ◌≢◌, ℕ, zero, suc, ◌+◌, ◌≤◌, Bool, true, false, cond, List, [], ◌∷◌, ◌++◌, map, length, drop, Option, Some, None, refl, sym, ap, ◌∙◌, subst, ⊎_elim}
-use Rattle.std.specs.Option.{option_map}
 use Rattle.std.proofs.lemmas.List.{drop-append-le, map-append}
-use Rattle.std.specs.FinMap.{FinMap, get}
-use Rattle.nm_base.specs.declared.event.Event.{Event}
-use Rattle.nm_base.specs.declared.key.Key.{Key}
-use Rattle.nm_base.specs.Key.{key_cmp}
-use Rattle.nm_model.specs.EventList.{least}
 use Rattle.nm_model.specs.Lists.{nth, set_at}
 use Rattle.nm_model.specs.Network.{IsNet, Net}
 use Rattle.nm_model.specs.Offers.{offering_at, offering_of}
 use Rattle.nm_model.specs.Port.{Busy, Port, offered, waiting_of}
 use Rattle.nm_model.specs.Run.{sent_after, sent_on, turned, turned_by}
-use Rattle.nm_model.specs.Tags.{untagged_event}
 use Rattle.nm_model.specs.declared.offering.Offering.TheVariants.{Waits, Dropped}
-use Rattle.nm_model.proofs.Keys.{least_has, least_is, least_min, least_none}
-use Rattle.nm_model.proofs.ListLemmas.{not_some, option_cases, same_number, set_here, set_there, some_inj}
+use Rattle.nm_model.proofs.ListLemmas.{not_some, same_number, set_here, set_there, some_inj}
 use Rattle.nm_measure.specs.declared.tag.Tag.{Tag}
 use Rattle.nm_measure.specs.Lanes.{with_offer}
-
-some_of : {A B : Type 0} (f : A → B) (o : Option A) (y : B) → option_map f o ≡ Some y → (x : A) × (o ≡ Some x)
-some_of f None y e = absurd (not_some y e)
-some_of f (Some x) y e = (x, refl)
-
--- the next event over packets with tags
-pub tagged_first : {P T : Type 0} (m : FinMap key_cmp (Event (T × P))) (n : FinMap key_cmp (Event P)) → ((q : Key) → get n q ≡ option_map untagged_event (get m q)) → (e : Key × Event P) → least n ≡ Some e
-    → (f : Event (T × P)) × (least m ≡ Some (e.0, f)) × (e.1 ≡ untagged_event f)
-tagged_first m n h e first = ⊎_elim
-    (λ none. absurd (not_some e.1 (sym (h e.0 ∙ ap (option_map untagged_event) (least_none m e.0 none)) ∙ least_has n e first)))
-    (λ s.
-    let x = s.0 in
-    let is = least_is n x.0 (untagged_event x.1) (h x.0 ∙ ap (option_map untagged_event) (least_has m x s.1))
-    (λ q w g. let some = some_of untagged_event (get m q) w (sym (h q) ∙ g) in least_min m x q some.0 s.1 some.1) in
-    let same = some_inj e (x.0, untagged_event x.1) (sym first ∙ is) in
-    (x.1, s.1 ∙ ap (λ k. Some (k, x.1)) (sym (ap (λ z. z.0) same)), ap (λ z. z.1) same))
-    (option_cases (least m))
 
 -- a list from a place on
 pub drop_nth : {X : Type 0} (xs : List X) (n : ℕ) (y : X) → nth xs n ≡ Some y → drop n xs ≡ y ∷ drop (suc n) xs

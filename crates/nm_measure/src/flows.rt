@@ -1,8 +1,10 @@
 //! What becomes of the packets of all sources.
 
-ghost use Rattle.std.specs.Prelude.{◌≡◌, ℕ, ◌+◌, ◌<◌, ◌++◌, ◌∷◌, [], List, length, map, option_map, true, false, None, Some, ◌^◌, IfOk, IfSome, OnOk, slice_get};
+ghost use Rattle.std.specs.Prelude.{◌≡◌, ℕ, ◌+◌, ◌<◌, ◌++◌, ◌∷◌, [], List, length, map, option_map};
+ghost use Rattle.std.specs.Prelude.{true, false, None, Some, ◌^◌, IfOk, IfSome, OnOk, slice_get};
 ghost use Rattle.nm_measure.specs.declared.flow_counts.PacketOutcome.TheVariants.{Delivered};
-ghost use Rattle.nm_measure.specs.Counted.{AreArrivals, AreFlows, AreOutcomes, counts_for, is_sent, lasting};
+ghost use Rattle.nm_measure.specs.Counted.{AreArrivals, AreFlows, AreOutcomes, counts_for, is_sent};
+ghost use Rattle.nm_measure.specs.Counted.{lasting};
 ghost use Rattle.nm_measure.specs.Lanes.{one_of};
 ghost use Rattle.nm_measure.specs.Ways.{WayEnd, own_tag};
 ghost use Rattle.nm_measure.specs.Flows.{sent_numbers};
@@ -85,7 +87,8 @@ impl Flows {
     pub(crate) fn send(&mut self, source: SourceNo, now: Time) -> Tag
         ensures sent { sent_numbers self.new.counts.items
             ≡ with_sent source (sent_numbers self.old.counts.items) }
-        ensures tag { (number : ℕ) → slice_get (sent_numbers self.old.counts.items) source ≡ Some number
+        ensures tag { (number : ℕ)
+            → slice_get (sent_numbers self.old.counts.items) source ≡ Some number
             → result ≡ own_tag source number now }
         ensures flows { (ends : List WayEnd) (under_way : ℕ → ℕ) (number : ℕ)
             → slice_get (sent_numbers self.old.counts.items) source ≡ Some number
@@ -104,7 +107,8 @@ impl Flows {
         ensures sent { sent_numbers self.new.counts.items
             ≡ with_sent source (sent_numbers self.old.counts.items) }
         ensures times { self.new.times ≡ self.old.times }
-        ensures number { (number : ℕ) → slice_get (sent_numbers self.old.counts.items) source ≡ Some number
+        ensures number { (number : ℕ)
+            → slice_get (sent_numbers self.old.counts.items) source ≡ Some number
             → result ≡ number }
         ensures flows { (ends : List WayEnd) (under_way : ℕ → ℕ) (number : ℕ)
             → slice_get (sent_numbers self.old.counts.items) source ≡ Some number
@@ -150,7 +154,8 @@ impl Flows {
     pub(crate) fn end(&mut self, tag: &Tag, outcome: PacketOutcome) -> bool
         ensures times { self.new.times ≡ self.old.times }
         ensures count { length self.new.counts.items ≡ length self.old.counts.items }
-        ensures outcomes { (ends : List WayEnd) (under_way : ℕ → ℕ) (end : WayEnd) → end.tag ≡ tag.now
+        ensures outcomes { (ends : List WayEnd) (under_way : ℕ → ℕ) (end : WayEnd)
+            → end.tag ≡ tag.now
             → end.outcome ≡ outcome
             → AreOutcomes ends (λ j. one_of j tag.now + under_way j) self.old.counts.items
             → AreOutcomes (ends ++ end ∷ []) under_way self.new.counts.items }

@@ -1,10 +1,12 @@
 //! How often each delay occurred.
 
-ghost use Rattle.std.specs.Prelude.{◌≡◌, ℕ, ◌≤◌, ◌<◌, ◌+◌, ◌-◌, ◌*◌, ◌^◌, Bool, true, false, nat_eq, ◌==◌, if◌then◌else◌};
+ghost use Rattle.std.specs.Prelude.{◌≡◌, ℕ, ◌≤◌, ◌<◌, ◌+◌, ◌-◌, ◌*◌, ◌^◌, Bool, true, false};
+ghost use Rattle.std.specs.Prelude.{nat_eq, ◌==◌, if◌then◌else◌};
 ghost use Rattle.std.specs.Prelude.{OnOk, OnErr, IfOk, List, [], ◌∷◌, ◌++◌, length, map};
 ghost use Rattle.std.specs.List.Sorted.{IsNonDecreasingBy};
 ghost use Rattle.nm_base.specs.Count.{saturated};
-ghost use Rattle.nm_measure.specs.Spread.{HaveTimes, IsPercentile, IsSpread, different_of, kept, rank_of, rounded_down, times_of};
+ghost use Rattle.nm_measure.specs.Spread.{HaveTimes, IsPercentile, IsSpread, different_of, kept};
+ghost use Rattle.nm_measure.specs.Spread.{rank_of, rounded_down, times_of};
 
 use std::alloc::{AllocError, Global};
 

@@ -22,7 +22,8 @@ use nm_topology::Topology;
 
 /// The one event list over packets with tags is that without, and the laws of networks hold of it.
 pub(crate) fn tags_change_no_run(topology: &Topology)
-    ensures same { (n : ℕ) → IsUntagged (tagged_list topology.now n) (one_list (net_of topology.now) n) }
+    ensures same { (n : ℕ)
+        → IsUntagged (tagged_list topology.now n) (one_list (net_of topology.now) n) }
     ensures network { IsNet (tagged_net topology.now) }
     ensures orderly { (n : ℕ)
         → IsOrderly (tagged_net topology.now) (λ q. true) (tagged_list topology.now n) }

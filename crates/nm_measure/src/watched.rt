@@ -1,6 +1,7 @@
 //! What becomes of the packets of sources, observed event by event.
 
-ghost use Rattle.std.specs.Prelude.{◌≡◌, ◌≢◌, ℕ, suc, ◌+◌, ◌<◌, ◌^◌, ◌++◌, ◌∷◌, [], List, None, Some, IfOk, OnOk, length, map, option_map, slice_get};
+ghost use Rattle.std.specs.Prelude.{◌≡◌, ◌≢◌, ℕ, suc, ◌+◌, ◌<◌, ◌^◌, ◌++◌, ◌∷◌, [], List, None};
+ghost use Rattle.std.specs.Prelude.{Some, IfOk, OnOk, length, map, option_map, slice_get};
 ghost use Rattle.nm_forward.specs.declared.counter.Counter.{Counter};
 ghost use Rattle.nm_base.specs.declared.key.Place.TheVariants.{Arrive, Complete, Fire};
 ghost use Rattle.nm_events.specs.Held.{Held};
@@ -9,13 +10,16 @@ ghost use Rattle.nm_measure.specs.Interfaces.{IsNext};
 ghost use Rattle.nm_model.specs.Lists.{set_at};
 ghost use Rattle.nm_model.specs.declared.offering.Offering.TheVariants.{Nothing};
 ghost use Rattle.nm_measure.specs.declared.flow_counts.PacketOutcome.{PacketOutcome};
-ghost use Rattle.nm_measure.specs.declared.flow_counts.PacketOutcome.TheVariants.{Delivered, Dropped};
+ghost use Rattle.nm_measure.specs.declared.flow_counts.PacketOutcome.TheVariants.{Delivered};
+ghost use Rattle.nm_measure.specs.declared.flow_counts.PacketOutcome.TheVariants.{Dropped};
 ghost use Rattle.nm_measure.specs.declared.lane.Lane.{Lane};
 ghost use Rattle.nm_measure.specs.declared.tag.Tag.{Tag};
 ghost use Rattle.nm_measure.specs.Counted.{lasting};
-ghost use Rattle.nm_measure.specs.Lanes.{CanBe, IsDropOf, IsEndOf, Watches, WatchesRun, left_in_hand, one_of};
+ghost use Rattle.nm_measure.specs.Lanes.{CanBe, IsDropOf, IsEndOf, Watches, WatchesRun};
+ghost use Rattle.nm_measure.specs.Lanes.{left_in_hand, one_of};
 ghost use Rattle.nm_measure.specs.Lanes.{with_offer, with_start};
-ghost use Rattle.nm_measure.specs.Ways.{WayEnd, answer_tag, dropped_as, ended_as, fate_by, outcome_by};
+ghost use Rattle.nm_measure.specs.Ways.{WayEnd, answer_tag, dropped_as, ended_as, fate_by};
+ghost use Rattle.nm_measure.specs.Ways.{outcome_by};
 ghost use Rattle.nm_sim.specs.Effects.{IsPlaceIn};
 ghost use Rattle.nm_measure.specs.Flows.{sent_numbers};
 ghost use Rattle.nm_measure.specs.Sent.{AreSent, sent_later, with_sent};
@@ -74,7 +78,8 @@ fn hop(iface: IfaceNo, dir: Dir, time: Time) -> Hop {
 
 /// What is said of a packet that arrived, and why.
 fn said_of(arrived: &Arrived) -> (Fate, Reason)
-    ensures { (counter : Counter) → arrived.now.counter ≡ Some counter → result.0 ≡ fate_by counter }
+    ensures { (counter : Counter)
+        → arrived.now.counter ≡ Some counter → result.0 ≡ fate_by counter }
 {
     match arrived.counter {
         Some(counter) => (fate_of(counter), Reason::Counted(counter)),
@@ -112,7 +117,8 @@ impl Watched {
         topology: &Topology,
         followed: Option<SourceNo>,
     ) -> Result<Self, AllocError>
-        ensures sent { IfOk result (λ w. AreSent topology.now 0 (sent_numbers w.flows.counts.items)) }
+        ensures sent { IfOk result
+            (λ w. AreSent topology.now 0 (sent_numbers w.flows.counts.items)) }
         ensures watches { IfOk result (WatchesRun topology.now 0) }
     {
         let courses = match followed {
@@ -328,7 +334,8 @@ impl Watched {
             → Watches count all (tag.now ∷ []) ends self.old
             → Watches count all (left_in_hand (outcome_by fate) tag.now)
             (ends ++ ended_as end (outcome_by fate)) self.new) }
-        ensures sent { sent_numbers self.new.flows.counts.items ≡ sent_numbers self.old.flows.counts.items }
+        ensures sent { sent_numbers self.new.flows.counts.items
+            ≡ sent_numbers self.old.flows.counts.items }
     {
         let Some(outcome) = outcome_of(fate) else {
             return Ok(());
@@ -394,7 +401,8 @@ impl Watched {
             → Watches count all (offer.tag ∷ []) ends self.old
             → Watches count (with_offer offering offer.tag all) [] (ends ++ dropped_as end offering)
             self.new) }
-        ensures sent { sent_numbers self.new.flows.counts.items ≡ sent_numbers self.old.flows.counts.items }
+        ensures sent { sent_numbers self.new.flows.counts.items
+            ≡ sent_numbers self.old.flows.counts.items }
     {
         match offering {
             Offering::Started(iface) => self.see_start(offer, iface),

@@ -26,7 +26,7 @@ mod Certifying
 mod CertifyFaults
 mod SameKnowledge
 mod Orders
-mod Untagging
+pub mod Untagging
 mod TwoHosts
 mod NeverFalling
 mod Queues

@@ -57,6 +57,14 @@ module _ {P T : Type 0} where
           (h x.0 ∙ ap (option_map untagged_event) (least_has m x e))
           (λ q w g. let some = some_of_map untagged_event (get m q) w (sym (h q) ∙ g) in least_min m x q some.0 e some.1)
 
+  -- the next event over packets with tags
+  pub tagged_first : (m : FinMap key_cmp (Event (T × P))) (n : FinMap key_cmp (Event P)) → IsSame m n → (e : Key × Event P) → least n ≡ Some e
+      → (f : Event (T × P)) × (least m ≡ Some (e.0, f)) × (e.1 ≡ untagged_event f)
+  tagged_first m n h e first =
+      let found = some_of_map untag_entry (least m) e (sym (least_same m n h) ∙ first) in
+      let same = some_inj e (untag_entry found.0) (sym first ∙ least_same m n h ∙ ap (option_map untag_entry) found.1) in
+      (found.0.1, found.1 ∙ ap (λ k. Some (k, found.0.1)) (sym (ap (λ z. z.0) same)), ap (λ z. z.1) same)
+
   insert_kept : (m : FinMap key_cmp (Event (T × P))) (n : FinMap key_cmp (Event P)) (k : Key) (v : Event (T × P)) → IsSame m n → IsSame (insert m k v) (insert n k (untagged_event v))
   insert_kept m n k v h q = ⊎_elim
       (λ f. subst (λ z. get (insert n k (untagged_event v)) z ≡ option_map untagged_event (get (insert m k v) z)) (sym f) (insert_same n k (untagged_event v) ∙ sym (ap (option_map untagged_event) (insert_same m k v))))

@@ -2,7 +2,8 @@
 
 ghost use Rattle.std.specs.Arc.{arc_value};
 ghost use Rattle.std.specs.Option.{option_map};
-ghost use Rattle.std.specs.Prelude.{◌≡◌, ◌⊎◌, ◌+◌, ◌≤◌, IfErr, IfOk, IfSome, OnOk, Some, ℕ, false, length};
+ghost use Rattle.std.specs.Prelude.{◌≡◌, ◌⊎◌, ◌+◌, ◌≤◌, IfErr, IfOk, IfSome, OnOk, Some, ℕ, false};
+ghost use Rattle.std.specs.Prelude.{length};
 ghost use Rattle.std.specs.Prelude.{None, if◌then◌else◌, is_some, true};
 ghost use Rattle.slab.specs.Slab.{Updates, get};
 ghost use Rattle.nm_transport.specs.Asked.{after_unwatch};
@@ -390,7 +391,8 @@ impl<W> Connections<W> {
         }
     }
 
-    /// Closes the connection with this key, whose link has ended. The session of its peer comes back.
+    /// Closes the connection with this key, whose link has ended. The session of its peer comes
+    /// back.
     fn end_at<T: Transport<Connection = W>>(&mut self, transport: &mut T, key: usize)
         ensures idle { T.elapsed_periods transport.new ≡ T.elapsed_periods transport.old }
         ensures waits { (T.asked transport.new).waits ≡ (T.asked transport.old).waits }

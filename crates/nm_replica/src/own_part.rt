@@ -1,6 +1,7 @@
 //! What a replica does itself after a wait: it runs its book, and merges what its sister knows.
 
-ghost use Rattle.std.specs.Prelude.{◌≡◌, ◌≤◌, IfOk, IfSome, Ok, if◌then◌else◌, is_some, length, not};
+ghost use Rattle.std.specs.Prelude.{◌≡◌, ◌≤◌, IfOk, IfSome, Ok, if◌then◌else◌, is_some, length};
+ghost use Rattle.std.specs.Prelude.{not};
 ghost use Rattle.std.specs.Prelude.{position, true};
 ghost use Rattle.nm_replica.specs.Polls.{RunsOwn, is_merge_due, runs_on};
 ghost use Rattle.nm_replica.specs.Served.{WasSeen};

@@ -1,6 +1,7 @@
 //! The measures of a run as comma-separated values for a program (RFC 4180), in one table.
 
-ghost use Rattle.std.specs.Prelude.{◌≡◌, ℕ, ◌<◌, ◌≤◌, ◌^◌, ◌++◌, IfOk, List, OnOk, Some, codes, decimal};
+ghost use Rattle.std.specs.Prelude.{◌≡◌, ℕ, ◌<◌, ◌≤◌, ◌^◌, ◌++◌, IfOk, List, OnOk, Some, codes};
+ghost use Rattle.std.specs.Prelude.{decimal};
 ghost use Rattle.std.specs.Prelude.{length, slice_get, slice_index, take};
 ghost use Rattle.nm_model.specs.Run.{one_list};
 ghost use Rattle.nm_forward.specs.Counter.{counter_number};

@@ -5,8 +5,8 @@ ghost use Rattle.nm_transport.specs.declared.limits.TheConstants.{MAX_LOOKS, MAX
 ghost use Rattle.nm_transport.specs.declared.limits.TheConstants.{MAX_REPORTS, PERIOD_MILLISECONDS};
 ghost use Rattle.nm_transport.specs.Spinning.{after_sleep, after_spin, first_spinning};
 
-/// A period lasts 50 ms, and a wait makes 64 reports at most. A wait that spins looks 128 times, and
-/// 1,024 waits in a row sleep at once at most.
+/// A period lasts 50 ms, and a wait makes 64 reports at most. A wait that spins looks 128 times,
+/// and 1,024 waits in a row sleep at once at most.
 pub fn limits_of_transports()
     ensures limits { (PERIOD_MILLISECONDS ≡ 50) × (MAX_REPORTS ≡ 64) }
     ensures spinning { (MAX_LOOKS ≡ 128) × (MAX_PAUSE_WAITS ≡ 1024) }

@@ -1,7 +1,9 @@
 //! Connections over TCP.
 
-ghost use Rattle.std.specs.Prelude.{◌≡◌, ◌==◌, ◌↔◌, ◌&&◌, ◌||◌, Bool, IfErr, IfOk, IfSome, IsSome, IsSomeAnd};
-ghost use Rattle.std.specs.Prelude.{IsTrue, [], None, Some, false, if◌then◌else◌, is_ok, length, true};
+ghost use Rattle.std.specs.Prelude.{◌≡◌, ◌==◌, ◌↔◌, ◌&&◌, ◌||◌, Bool, IfErr, IfOk, IfSome, IsSome};
+ghost use Rattle.std.specs.Prelude.{IsSomeAnd};
+ghost use Rattle.std.specs.Prelude.{IsTrue, [], None, Some, false, if◌then◌else◌, is_ok, length};
+ghost use Rattle.std.specs.Prelude.{true};
 ghost use Rattle.nm_transport.specs.Period.{ReadsClock};
 ghost use Rattle.std.specs.Duration.{as_nanos};
 ghost use Rattle.nm_transport.specs.Shortage.{IsOfShortage};

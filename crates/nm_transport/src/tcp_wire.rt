@@ -111,9 +111,9 @@ impl TcpWire {
         }
     }
 
-    /// Ends a connection that meets itself without a TIME-WAIT state, in which its port could not be
-    /// listened at for a minute: an octet that it was sent and that nobody read makes the system
-    /// reset it (RFC 1122, section 4.2.2.13). If it can't be sent, the port is free later.
+    /// Ends a connection that meets itself without a TIME-WAIT state, in which its port could not
+    /// be listened at for a minute: an octet that it was sent and that nobody read makes the
+    /// system reset it (RFC 1122, section 4.2.2.13). If it can't be sent, the port is free later.
     fn reset(mut self) {
         let _ = self.stream.write(&[0]);
     }
