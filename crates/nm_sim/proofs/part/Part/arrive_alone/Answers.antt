@@ -14,7 +14,7 @@ use Rattle.nm_forward.specs.Row.{arrival_row, row_counter}
 use Rattle.nm_forward.specs.State.{table_of}
 use Rattle.nm_sim.specs.Network.{net_of}
 use Rattle.nm_sim.proofs.Takings.{arrives_on, is_told, key_is_free}
-use Rattle.nm_sim.proofs.part.event.Part.arrive_alone.Goals as goal
+use Rattle.nm_sim.proofs.part.Part.arrive_alone.Goals as goal
 
 pub react_in_place-requires-clause-place : goal.react_in_place-requires-clause-place
 react_in_place-requires-clause-place g c =

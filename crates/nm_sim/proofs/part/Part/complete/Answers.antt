@@ -7,7 +7,7 @@ use Rattle.nm_sim.specs.Part.{IsReady, PartValue, states_in, to_do}
 use Rattle.nm_sim.proofs.Steps.{is_busy, least_has}
 use Rattle.nm_sim.specs.Told.{started_octets}
 use Rattle.nm_sim.proofs.Takings.{octets_are, taken_same}
-use Rattle.nm_sim.proofs.part.event.Part.complete.Goals as goal
+use Rattle.nm_sim.proofs.part.Part.complete.Goals as goal
 
 pub complete-start-requires-clause-busy : goal.complete-start-requires-clause-busy
 complete-start-requires-clause-busy g c =

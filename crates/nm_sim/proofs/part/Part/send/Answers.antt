@@ -3,7 +3,7 @@ use Rattle.std.specs.Option.{IfSome}
 use Rattle.nm_sim.specs.Effects.{IsCopied}
 use Rattle.nm_sim.specs.Part.{HasReacted, PartValue, states_in}
 use Rattle.nm_sim.proofs.Takings.{has_happened, sends_on}
-use Rattle.nm_sim.proofs.part.event.Part.send.Goals as goal
+use Rattle.nm_sim.proofs.part.Part.send.Goals as goal
 
 pub finish-requires-clause-copied : goal.finish-requires-clause-copied
 finish-requires-clause-copied g c =

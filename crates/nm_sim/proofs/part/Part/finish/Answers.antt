@@ -9,7 +9,7 @@ use Rattle.std.specs.Option.{IfSome}
 use Rattle.nm_sim.proofs.Openings.{here_by_node}
 use Rattle.nm_sim.proofs.Parts.{represents_after}
 use Rattle.nm_sim.proofs.Takings.{transmission_fresh}
-use Rattle.nm_sim.proofs.part.event.Part.finish.Goals as goal
+use Rattle.nm_sim.proofs.part.Part.finish.Goals as goal
 
 pub schedule_transmission-transmitted-requires-clause-transmits : goal.schedule_transmission-transmitted-requires-clause-transmits
 schedule_transmission-transmitted-requires-clause-transmits g c =

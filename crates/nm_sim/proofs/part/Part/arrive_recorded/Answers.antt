@@ -11,7 +11,7 @@ use Rattle.nm_forward.specs.Row.{arrival_row, row_counter}
 use Rattle.nm_forward.specs.State.{table_of}
 use Rattle.nm_sim.specs.Network.{net_of}
 use Rattle.nm_sim.proofs.Takings.{arrives_on, is_untold, key_is_free}
-use Rattle.nm_sim.proofs.part.event.Part.arrive_recorded.Goals as goal
+use Rattle.nm_sim.proofs.part.Part.arrive_recorded.Goals as goal
 
 pub react_to_arrival-requires-clause-place : goal.react_to_arrival-requires-clause-place
 react_to_arrival-requires-clause-place g c =

@@ -10,7 +10,7 @@ use Rattle.nm_sim.proofs.Openings.{here_by_node}
 use Rattle.nm_sim.proofs.Parts.{represents_again}
 use Rattle.nm_sim.proofs.Steps.{least_has, source_is_kept}
 use Rattle.nm_sim.proofs.Takings.{fires_next, fires_on, follows_fresh, key_is_free}
-use Rattle.nm_sim.proofs.part.event.Part.fire.Goals as goal
+use Rattle.nm_sim.proofs.part.Part.fire.Goals as goal
 
 pub react_to_source-requires-clause-place : goal.react_to_source-requires-clause-place
 react_to_source-requires-clause-place g c =

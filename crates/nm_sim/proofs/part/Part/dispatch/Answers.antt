@@ -5,7 +5,7 @@ use Rattle.nm_model.specs.Run.{keyed}
 use Rattle.nm_sim.specs.Effects.{CanHappen}
 use Rattle.nm_sim.specs.Part.{IsReady, Performed}
 use Rattle.nm_sim.proofs.Steps.{can_happen, least_has}
-use Rattle.nm_sim.proofs.part.event.Part.dispatch.Goals as goal
+use Rattle.nm_sim.proofs.part.Part.dispatch.Goals as goal
 
 pub complete-requires-clause-ready : goal.complete-requires-clause-ready
 complete-requires-clause-ready g c = (

@@ -2,7 +2,7 @@ use Rattle.std.proofs.Common.{◌^◌, ◌<◌, refl, sym, subst}
 use Rattle.nm_model.specs.Run.{keyed}
 use Rattle.nm_sim.specs.Part.{HasMemory, PartValue, Represents}
 use Rattle.nm_sim.proofs.Takings.{memory_at, performed_err, performed_ok, performed_one, performed_told, ready_at, time_is}
-use Rattle.nm_sim.proofs.part.event.Part.perform.Goals as goal
+use Rattle.nm_sim.proofs.part.Part.perform.Goals as goal
 
 pub dispatch-requires-clause-ready : goal.dispatch-requires-clause-ready
 dispatch-requires-clause-ready g c =
