@@ -1,7 +1,8 @@
 -- What is known of delays, with one delay more.
-use Rattle.std.proofs.Common.{◌≡◌, ℕ, zero, suc, ◌+◌, ◌-◌, ◌*◌, ◌/◌, ◌^◌, ◌<◌, ◌≤◌, min, max, List, [], ◌∷◌, ◌++◌, length, Result, Ok, Err, OnOk, fold, sum, refl, sym, ap, ◌∙◌, subst, arith, length-append, lit≤}
+use Rattle.std.proofs.Common.{◌≡◌, ℕ, zero, suc, ◌+◌, ◌-◌, ◌*◌, ◌/◌, ◌^◌, ◌<◌, ◌≤◌, min, max, List, [], ◌∷◌, ◌++◌, length, drop, Result, Ok, Err, OnOk, fold, sum, refl, sym, ap, ◌∙◌, subst, arith, length-append, lit≤}
 use Rattle.std.specs.Int.{abs_diff}
 use Rattle.std.proofs.Math.Nat.{div-le_of_le-mul, mul-le-mul_right}
+use Rattle.std.proofs.lemmas.List.{drop-append-le}
 use Rattle.std.proofs.lemmas.List.Sums.{fold_push, sum_by-cons, sum_by_push}
 use Rattle.nm_base.specs.Count.{saturated}
 use Rattle.nm_measure.specs.Added.{AreAdded}
@@ -188,3 +189,13 @@ unchanged ds old new t rows count kind h = record {
 pub held : {T E P : Type 0} (r : Result T E) → P → OnOk r P
 held (Ok x) h = h
 held (Err e) h = tt
+
+-- the greatest of those behind the first so many, with one delay more
+pub recent_added : (seen : ℕ) (ds : List ℕ) (recent d : ℕ) → seen ≤ length ds → (length ds < 2 ^ 64 → recent ≡ greatest_of (drop seen ds))
+    → length (ds ++ d ∷ []) < 2 ^ 64 → max recent d ≡ greatest_of (drop seen (ds ++ d ∷ []))
+recent_added seen ds recent d early is few =
+    let more : length ds + 1 < 2 ^ 64 = subst (λ n. n < 2 ^ 64) (length-append ds (d ∷ [])) few in
+    ap (λ n. max n d) (is (omega (arith, more))) ∙ sym (fold_push max 0 (drop seen ds) d) ∙ ap greatest_of (sym (drop-append-le seen ds (d ∷ []) early))
+
+pub seen_added : (seen : ℕ) (ds : List ℕ) (d : ℕ) → seen ≤ length ds → seen ≤ length (ds ++ d ∷ [])
+seen_added seen ds d early = let l = length-append ds (d ∷ []) in omega (arith, early, l)

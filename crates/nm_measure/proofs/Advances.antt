@@ -1,5 +1,5 @@
 -- A measured network goes on, event by event.
-use Rattle.std.proofs.Common.{◌≡◌, ℕ, suc, ◌+◌, ◌<◌, ◌≤◌, true, List, ◌++◌, Option, Some, None, sym, ap, ◌∙◌, subst, arith, ⊎_elim}
+use Rattle.std.proofs.Common.{◌≡◌, ℕ, suc, ◌+◌, ◌<◌, ◌≤◌, true, List, map, ◌++◌, Option, Some, None, sym, ap, ◌∙◌, subst, arith, ⊎_elim}
 use Rattle.std.specs.Option.{option_map}
 use Rattle.std.proofs.lemmas.Bool.{cases_lt}
 use Rattle.std.proofs.lemmas.Bool.Decides.{nat_tests}
@@ -22,7 +22,11 @@ use Rattle.nm_sim.specs.Told.{Happens, HappensNext}
 use Rattle.nm_sim.specs.declared.told.Happened.{Happened}
 use Rattle.nm_measure.specs.Amounts.{AreTraffic, IsCame, IsWent}
 use Rattle.nm_measure.specs.Interfaces.{AreSeen, IsNext}
-use Rattle.nm_measure.specs.Measured.{HasWatched, IsMeasuredBefore, IsMeasuring, MeasuredValue}
+use Rattle.nm_measure.specs.Flows.{sent_numbers}
+use Rattle.nm_measure.specs.Lanes.{WatchesRun}
+use Rattle.nm_measure.specs.Starts.{AreStarts, start_of}
+use Rattle.nm_measure.specs.declared.watched.Watched.{Watched}
+use Rattle.nm_measure.specs.Measured.{HasStarts, HasWatched, IsMeasuredBefore, IsMeasuring, MeasuredValue}
 use Rattle.nm_measure.specs.Sent.{AreSent, sent_later}
 use Rattle.nm_measure.proofs.Telling.{came_is, went_is}
 use Rattle.nm_measure.proofs.Turns.{effect_at, next_records}
@@ -35,17 +39,21 @@ later from until (Some e) le h = grind (arith, nat_tests, h, le)
 
 module _ (t : TopologyValue) where
   -- from a time on
-  pub measuring_first : (from until : ℕ) (m : MeasuredValue) → IsMeasuredBefore t from m → from ≤ until → (seen : List Seen)
+  pub measuring_first : (from until : ℕ) (m : MeasuredValue) → IsMeasuredBefore t from m → from ≤ until → (seen : List Seen) (w : Watched)
       → ((first n : ℕ) → AreSeen t first n m.seen → AreSeen t n n seen)
-      → IsMeasuring t m.part.steps until (record m { seen = seen })
-  measuring_first from until m h le seen begins = record {
+      → ((n : ℕ) → HasWatched t n m → WatchesRun t n w)
+      → ((first n : ℕ) → HasWatched t n m → HasStarts t first n m → AreStarts t n n (map start_of w.flows.times.items))
+      → sent_numbers w.flows.counts.items ≡ m.sent
+      → IsMeasuring t m.part.steps until (record m { seen = seen; sent = sent_numbers w.flows.counts.items; counts = w.flows.counts.items; times = w.flows.times.items; lanes = w.lanes.items })
+  measuring_first from until m h le seen w begins watches starts sent = record {
     events = h.events;
     early = λ n l. later from until (least (one_list (net_of t) n).pending) le (h.over.first n l);
     counted = record { represents = h.represents; counted = h.traffic; keeps = h.keeps };
     steps = h.steps;
     seen = subst (λ f. AreSeen t f h.events seen) (sym h.steps) (begins h.first h.events h.seen);
-    sent = h.sent;
-    watched = h.watched;
+    sent = subst (AreSent t h.events) (sym sent) h.sent;
+    watched = watches h.events h.watched;
+    starts = subst (λ f. AreStarts t f h.events (map start_of w.flows.times.items)) (sym h.steps) (starts h.first h.events h.watched h.starts);
   }
 
   module _ (first until : ℕ) (m : MeasuredValue) (h : IsMeasuring t first until m) (q : PartValue Held) (key : Key) (what : Happened)
@@ -85,8 +93,8 @@ module _ (t : TopologyValue) where
         → ((before : List (Record (List ℕ))) (time : ℕ) (came went : Option (ℕ × List ℕ)) → IsCame came what.arrived → IsWent went what.started
         → AreTraffic t m.traffic before → AreTraffic t new.traffic ((before ++ in_record time came) ++ out_record time went))
         → q.records.keeping ≡ m.part.records.keeping → q.steps ≡ m.part.steps + 1 → AreSeen t first (suc h.events) new.seen → new.sent ≡ sent_later key.place m.sent
-        → HasWatched t (suc h.events) new → IsMeasuring t first until (record new { part = q })
-    measuring_next new counts keeping steps sees made watched =
+        → HasWatched t (suc h.events) new → HasStarts t first (suc h.events) new → IsMeasuring t first until (record new { part = q })
+    measuring_next new counts keeping steps sees made watched starts =
         let e = the_event.0 in
         let s = one_list (net_of t) h.events in
         let did = effect_at (net_of t) h.events e the_event.1 in
@@ -108,4 +116,5 @@ module _ (t : TopologyValue) where
           sent = subst (AreSent t (suc h.events)) (sym made)
               (sent_next t h.events m.sent h.sent e key.place the_event.1 (ap (λ k. k.place) the_event.2));
           watched = watched;
+          starts = starts;
         }

@@ -90,6 +90,10 @@ module _ (t : TopologyValue) (own : SendsByOwn t) (n : ℕ) (kept : IsUntagged (
   tag_is = tag_of (own_tag j next.event.0.number (time_of ((net_of t).source j next.event.0.number))) ((net_of t).source j next.event.0.number) (next.event.0.time, made.0) made.2
       ∙ (λ i. own_tag j (count i) ((timed ((net_of t).source j next.event.0.number) _ (next.event.0.time, made.0) made.2 ∙ next.at_time) i))
 
+  pub timed_at : now ≡ time_of ((net_of t).source j (sent_in (net_of t) j n))
+  timed_at = sym next.at_time ∙ sym (timed ((net_of t).source j next.event.0.number) _ (next.event.0.time, made.0) made.2)
+      ∙ ap (λ k. time_of ((net_of t).source j k)) count
+
   abbrev r : NodeStateValue × Option (ℕ × List ℕ)
   r = (net_of t).react ((net_of t).source_node j) (state.node ((net_of t).source_node j)) (Source j) made.0.1
 

@@ -1,28 +1,27 @@
 -- The numbers of sources after one end more.
-use Rattle.std.proofs.Common.{Result, Ok, Err, OnOk, ◌≡◌, ◌≢◌, ℕ, suc, ◌+◌, ◌-◌, ◌<◌, ◌≤◌, ◌==◌, ◌&&◌, Bool, true, false, cond, ltb, List, [], ◌∷◌, ◌++◌, length, map, sum_by, count_by, Option, Some, None, slice_get, slice_set, replicate, get_or, refl, sym, ap, ◌∙◌, subst, arith, ⊎_elim, length-set, append-nil}
+use Rattle.std.proofs.Common.{Result, Ok, Err, OnOk, ◌≡◌, ◌≢◌, ℕ, suc, ◌+◌, ◌-◌, ◌<◌, ◌≤◌, ◌==◌, ◌&&◌, Bool, true, false, cond, ltb, List, [], ◌∷◌, ◌++◌, length, map, sum_by, count_by, Some, slice_get, slice_set, replicate, get_or, refl, sym, ap, ◌∙◌, subst, arith, ⊎_elim, length-set, append-nil}
 use Rattle.std.specs.Prelude.{IsSomeAnd}
 use Rattle.std.specs.Option.{option_map}
-use Rattle.std.proofs.lemmas.List.Sums.{sum_by_push}
+use Rattle.std.proofs.lemmas.List.Sums.{fold_push, sum_by_push}
 use Rattle.std.proofs.lemmas.Option.{get_or_from_slice_get, slice_get-map, slice_get_cases, slice_get_within}
 use Rattle.nm_base.specs.Count.{saturated}
 use Rattle.std.proofs.lemmas.Bool.Decides.{nat_tests}
-use Rattle.nm_model.proofs.ListLemmas.{kept-append, number_apart, number_tied, not_some, same_number, some_inj}
+use Rattle.nm_model.proofs.ListLemmas.{kept-append, number_apart, number_tied, same_number, some_inj}
 use Rattle.nm_model.specs.Lists.{keep_where}
-use Rattle.std.proofs.lemmas.List.{get_or-replicate, length-map, length-replicate, map-append}
+use Rattle.std.proofs.lemmas.List.{get_or-replicate, length-replicate, map-append}
 use Rattle.nm_measure.specs.declared.flow_counts.FlowCounts.{FlowCounts}
 use Rattle.nm_measure.specs.declared.flow_counts.PacketOutcome.{PacketOutcome}
 use Rattle.nm_measure.specs.declared.flow_counts.PacketOutcome.TheVariants.{Delivered, Refused, Dropped, Discarded}
 use Rattle.nm_measure.specs.declared.flow_times.FlowTimes.{FlowTimes}
 use Rattle.nm_measure.specs.declared.tag.Tag.{Tag}
-use Rattle.nm_measure.specs.Counted.{AreArrivals, AreFlows, AreOutcomes, HasArrivals, HasEnds, HasOutcomes, delays_of, ended_so, how_many, counts_for, is_sent, lasting, outcome_number}
-use Rattle.nm_measure.specs.Added.{AreAdded}
+use Rattle.nm_measure.specs.Counted.{AreArrivals, AreFlows, AreOutcomes, HasArrivals, HasEnds, HasOutcomes, delays_of, ended_so, how_many, counts_for, is_sent, outcome_number}
 use Rattle.nm_measure.specs.Delays.{AreDelays}
-use Rattle.nm_measure.specs.declared.spread.Spread.{Spread}
-use Rattle.nm_measure.specs.declared.sums.Sums.{Sums}
+use Rattle.nm_measure.specs.Sums.{last_of}
 use Rattle.nm_measure.specs.Flows.{Ends, counts_of, ended_of, sent_numbers}
 use Rattle.nm_measure.specs.Lanes.{one_of}
 use Rattle.nm_measure.specs.Ways.{WayEnd, nobodys, own_tag}
-use Rattle.nm_measure.proofs.Lists.{set_other, set_same}
+use Rattle.nm_measure.specs.Starts.{IsRecent}
+use Rattle.nm_measure.proofs.Lists.{AreTurned, set_other, set_same}
 
 -- one more at the end of a list
 count_push : {X : Type 0} (p : X → Bool) (xs : List X) (y : X) → count_by p (xs ++ y ∷ []) ≡ count_by p xs + cond (p y) 1 0
@@ -145,9 +144,10 @@ module _ (j : ℕ) (ends : List WayEnd) (e : WayEnd) where
   -- what was delivered
   abbrev by_kept : List WayEnd → FlowTimes → Type 0
   by_kept l x = AreDelays (map (λ (d : WayEnd). d.time - d.tag.at) l) x.delays × (x.octets ≡ saturated (sum_by (λ (d : WayEnd). d.octets) l))
+      × (x.ended ≡ last_of (map (λ (d : WayEnd). d.time) l))
 
   arrivals_by : (l : List WayEnd) (x : FlowTimes) → keep_where (ended_so j Delivered) (ends ++ e ∷ []) ≡ l → by_kept l x → HasArrivals j (ends ++ e ∷ []) x
-  arrivals_by l x is h = let z = subst (λ k. by_kept k x) (sym is) h in record { delays = z.0; octets = z.1 }
+  arrivals_by l x is h = let z = subst (λ k. by_kept k x) (sym is) h in record { delays = z.0; octets = z.1; ended = z.2 }
 
   not_so : counts_for j e.tag ≡ false → ended_so j Delivered e ≡ false
   not_so h = ap (λ b. b && (outcome_number e.outcome == 0)) h
@@ -156,20 +156,21 @@ module _ (j : ℕ) (ends : List WayEnd) (e : WayEnd) where
   other_end p is differs = ap (λ q. counts_for j e.tag && (outcome_number q == 0)) is ∙ ap (λ b. counts_for j e.tag && b) differs ∙ never (counts_for j e.tag)
 
   pub arrivals_same : ended_so j Delivered e ≡ false → (x : FlowTimes) → HasArrivals j ends x → HasArrivals j (ends ++ e ∷ []) x
-  arrivals_same h x was = arrivals_by (keep_where (ended_so j Delivered) ends) x (keep_no (ended_so j Delivered) ends e h) (was.delays, was.octets)
+  arrivals_same h x was = arrivals_by (keep_where (ended_so j Delivered) ends) x (keep_no (ended_so j Delivered) ends e h) (was.delays, was.octets, was.ended)
 
   pub arrivals_of_another : counts_for j e.tag ≡ false → (x : FlowTimes) → HasArrivals j ends x → HasArrivals j (ends ++ e ∷ []) x
   arrivals_of_another h = arrivals_same (not_so h)
 
   pub arrivals_more : counts_for j e.tag ≡ true → e.outcome ≡ Delivered → (x y : FlowTimes) → HasArrivals j ends x
-      → ((ds : List ℕ) → AreDelays ds x.delays → AreDelays (ds ++ (e.time - e.tag.at) ∷ []) y.delays) → y.octets ≡ saturated (x.octets + e.octets)
+      → ((ds : List ℕ) → AreDelays ds x.delays → AreDelays (ds ++ (e.time - e.tag.at) ∷ []) y.delays) → y.octets ≡ saturated (x.octets + e.octets) → y.ended ≡ e.time
       → HasArrivals j (ends ++ e ∷ []) y
-  arrivals_more own is x y was added octets =
+  arrivals_more own is x y was added octets ended =
       let kept = keep_where (ended_so j Delivered) ends in
       let yes : ended_so j Delivered e ≡ true = ap (λ q. counts_for j e.tag && (outcome_number q == 0)) is ∙ ap (λ b. b && true) own in
       arrivals_by (kept ++ e ∷ []) y (keep_yes (ended_so j Delivered) ends e yes) (
         subst (λ ds. AreDelays ds y.delays) (sym (map-append (λ (d : WayEnd). d.time - d.tag.at) kept (e ∷ []))) (added (delays_of j ends) was.delays),
         octets ∙ ap (λ n. saturated (n + e.octets)) was.octets ∙ (let s = sum_by_push (λ (d : WayEnd). d.octets) kept e in saturated_more (sum_by (λ (d : WayEnd). d.octets) kept) e.octets) ∙ ap saturated (sym (sum_by_push (λ (d : WayEnd). d.octets) kept e)),
+        ended ∙ sym (ap last_of (map-append (λ (d : WayEnd). d.time) kept (e ∷ [])) ∙ fold_push (λ (a b : ℕ). b) 0 (map (λ (d : WayEnd). d.time) kept) e.time),
       )
     where
       saturated_more : (a b : ℕ) → saturated (saturated a + b) ≡ saturated (a + b)
@@ -229,13 +230,13 @@ module _ (ends : List WayEnd) (e : WayEnd) (tag : Tag) (same : e.tag ≡ tag) (u
   arrivals_kept times p is differs was j z found = arrivals_same j ends e (other_end j ends e p is differs) z (was j z found)
 
   pub arrivals_set : (times : List FlowTimes) (k : ℕ) (x y : FlowTimes) → AreArrivals ends times → slice_get times k ≡ Some x → is_sent tag.role ≡ true → tag.source ≡ k → e.outcome ≡ Delivered
-      → ((ds : List ℕ) → AreDelays ds x.delays → AreDelays (ds ++ (e.time - e.tag.at) ∷ []) y.delays) → y.octets ≡ saturated (x.octets + e.octets)
+      → ((ds : List ℕ) → AreDelays ds x.delays → AreDelays (ds ++ (e.time - e.tag.at) ∷ []) y.delays) → y.octets ≡ saturated (x.octets + e.octets) → y.ended ≡ e.time
       → AreArrivals (ends ++ e ∷ []) (slice_set times k y)
-  arrivals_set times k x y was at sent source is added octets j z found = ⊎_elim
+  arrivals_set times k x y was at sent source is added octets ended j z found = ⊎_elim
       (λ (eq : j ≡ k).
       let y_is : y ≡ z = some_inj y z (sym (set_same times k y (slice_get_within times k x at)) ∙ ap (slice_get (slice_set times k y)) (sym eq) ∙ found) in
       subst (λ i. HasArrivals i (ends ++ e ∷ []) z) (sym eq) (subst (HasArrivals k (ends ++ e ∷ [])) y_is
-      (arrivals_more k ends e (own_of k ∙ own_is k tag sent source) is x y (was k x at) added octets)))
+      (arrivals_more k ends e (own_of k ∙ own_is k tag sent source) is x y (was k x at) added octets ended)))
       (λ apart. arrivals_of_another j ends e (own_of j ∙ own_not j tag (λ w. apart (sym w ∙ source))) z (was j z (sym (set_other times k j y apart) ∙ found)))
       (same_number j k)
 
@@ -300,11 +301,11 @@ flows_under ends u w counts times same was = record {
 pub flows_delivered : (ends : List WayEnd) (e : WayEnd) (tag : Tag) → e.tag ≡ tag → e.outcome ≡ Delivered → is_sent tag.role ≡ true → (u : ℕ → ℕ) (counts after : List FlowCounts) (times : List FlowTimes)
     → AreFlows ends (λ j. one_of j tag + u j) counts times → AreOutcomes (ends ++ e ∷ []) u after → length after ≡ length counts
     → (k : ℕ) (x y : FlowTimes) → slice_get times k ≡ Some x → tag.source ≡ k
-    → ((ds : List ℕ) → AreDelays ds x.delays → AreDelays (ds ++ (e.time - tag.at) ∷ []) y.delays) → y.octets ≡ saturated (x.octets + e.octets)
+    → ((ds : List ℕ) → AreDelays ds x.delays → AreDelays (ds ++ (e.time - tag.at) ∷ []) y.delays) → y.octets ≡ saturated (x.octets + e.octets) → y.ended ≡ e.time
     → AreFlows (ends ++ e ∷ []) u after (slice_set times k y)
-flows_delivered ends e tag same is sent u counts after times was outcomes count k x y at source added octets = record {
+flows_delivered ends e tag same is sent u counts after times was outcomes count k x y at source added octets ended = record {
   outcomes = outcomes;
-  arrivals = arrivals_set ends e tag same u times k x y was.arrivals at sent source is (subst (λ (g : Tag). (ds : List ℕ) → AreDelays ds x.delays → AreDelays (ds ++ (e.time - g.at) ∷ []) y.delays) (sym same) added) octets;
+  arrivals = arrivals_set ends e tag same u times k x y was.arrivals at sent source is (subst (λ (g : Tag). (ds : List ℕ) → AreDelays ds x.delays → AreDelays (ds ++ (e.time - g.at) ∷ []) y.delays) (sym same) added) octets ended;
   same = length-set times k y ∙ was.same ∙ sym count;
 }
 
@@ -328,15 +329,15 @@ flows_counts_as ends u counts times k f g was at is = record {
 }
 
 pub flows_times_as : (ends : List WayEnd) (u : ℕ → ℕ) (counts : List FlowCounts) (times : List FlowTimes) (k : ℕ) (x y : FlowTimes) → AreFlows ends u counts times → slice_get times k ≡ Some x
-    → y.delays.spread ≡ x.delays.spread → y.delays.sums ≡ x.delays.sums → y.octets ≡ x.octets → AreFlows ends u counts (slice_set times k y)
-flows_times_as ends u counts times k x y was at spread sums octets = record {
+    → y.delays ≡ x.delays → y.octets ≡ x.octets → y.ended ≡ x.ended → AreFlows ends u counts (slice_set times k y)
+flows_times_as ends u counts times k x y was at delays octets ended = record {
   outcomes = was.outcomes;
   arrivals = λ j z found. ⊎_elim
       (λ (eq : j ≡ k).
       let y_is : y ≡ z = some_inj y z (sym (set_same times k y (slice_get_within times k x at)) ∙ ap (slice_get (slice_set times k y)) (sym eq) ∙ found) in
       let h = was.arrivals k x at in
       subst (λ i. HasArrivals i ends z) (sym eq) (subst (HasArrivals k ends) y_is
-      (record { delays = subst (λ (p : Spread × Sums). AreAdded (delays_of k ends) p.0 p.1) (λ i. (sym spread i, sym sums i)) h.delays; octets = octets ∙ h.octets })))
+      (record { delays = subst (AreDelays (delays_of k ends)) (sym delays) h.delays; octets = octets ∙ h.octets; ended = ended ∙ h.ended })))
       (λ apart. was.arrivals j z (sym (set_other times k j y apart) ∙ found))
       (same_number j k);
   same = length-set times k y ∙ was.same;
@@ -381,8 +382,8 @@ pub sent_is : (counts : List FlowCounts) (k : ℕ) (f : FlowCounts) (number : �
 sent_is counts k f number at is = some_inj f.sent number (sym (slice_get-map (λ z. z.sent) counts k ∙ ap (option_map (λ z. z.sent)) at) ∙ is)
 
 -- nothing was sent
-pub arrivals_first : (j : ℕ) (x : FlowTimes) → AreDelays [] x.delays → x.octets ≡ 0 → HasArrivals j [] x
-arrivals_first j x delays octets = record { delays = delays; octets = octets }
+pub arrivals_first : (j : ℕ) (x : FlowTimes) → AreDelays [] x.delays → x.octets ≡ 0 → x.ended ≡ 0 → HasArrivals j [] x
+arrivals_first j x delays octets ended = record { delays = delays; octets = octets; ended = ended }
 
 pub flows_first : (counts : List FlowCounts) (times : List FlowTimes) (n : ℕ) (none : FlowCounts) → counts ≡ replicate n none → none.delivered ≡ 0 → none.refused ≡ 0 → none.dropped ≡ 0 → none.discarded ≡ 0 → none.under_way ≡ 0
     → AreArrivals [] times → length times ≡ n → AreFlows [] (λ j. 0) counts times
@@ -395,25 +396,17 @@ flows_first counts times n none is a b c d e arrivals count = record {
   same = count ∙ sym (ap length is ∙ length-replicate n none);
 }
 
--- the greatest delay that is looked for anew does not matter
-pub flows_lasting : (ends : List WayEnd) (u : ℕ → ℕ) (counts : List FlowCounts) (times : List FlowTimes) → AreFlows ends u counts times → AreFlows ends u counts (map lasting times)
-flows_lasting ends u counts times was = record {
+-- the greatest delays are looked for anew
+pub flows_recent : (ends : List WayEnd) (u : ℕ → ℕ) (counts : List FlowCounts) (old new : List FlowTimes) → AreTurned IsRecent old new (length old) → length new ≡ length old
+    → AreFlows ends u counts old → AreFlows ends u counts new
+flows_recent ends u counts old new turned count was = record {
   outcomes = was.outcomes;
-  arrivals = λ j x at.
-      let y = some_mapped (slice_get times j) x (sym (slice_get-map lasting times j) ∙ at) in
-      subst (HasArrivals j ends) y.2 (let h = was.arrivals j y.0 y.1 in record { delays = h.delays; octets = h.octets });
-  same = length-map times lasting ∙ was.same;
-}
-  where
-    some_mapped : (o : Option FlowTimes) (x : FlowTimes) → option_map lasting o ≡ Some x → (y : FlowTimes) × (o ≡ Some y) × (lasting y ≡ x)
-    some_mapped None x e = absurd (not_some x e)
-    some_mapped (Some y) x e = (y, refl, some_inj (lasting y) x e)
-
-pub flows_of_lasting : (ends : List WayEnd) (u : ℕ → ℕ) (counts : List FlowCounts) (times : List FlowTimes) → AreFlows ends u counts (map lasting times) → AreFlows ends u counts times
-flows_of_lasting ends u counts times was = record {
-  outcomes = was.outcomes;
-  arrivals = λ j x at. let h = was.arrivals j (lasting x) (slice_get-map lasting times j ∙ ap (option_map lasting) at) in record { delays = h.delays; octets = h.octets };
-  same = sym (length-map times lasting) ∙ was.same;
+  arrivals = λ j y at.
+      let z = turned j y at in
+      let h = was.arrivals j z.0 z.1 in
+      let r = z.2 (slice_get_within old j z.0 z.1) in
+      record { delays = r.delays (delays_of j ends) h.delays; octets = r.octets ∙ h.octets; ended = r.ended ∙ h.ended };
+  same = count ∙ was.same;
 }
 
 -- what became of a source's packets is what one finds

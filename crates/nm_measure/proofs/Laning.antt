@@ -1,5 +1,5 @@
 -- The lanes of interfaces, one step later.
-use Rattle.std.proofs.Common.{◌≡◌, ◌≢◌, ℕ, suc, ◌+◌, ◌-◌, ◌<◌, List, [], ◌∷◌, ◌++◌, length, map, Option, Some, slice_get, slice_set, refl, sym, ap, ◌∙◌, subst, arith, ⊎_elim, length-set, append_assoc, append-nil, length-append}
+use Rattle.std.proofs.Common.{◌≡◌, ◌≢◌, ℕ, suc, ◌+◌, ◌-◌, ◌<◌, List, [], ◌∷◌, ◌++◌, length, Option, Some, slice_get, slice_set, refl, sym, ap, ◌∙◌, subst, arith, ⊎_elim, length-set, append_assoc, append-nil, length-append}
 use Rattle.std.proofs.lemmas.List.Sums.{sum_by_push, sum_by-cons, sum_by-set}
 use Rattle.std.proofs.lemmas.Option.{get_or_from_slice_get, slice_get_within}
 use Rattle.nm_model.proofs.ListLemmas.{same_number, set_here, set_there, some_inj}
@@ -14,10 +14,10 @@ use Rattle.nm_measure.specs.declared.fates.Fate.TheVariants as fate
 use Rattle.nm_measure.specs.declared.tag.Role.{Role}
 use Rattle.nm_measure.specs.declared.tag.Role.TheVariants as role
 use Rattle.nm_measure.specs.declared.tag.Tag.{Tag}
-use Rattle.nm_measure.specs.Counted.{AreFlows, lasting}
+use Rattle.nm_measure.specs.Counted.{AreFlows}
 use Rattle.nm_measure.specs.Lanes.{AreWatched, IsLane, left_in_hand, one_of, own_among, own_in, with_offer, with_start, with_wait}
 use Rattle.nm_measure.specs.Ways.{WayEnd, answer_tag, dropped_as, ended_as, nobodys, outcome_by, reply_as, reply_tag}
-use Rattle.nm_measure.proofs.Flowing.{flows_lasting, flows_of_lasting, flows_under}
+use Rattle.nm_measure.proofs.Flowing.{flows_under}
 use Rattle.nm_measure.proofs.Lists.{set_other, set_same}
 
 head_is : {X : Type 0} (x y : X) (xs ys : List X) → x ∷ xs ≡ y ∷ ys → x ≡ y
@@ -223,12 +223,3 @@ answer_to_hand count all fate.Delivered tag ends lanes counts times was = nobody
 answer_to_hand count all fate.Told tag ends lanes counts times was = nobodys_to_hand count all nobodys ends lanes counts times (λ j. refl) was
 answer_to_hand count all fate.Refused tag ends lanes counts times was = nobodys_to_hand count all nobodys ends lanes counts times (λ j. refl) was
 answer_to_hand count all fate.Discarded tag ends lanes counts times was = nobodys_to_hand count all nobodys ends lanes counts times (λ j. refl) was
-
--- the greatest delay that is looked for anew does not matter
-pub watched_lasting : (count : ℕ) (all : ℕ → List Tag × List Tag) (hand : List Tag) (ends : List WayEnd) (lanes : List Lane) (counts : List FlowCounts) (times : List FlowTimes)
-    → AreWatched count all hand ends lanes counts times → AreWatched count all hand ends lanes counts (map lasting times)
-watched_lasting count all hand ends lanes counts times was = record { all_there = was.all_there; each = was.each; numbers = flows_lasting ends _ counts times was.numbers }
-
-pub watched_of_lasting : (count : ℕ) (all : ℕ → List Tag × List Tag) (hand : List Tag) (ends : List WayEnd) (lanes : List Lane) (counts : List FlowCounts) (times : List FlowTimes)
-    → AreWatched count all hand ends lanes counts (map lasting times) → AreWatched count all hand ends lanes counts times
-watched_of_lasting count all hand ends lanes counts times was = record { all_there = was.all_there; each = was.each; numbers = flows_of_lasting ends _ counts times was.numbers }

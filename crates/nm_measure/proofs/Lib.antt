@@ -21,3 +21,4 @@ mod Waitings
 mod Transmitting
 mod Seeing
 mod Watching
+mod Starting

@@ -2,10 +2,8 @@
 use Rattle.std.proofs.Common.{◌≡◌, ◌≢◌, ℕ, zero, suc, ◌+◌, ◌<◌, ◌≤◌, ◌⊎◌, inl, inr, List, [], ◌∷◌, ◌++◌, length, get_or, map, Some, slice_get, slice_set, refl, sym, ap, ◌∙◌, subst, arith, length-set, ⊎_elim}
 use Rattle.std.proofs.lemmas.Option.{slice_get-get_or, slice_get_within}
 use Rattle.nm_model.proofs.ListLemmas.{not_some, same_number, some_inj}
-use Rattle.nm_measure.specs.declared.queue.Queue.{Queue}
 use Rattle.nm_measure.specs.declared.seen.Seen.{Seen}
 use Rattle.nm_measure.specs.Interfaces.{OneChanges}
-use Rattle.nm_measure.specs.Waiting.{queue_begun}
 
 module _ {X : Type 0} where
   pub set_same : (xs : List X) (k : ℕ) (y : X) → k < length xs → slice_get (slice_set xs k y) k ≡ Some y
@@ -108,29 +106,35 @@ mapped_is items all v j same x l at is = some_inj (items x) l (sym (mapped all j
     mapped (z ∷ xs) zero y e = ap (λ w. Some (items w)) (some_inj z y e)
     mapped (z ∷ xs) (suc k) y e = mapped xs k y e
 
--- the first n queues are looked at anew
-abbrev pub AreBegun : List Seen → List Seen → ℕ → Type 0
-AreBegun old new n = (i : ℕ) (y : Seen) → slice_get new i ≡ Some y → (x : Seen) × (slice_get old i ≡ Some x)
-    × (y.usage ≡ x.usage) × (i < n → y.queue ≡ queue_begun x.queue) × (n ≤ i → y.queue ≡ x.queue)
+-- the first n of these turned so
+abbrev pub AreTurned : {X : Type 0} → (X → X → Type 0) → List X → List X → ℕ → Type 0
+AreTurned {X} Turns old new n = (i : ℕ) (y : X) → slice_get new i ≡ Some y → (x : X) × (slice_get old i ≡ Some x) × (i < n → Turns x y) × (n ≤ i → y ≡ x)
 
-pub begun_more : (old mid : List Seen) (n : ℕ) (x : Seen) (q : Queue) → n < length mid → slice_get mid n ≡ Some x → q ≡ queue_begun x.queue → AreBegun old mid n
-    → AreBegun old (slice_set mid n (record { queue = q; usage = x.usage })) (n + 1)
-begun_more old mid n x q low at is h i y e = ⊎_elim
+pub turned_more : {X : Type 0} (Turns : X → X → Type 0) (old mid : List X) (n : ℕ) (x y : X) → n < length mid → slice_get mid n ≡ Some x → Turns x y → AreTurned Turns old mid n
+    → AreTurned Turns old (slice_set mid n y) (n + 1)
+turned_more Turns old mid n x y low at turns h i z e = ⊎_elim
     (λ same.
-    let y_is : record { queue = q; usage = x.usage } ≡ y = some_inj _ y (sym (set_same mid n (record { queue = q; usage = x.usage }) low) ∙ ap (slice_get (slice_set mid n (record { queue = q; usage = x.usage }))) (sym same) ∙ e) in
-    let z = h n x at in (
-      z.0,
-      ap (slice_get old) same ∙ z.1,
-      ap (λ (v : Seen). v.usage) (sym y_is) ∙ z.2,
-      (λ l. ap (λ (v : Seen). v.queue) (sym y_is) ∙ is ∙ ap queue_begun (z.4 (omega arith))),
+    let y_is : y ≡ z = some_inj y z (sym (set_same mid n y low) ∙ ap (slice_get (slice_set mid n y)) (sym same) ∙ e) in
+    let w = h n x at in (
+      w.0,
+      ap (slice_get old) same ∙ w.1,
+      (λ l. subst (Turns w.0) y_is (subst (λ v. Turns v y) (w.3 (omega arith)) turns)),
       λ l. absurd (omega (arith, l, same)),
     ))
     (λ apart.
-    let z = h i y (sym (set_other mid n i _ apart) ∙ e) in (
-      z.0,
-      z.1,
-      z.2,
-      (λ l. z.3 (omega (arith, l, apart))),
-      λ l. z.4 (omega (arith, l)),
+    let w = h i z (sym (set_other mid n i y apart) ∙ e) in (
+      w.0,
+      w.1,
+      (λ l. w.2 (omega (arith, l, apart))),
+      λ l. w.3 (omega (arith, l)),
     ))
     (same_number i n)
+
+pub none_turned : {X : Type 0} (Turns : X → X → Type 0) (xs : List X) → AreTurned Turns xs xs 0
+none_turned Turns xs i y at = (y, at, (λ l. absurd (omega (arith, l))), λ l. refl)
+
+-- what stands in a list of values of a function
+pub mapped_some : {X Y : Type 0} (f : X → Y) (xs : List X) (i : ℕ) (y : Y) → slice_get (map f xs) i ≡ Some y → (x : X) × (slice_get xs i ≡ Some x) × (f x ≡ y)
+mapped_some f [] i y h = absurd (not_some y h)
+mapped_some f (x ∷ xs) zero y h = (x, refl, some_inj (f x) y h)
+mapped_some f (x ∷ xs) (suc i) y h = mapped_some f xs i y h

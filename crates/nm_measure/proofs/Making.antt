@@ -22,23 +22,27 @@ use Rattle.nm_measure.specs.Sent.{AreSent, is_fire, made_by, sent_later, sent_in
 use Rattle.nm_measure.proofs.Lists.{set_other, set_same}
 
 -- 1 if an event at this place is source j's
-abbrev made_at : ℕ → Place → ℕ
+abbrev pub made_at : ℕ → Place → ℕ
 made_at j place = if is_fire j place then 1 else 0
 
-fires : (i j : ℕ) → i ≡ j → made_at j (Fire i) ≡ 1
+pub fires : (i j : ℕ) → i ≡ j → made_at j (Fire i) ≡ 1
 fires i j e = grind (arith, nat_tests, e)
 
-rests : (i j : ℕ) → j ≢ i → made_at j (Fire i) ≡ 0
+pub rests : (i j : ℕ) → j ≢ i → made_at j (Fire i) ≡ 0
 rests i j ne = grind (arith, nat_tests, ne)
 
 -- a number that stops, and one more
 one_more : (a : ℕ) → saturated (saturated a + 1) ≡ saturated (a + 1)
 one_more a = omega arith
 
+pub made_later : (t : TopologyValue) (n : ℕ) (e : Key × Event (List ℕ)) (place : Place) → least (one_list (net_of t) n).pending ≡ Some e → e.0.place ≡ place
+    → (j : ℕ) → sent_in (net_of t) j (suc n) ≡ sent_in (net_of t) j n + made_at j place
+made_later t n e place first at j = ap (λ o. sent_in (net_of t) j n + made_by j o) first ∙ ap (λ p. sent_in (net_of t) j n + made_at j p) at
+
 module _ (t : TopologyValue) (n : ℕ) (sent : List ℕ) (h : AreSent t n sent) (e : Key × Event (List ℕ)) (place : Place)
     (first : least (one_list (net_of t) n).pending ≡ Some e) (at : e.0.place ≡ place) where
   later : (j : ℕ) → sent_in (net_of t) j (suc n) ≡ sent_in (net_of t) j n + made_at j place
-  later j = ap (λ o. sent_in (net_of t) j n + made_by j o) first ∙ ap (λ p. sent_in (net_of t) j n + made_at j p) at
+  later = made_later t n e place first at
 
   -- no source made any
   stays : ((j : ℕ) → made_at j place ≡ 0) → AreSent t (suc n) sent

@@ -22,8 +22,8 @@ use Rattle.nm_measure.specs.Interfaces.{AreSeen, HasQueue, HasStarted, IsNext, I
 use Rattle.nm_measure.specs.Queues.{time_after}
 use Rattle.nm_measure.specs.Seen.{IsQueue, IsSeen}
 use Rattle.nm_measure.specs.Usage.{IsUsed}
-use Rattle.nm_measure.specs.Waiting.{queue_empty, queue_later}
-use Rattle.nm_measure.proofs.Lists.{AreBegun}
+use Rattle.nm_measure.specs.Waiting.{queue_begun, queue_empty, queue_later}
+use Rattle.nm_measure.proofs.Lists.{AreTurned}
 use Rattle.nm_measure.proofs.Seeing.{queue_anew, queue_first, queue_on, queue_same}
 use Rattle.nm_measure.proofs.Transmitting.{used_later, used_more}
 use Rattle.nm_measure.proofs.Turns.{effect_at, next_records, port_beside_start, starts_elsewhere, starts_here, starts_more, time_is, time_rises}
@@ -185,17 +185,21 @@ seen_first t all count each = record {
 }
 
 -- the most that wait are looked for anew
-pub seen_anew : (t : TopologyValue) (first n : ℕ) (old new : List Seen) → AreBegun old new (length old) → length new ≡ length old → AreSeen t first n old → AreSeen t n n new
+abbrev pub IsBegun : Seen → Seen → Type 0
+IsBegun x y = (y.usage ≡ x.usage) × (y.queue ≡ queue_begun x.queue)
+
+pub seen_anew : (t : TopologyValue) (first n : ℕ) (old new : List Seen) → AreTurned IsBegun old new (length old) → length new ≡ length old → AreSeen t first n old → AreSeen t n n new
 seen_anew t first n old new begun count h = record {
   since = omega arith;
   count = count ∙ h.count;
   each = λ i y at.
       let z = begun i y at in
-      let s = h.each i z.0 z.1 in (
+      let s = h.each i z.0 z.1 in
+      let b = z.2 (slice_get_within old i z.0 z.1) in (
         record {
-          queue = subst (IsQueue (net_of t) i n n) (sym (z.3 (slice_get_within old i z.0 z.1))) (queue_anew (net_of t) i first n z.0.queue s.0.queue);
-          used = subst (λ u. IsUsed (net_of t) i t.stop (time_after (net_of t) n) (passed Out i (one_list (net_of t) n).records) u.busy u.last_busy u.starts) (sym z.2) s.0.used;
+          queue = subst (IsQueue (net_of t) i n n) (sym b.1) (queue_anew (net_of t) i first n z.0.queue s.0.queue);
+          used = subst (λ u. IsUsed (net_of t) i t.stop (time_after (net_of t) n) (passed Out i (one_list (net_of t) n).records) u.busy u.last_busy u.starts) (sym b.0) s.0.used;
         },
-        ap (λ u. u.rate) z.2 ∙ s.1,
+        ap (λ u. u.rate) b.0 ∙ s.1,
       );
 }

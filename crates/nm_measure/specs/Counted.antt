@@ -1,5 +1,5 @@
 -- The numbers of sources, by the ends of their packets' ways.
-use Rattle.std.specs.Prelude.{◌≡◌, ℕ, ◌-◌, ◌==◌, ◌&&◌, Bool, true, false, List, map, length, count_by, sum_by, slice_get, Some}
+use Rattle.std.specs.Prelude.{◌≡◌, ℕ, ◌+◌, ◌-◌, ◌==◌, ◌&&◌, Bool, true, false, List, map, length, count_by, sum_by, slice_get, Some}
 use Rattle.nm_base.specs.Count.{saturated}
 use Rattle.nm_model.specs.Lists.{keep_where}
 use Rattle.nm_measure.specs.declared.flow_counts.FlowCounts.{FlowCounts}
@@ -9,7 +9,10 @@ use Rattle.nm_measure.specs.declared.flow_times.FlowTimes.{FlowTimes}
 use Rattle.nm_measure.specs.declared.tag.Role.{Role}
 use Rattle.nm_measure.specs.declared.tag.Role.TheVariants as role
 use Rattle.nm_measure.specs.declared.tag.Tag.{Tag}
-use Rattle.nm_measure.specs.Delays.{AreDelays, lasting_delays}
+use Rattle.nm_measure.specs.Delays.{AreDelays}
+use Rattle.nm_measure.specs.Sums.{differences_of, last_of, sum_to}
+use Rattle.nm_measure.specs.declared.totals.Delivered.{Delivered as DeliveredSums}
+use Rattle.nm_measure.specs.declared.totals.FlowTotals.{FlowTotals}
 use Rattle.nm_measure.specs.Ways.{WayEnd}
 
 abbrev pub is_sent : Role → Bool
@@ -43,6 +46,10 @@ delays_of j ends = map (λ e. e.time - e.tag.at) (keep_where (ended_so j Deliver
 abbrev pub octets_delivered : ℕ → List WayEnd → ℕ
 octets_delivered j ends = sum_by (λ e. e.octets) (keep_where (ended_so j Delivered) ends)
 
+-- when the last of them was delivered; 0 if none was
+abbrev pub last_delivery : ℕ → List WayEnd → ℕ
+last_delivery j ends = last_of (map (λ e. e.time) (keep_where (ended_so j Delivered) ends))
+
 -- what became of the packets of source j; so many are under way
 pub record HasOutcomes (j : ℕ) (ends : List WayEnd) (under_way : ℕ) (f : FlowCounts) : Type 0 where
   pub delivered : f.delivered ≡ how_many j Delivered ends
@@ -59,6 +66,21 @@ HasEnds j ends f = HasOutcomes j ends f.under_way f
 pub record HasArrivals (j : ℕ) (ends : List WayEnd) (x : FlowTimes) : Type 0 where
   pub delays : AreDelays (delays_of j ends) x.delays
   pub octets : x.octets ≡ saturated (octets_delivered j ends)
+  pub ended : x.ended ≡ last_delivery j ends
+
+-- how much of what source j sent was delivered, and how late
+pub record HasDelivered (j : ℕ) (ends : List WayEnd) (x : DeliveredSums) : Type 0 where
+  pub octets : x.octets ≡ saturated (octets_delivered j ends)
+  pub delayed : x.delayed ≡ sum_to (delays_of j ends)
+  pub differences : x.differences ≡ sum_to (differences_of (delays_of j ends))
+
+-- the totals of source j
+pub record HasTotals (j : ℕ) (ends : List WayEnd) (x : FlowTotals) : Type 0 where
+  pub delivered : x.delivered ≡ how_many j Delivered ends
+  pub lost : x.lost ≡ how_many j Refused ends + how_many j Dropped ends + how_many j Discarded ends
+  pub octets : x.octets ≡ saturated (octets_delivered j ends)
+  pub delayed : x.delayed ≡ sum_to (delays_of j ends)
+  pub differences : x.differences ≡ sum_to (differences_of (delays_of j ends))
 
 -- of all sources
 abbrev pub AreOutcomes : List WayEnd → (under_way : ℕ → ℕ) → List FlowCounts → Type 0
@@ -74,7 +96,3 @@ pub record AreFlows (ends : List WayEnd) (under_way : ℕ → ℕ) (counts : Lis
   pub outcomes : AreOutcomes ends under_way counts
   pub arrivals : AreArrivals ends times
   pub same : length times ≡ length counts
-
--- what stays of these numbers when the greatest delay is looked for anew
-abbrev pub lasting : FlowTimes → FlowTimes
-lasting x = record x { delays = lasting_delays x.delays }

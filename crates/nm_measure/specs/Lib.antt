@@ -19,3 +19,4 @@ pub mod Ways
 pub mod Tagged
 pub mod Counted
 pub mod Lanes
+pub mod Starts

@@ -1,5 +1,5 @@
 -- A network at a time of its run, with its measurements.
-use Rattle.std.specs.Prelude.{◌≡◌, ◌<◌, ◌≤◌, ℕ, true, List, [], length, None}
+use Rattle.std.specs.Prelude.{◌≡◌, ◌<◌, ◌≤◌, ℕ, true, List, [], length, map, None}
 use Rattle.nm_base.specs.declared.limits.TheConstants.{MAX_TIME}
 use Rattle.nm_base.specs.declared.wanted.Wanted.TheVariants.{Nothing}
 use Rattle.nm_events.specs.Held.{Held, pending_of}
@@ -13,6 +13,7 @@ use Rattle.nm_measure.specs.Amounts.{AreTraffic}
 use Rattle.nm_measure.specs.Interfaces.{AreSeen}
 use Rattle.nm_measure.specs.declared.amounts.IfaceTraffic.{IfaceTraffic}
 use Rattle.nm_measure.specs.Sent.{AreSent}
+use Rattle.nm_measure.specs.Starts.{AreStarts, start_of}
 use Rattle.nm_measure.specs.declared.flow_counts.FlowCounts.{FlowCounts}
 use Rattle.nm_measure.specs.declared.flow_times.FlowTimes.{FlowTimes}
 use Rattle.nm_measure.specs.declared.lane.Lane.{Lane}
@@ -42,10 +43,15 @@ pub record IsCounted (t : TopologyValue) (s : State (List ℕ) NodeStateValue) (
   pub counted : AreTraffic t traffic s.records
   pub keeps : KeepsNone p
 
--- what is seen of the interfaces after the events that were done; the most that waited recently
--- count since `first` events
-abbrev pub HasRecent : TopologyValue → ℕ → MeasuredValue → Type 0
-HasRecent t first m = AreSeen t first m.part.steps m.seen
+-- when sources began; their greatest delays are looked for since `first` events
+abbrev pub HasStarts : TopologyValue → (first n : ℕ) → MeasuredValue → Type 0
+HasStarts t first n m = AreStarts t first n (map start_of m.times)
+
+-- what is seen after the events that were done; the most that waited recently, and the greatest
+-- recent delays, count since `first` events
+pub record HasRecent (t : TopologyValue) (first : ℕ) (m : MeasuredValue) : Type 0 where
+  pub seen : AreSeen t first m.part.steps m.seen
+  pub starts : HasStarts t first m.part.steps m
 
 -- what became of the packets of sources after n events
 abbrev pub HasWatched : TopologyValue → ℕ → MeasuredValue → Type 0
@@ -62,6 +68,7 @@ pub record IsMeasuring (t : TopologyValue) (first until : ℕ) (m : MeasuredValu
   pub seen : AreSeen t first events m.seen
   pub sent : AreSent t events m.sent
   pub watched : HasWatched t events m
+  pub starts : HasStarts t first events m
 
 -- the whole network after all events of its one event list that are before this time, and the
 -- traffic of all their records
@@ -78,6 +85,7 @@ pub record IsMeasuredBefore (t : TopologyValue) (until : ℕ) (m : MeasuredValue
   pub seen : AreSeen t first events m.seen
   pub sent : AreSent t events m.sent
   pub watched : HasWatched t events m
+  pub starts : HasStarts t first events m
 
 -- the same after a step that began at this time: the most that waited recently count since then
 pub record IsMeasuredStep (t : TopologyValue) (from until : ℕ) (m : MeasuredValue) : Type 0 where

@@ -5,7 +5,8 @@ ghost use Rattle.std.specs.Prelude.{◌++◌, length};
 ghost use Rattle.nm_base.specs.Count.{saturated};
 ghost use Rattle.nm_measure.specs.Added.{AreAdded, ShowsPercentile};
 ghost use Rattle.nm_measure.specs.Spread.{different_of};
-ghost use Rattle.nm_measure.specs.Sums.{jitter_of, least_after, mean_of};
+ghost use Rattle.nm_measure.specs.Sums.{jitter_of, least_after, mean_of, sum_to};
+ghost use Rattle.nm_measure.specs.Sums.{differences_of};
 
 use crate::spread::{Bucket, Spread};
 use crate::sums::Sums;
@@ -16,23 +17,26 @@ use std::alloc::{AllocError, Global};
 pub struct Delays {
     spread: Spread,
     sums: Sums,
-    /// The greatest since it was taken last.
+    /// The greatest of those behind the first `seen`.
     recent: u64,
+    seen: u64,
     ghost added: { ∥ ((ds : List ℕ) × AreAdded ds spread sums) ∥₁ },
 }
 
 impl Delays {
-    ghost use Rattle.nm_measure.specs.Delays.{AreDelays, lasting_delays};
+    ghost use Rattle.nm_measure.specs.Delays.{AreDelays, greatest_behind};
 
     /// The delays of no packets.
     pub(crate) fn new(alloc: Global) -> Self
         ensures count { result.spread.count ≡ 0 }
         ensures none { AreDelays [] result }
+        ensures seen { result.seen ≡ 0 }
     {
         Delays {
             spread: Spread::new(alloc),
             sums: Sums::new(),
             recent: 0,
+            seen: 0,
         }
     }
 
@@ -59,26 +63,35 @@ impl Delays {
 
     /// The sum of all.
     pub fn total(&self) -> u128
-        ensures { result ≡ self.now.sums.total }
+        ensures value { result ≡ self.now.sums.total }
+        ensures sum { (ds : List ℕ) → AreDelays ds self.now → result ≡ sum_to ds }
     {
         self.sums.total
     }
 
     /// The sum of the absolute differences of the delays of successive arrivals.
     pub fn differences(&self) -> u128
-        ensures { result ≡ self.now.sums.differences }
+        ensures value { result ≡ self.now.sums.differences }
+        ensures sum { (ds : List ℕ) → AreDelays ds self.now → result ≡ sum_to (differences_of ds) }
     {
         self.sums.differences
     }
 
-    /// The greatest since this was called last; 0 if there was none.
-    pub(crate) fn take_recent(&mut self) -> u64
-        ensures recent { result ≡ self.old.recent }
-        ensures kept { lasting_delays self.new ≡ lasting_delays self.old }
+    /// The greatest of those that come from now on is looked for.
+    pub(crate) fn begin_recent(&mut self)
+        ensures same { (ds : List ℕ) → AreDelays ds self.old → AreDelays ds self.new }
+        ensures seen { self.new.seen ≡ self.old.spread.count }
     {
-        let recent = self.recent;
         self.recent = 0;
-        recent
+        self.seen = self.spread.count();
+    }
+
+    /// The greatest since it was begun to look for it; 0 if there was none.
+    pub(crate) fn recent(&self) -> u64
+        ensures { (ds : List ℕ) → AreDelays ds self.now → length ds < 2 ^ 64
+            → result ≡ greatest_behind self.now.seen ds }
+    {
+        self.recent
     }
 
     /// The row with this place, by rising delays: the least and the greatest delay of it, and how
@@ -137,6 +150,7 @@ impl Delays {
             ≡ least_after self.old.spread.count self.old.sums.least delay) }
         ensures greatest { OnOk result (self.new.sums.greatest
             ≡ max self.old.sums.greatest delay) }
+        ensures seen { OnOk result (self.new.seen ≡ self.old.seen) }
         ensures added { OnOk result ((ds : List ℕ) → AreDelays ds self.old
             → AreDelays (ds ++ delay ∷ []) self.new) }
     {

@@ -4,6 +4,7 @@ ghost use Rattle.std.specs.Prelude.{◌≡◌, ℕ, ◌+◌, ◌-◌, OnOk, List
 ghost use Rattle.nm_base.specs.Count.{saturated};
 ghost use Rattle.nm_measure.specs.Delays.{AreDelays};
 ghost use Rattle.nm_measure.specs.Rates.{rate_between};
+ghost use Rattle.nm_measure.specs.Starts.{IsRecent, begun_by, nothing_begun, start_of};
 
 use crate::delays::Delays;
 use nm_base::Time;
@@ -51,6 +52,8 @@ impl FlowTimes {
     /// Nothing was sent.
     pub(crate) fn new(alloc: Global) -> Self
         ensures octets { result.octets ≡ 0 }
+        ensures ended { result.ended ≡ 0 }
+        ensures start { start_of result ≡ nothing_begun }
         ensures delays { AreDelays [] result.delays }
         ensures trips { AreDelays [] result.round_trips }
     {
@@ -94,7 +97,9 @@ impl FlowTimes {
 
     /// The source had an event.
     pub(crate) fn begin(&mut self, now: Time)
+        ensures start { start_of self.new ≡ begun_by now (start_of self.old) }
         ensures octets { self.new.octets ≡ self.old.octets }
+        ensures ended { self.new.ended ≡ self.old.ended }
         ensures delays { self.new.delays ≡ self.old.delays }
         ensures trips { self.new.round_trips ≡ self.old.round_trips }
     {
@@ -109,7 +114,9 @@ impl FlowTimes {
     ///
     /// If memory was refused.
     pub(crate) fn deliver(&mut self, octets: u64, sent: Time, now: Time) -> Result<(), AllocError>
+        ensures start { OnOk result (start_of self.new ≡ start_of self.old) }
         ensures octets { self.new.octets ≡ saturated (self.old.octets + octets) }
+        ensures ended { self.new.ended ≡ now }
         ensures count { OnOk result (self.new.delays.spread.count
             ≡ saturated (self.old.delays.spread.count + 1)) }
         ensures added { OnOk result ((ds : List ℕ) → AreDelays ds self.old.delays
@@ -121,13 +128,23 @@ impl FlowTimes {
         self.delays.add(nanoseconds_between(sent, now))
     }
 
+    /// The greatest delay of those that arrive from now on is looked for.
+    pub(crate) fn begin_recent(&mut self)
+        ensures recent { IsRecent self.old self.new }
+        ensures trips { self.new.round_trips ≡ self.old.round_trips }
+    {
+        self.delays.begin_recent();
+    }
+
     /// The reply to a packet that was made at `sent` arrived at the source's node.
     ///
     /// # Errors
     ///
     /// If memory was refused.
     pub(crate) fn answer(&mut self, sent: Time, now: Time) -> Result<(), AllocError>
+        ensures start { start_of self.new ≡ start_of self.old }
         ensures octets { self.new.octets ≡ self.old.octets }
+        ensures ended { self.new.ended ≡ self.old.ended }
         ensures count { OnOk result (self.new.round_trips.spread.count
             ≡ saturated (self.old.round_trips.spread.count + 1)) }
         ensures added { OnOk result ((ds : List ℕ) → AreDelays ds self.old.round_trips

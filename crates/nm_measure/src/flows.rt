@@ -4,11 +4,13 @@ ghost use Rattle.std.specs.Prelude.{◌≡◌, ℕ, ◌+◌, ◌<◌, ◌++◌, 
 ghost use Rattle.std.specs.Prelude.{true, false, None, Some, ◌^◌, IfOk, IfSome, OnOk, slice_get};
 ghost use Rattle.nm_measure.specs.declared.flow_counts.PacketOutcome.TheVariants.{Delivered};
 ghost use Rattle.nm_measure.specs.Counted.{AreArrivals, AreFlows, AreOutcomes, counts_for, is_sent};
-ghost use Rattle.nm_measure.specs.Counted.{lasting};
 ghost use Rattle.nm_measure.specs.Lanes.{one_of};
 ghost use Rattle.nm_measure.specs.Ways.{WayEnd, own_tag};
 ghost use Rattle.nm_measure.specs.Flows.{sent_numbers};
 ghost use Rattle.nm_measure.specs.Sent.{AreSent, with_sent};
+ghost use Rattle.nm_measure.specs.Starts.{AreStarts, start_of, with_begin};
+ghost use Rattle.nm_measure.specs.Ways.{ends_in};
+ghost use Rattle.nm_topology.specs.TopologyValue.{TopologyValue};
 
 use crate::flow_counts::{FlowCounts, PacketOutcome};
 use crate::flow_times::FlowTimes;
@@ -47,6 +49,8 @@ fn homes_of(alloc: Global, topology: &Topology) -> Result<Vec<NodeNo>, AllocErro
 fn no_times(alloc: Global, sources: usize) -> Result<Vec<FlowTimes>, AllocError>
     ensures count { IfOk result (λ times. length times.items ≡ sources) }
     ensures none { IfOk result (λ times. AreArrivals [] times.items) }
+    ensures starts { (t : TopologyValue) → IfOk result (λ times. sources ≡ length t.sources
+        → AreStarts t 0 0 (map start_of times.items)) }
 {
     let mut times = Vec::new(alloc);
     for _number in 0..sources {
@@ -60,6 +64,8 @@ impl Flows {
     pub(crate) fn new(alloc: Global, topology: &Topology) -> Result<Self, AllocError>
         ensures sent { IfOk result (λ f. AreSent topology.now 0 (sent_numbers f.counts.items)) }
         ensures flows { IfOk result (λ f. AreFlows [] (λ j. 0) f.counts.items f.times.items) }
+        ensures starts { IfOk result
+            (λ f. AreStarts topology.now 0 0 (map start_of f.times.items)) }
     {
         let sources = topology.sources().len();
         Ok(Flows {
@@ -85,6 +91,8 @@ impl Flows {
 
     /// A source makes a packet. Answers its tag.
     pub(crate) fn send(&mut self, source: SourceNo, now: Time) -> Tag
+        ensures starts { map start_of self.new.times.items
+            ≡ with_begin source now (map start_of self.old.times.items) }
         ensures sent { sent_numbers self.new.counts.items
             ≡ with_sent source (sent_numbers self.old.counts.items) }
         ensures tag { (number : ℕ)
@@ -127,6 +135,8 @@ impl Flows {
 
     /// A source has an event.
     fn note_begin(&mut self, source: SourceNo, now: Time)
+        ensures starts { map start_of self.new.times.items
+            ≡ with_begin source now (map start_of self.old.times.items) }
         ensures counts { self.new.counts ≡ self.old.counts }
         ensures flows { (ends : List WayEnd) (under_way : ℕ → ℕ)
             → AreFlows ends under_way self.old.counts.items self.old.times.items
@@ -137,15 +147,19 @@ impl Flows {
         }
     }
 
-    /// The greatest delay of a source's packets that arrived since this was called last; 0 if none
-    /// did.
-    pub(crate) fn take_greatest(&mut self, source: SourceNo) -> u64
+    /// The greatest delays of packets that arrive from now on are looked for.
+    pub(crate) fn begin_recent(&mut self)
         ensures counts { self.new.counts ≡ self.old.counts }
-        ensures times { map lasting self.new.times.items ≡ map lasting self.old.times.items }
+        ensures flows { (ends : List WayEnd) (under_way : ℕ → ℕ)
+            → AreFlows ends under_way self.old.counts.items self.old.times.items
+            → AreFlows ends under_way self.new.counts.items self.new.times.items }
+        ensures starts { (t : TopologyValue) (first n : ℕ)
+            → AreArrivals (ends_in t n) self.old.times.items
+            → AreStarts t first n (map start_of self.old.times.items)
+            → AreStarts t n n (map start_of self.new.times.items) }
     {
-        match self.times.get_mut(source.index()) {
-            Some(times) => times.delays.take_recent(),
-            None => 0,
+        for number in 0..self.times.len() {
+            self.times[number].begin_recent();
         }
     }
 
@@ -176,6 +190,8 @@ impl Flows {
 
     /// The packet of a tag is delivered, if it is a source's.
     pub(crate) fn deliver(&mut self, tag: &Tag, arrival: Arrival) -> Result<(), AllocError>
+        ensures starts { OnOk result
+            (map start_of self.new.times.items ≡ map start_of self.old.times.items) }
         ensures flows { OnOk result ((ends : List WayEnd) (under_way : ℕ → ℕ) (end : WayEnd)
             → end.tag ≡ tag.now → end.outcome ≡ Delivered → end.time ≡ arrival.now
             → end.octets ≡ arrival.octets
@@ -196,6 +212,8 @@ impl Flows {
     /// An ICMP message arrives at the node to which it is addressed: a source's packet is
     /// delivered; the reply to one has reached the source's node or went astray.
     pub(crate) fn tell(&mut self, tag: &Tag, arrival: Arrival) -> Result<(), AllocError>
+        ensures starts { OnOk result
+            (map start_of self.new.times.items ≡ map start_of self.old.times.items) }
         ensures flows { OnOk result ((ends : List WayEnd) (under_way : ℕ → ℕ) (end : WayEnd)
             → end.tag ≡ tag.now → end.outcome ≡ Delivered → end.time ≡ arrival.now
             → end.octets ≡ arrival.octets
@@ -212,6 +230,7 @@ impl Flows {
 
     /// The reply to a packet that a source made at `at` arrives at a node.
     fn answer(&mut self, source: SourceNo, at: Time, arrival: Arrival) -> Result<(), AllocError>
+        ensures starts { map start_of self.new.times.items ≡ map start_of self.old.times.items }
         ensures flows { OnOk result ((ends : List WayEnd) (under_way : ℕ → ℕ)
             → AreFlows ends under_way self.old.counts.items self.old.times.items
             → AreFlows ends under_way self.new.counts.items self.new.times.items) }

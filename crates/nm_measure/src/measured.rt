@@ -9,8 +9,11 @@ ghost use Rattle.nm_model.specs.Run.{in_record, out_record};
 ghost use Rattle.nm_sim.specs.Effects.{IsPlaceIn};
 ghost use Rattle.nm_measure.specs.Amounts.{AreTraffic, IsCame, IsWent};
 ghost use Rattle.nm_measure.specs.Interfaces.{AreSeen, IsNext};
-ghost use Rattle.nm_measure.specs.Counted.{HasArrivals, HasEnds, lasting};
-ghost use Rattle.nm_measure.specs.Measured.{HasWatched};
+ghost use Rattle.nm_measure.specs.Counted.{HasArrivals, HasDelivered, HasEnds, HasTotals};
+ghost use Rattle.nm_measure.specs.Counted.{delays_of};
+ghost use Rattle.nm_measure.specs.Delays.{greatest_behind};
+ghost use Rattle.nm_measure.specs.Starts.{begun_in};
+ghost use Rattle.nm_measure.specs.Measured.{HasStarts, HasWatched};
 ghost use Rattle.nm_measure.specs.Sent.{AreSent, sent_in, sent_later};
 ghost use Rattle.nm_measure.specs.Ways.{ends_in};
 ghost use Rattle.nm_model.specs.Run.{one_list};
@@ -28,7 +31,7 @@ use crate::courses::{Course, Ended};
 use crate::flow_counts::FlowCounts;
 use crate::flow_times::FlowTimes;
 use crate::interfaces::Interfaces;
-use crate::totals::{FlowTotals, IfaceTotals};
+use crate::totals::{Delivered, FlowTotals, IfaceTotals};
 use crate::watched::Watched;
 use nm_base::limits::MAX_PART_STEPS;
 use nm_base::{IfaceNo, NodeNo, Place, SourceNo, Time, Wanted};
@@ -65,7 +68,6 @@ struct OverTime {
 
 impl Model for Measured {
     ghost use Rattle.std.specs.Prelude.{map};
-    ghost use Rattle.nm_measure.specs.Counted.{lasting};
     ghost use Rattle.nm_measure.specs.Flows.{sent_numbers};
     ghost use Rattle.nm_measure.specs.Measured.{MeasuredValue};
 
@@ -77,7 +79,7 @@ impl Model for Measured {
       seen = m.interfaces.all.items;
       sent = sent_numbers m.watched.flows.counts.items;
       counts = m.watched.flows.counts.items;
-      times = map lasting m.watched.flows.times.items;
+      times = m.watched.flows.times.items;
       lanes = m.watched.lanes.items;
     } };
 }
@@ -129,6 +131,7 @@ impl Measured {
     {
         accepted_topologies_are_in_order(topology); // law: `stop` is within its limit
         self.interfaces.begin_recent();
+        self.watched.begin_recent();
         for done in 0..MAX_PART_STEPS + 1 {
             let Some(told) = self.part.step_and_tell(alloc, topology, until)? else {
                 return Ok(());
@@ -173,6 +176,10 @@ impl Measured {
             → IsNext topology.now n now place self.old.part happened
             → AreSeen topology.now first (suc n) self.new.seen) }
         ensures sent { OnOk result (self.new.sent ≡ sent_later place self.old.sent) }
+        ensures starts { OnOk result ((first n : ℕ)
+            → IsNext topology.now n now place self.old.part happened
+            → HasStarts topology.now first n self.old
+            → HasStarts topology.now first (suc n) self.new) }
         ensures watched { OnOk result ((n : ℕ) → self.old.part.steps ≡ n + 1
             → AreSent topology.now n self.old.sent
             → IsNext topology.now n now place self.old.part happened
@@ -249,23 +256,37 @@ impl Measured {
         ensures sent { (t : TopologyValue) (until : ℕ) (m : IsMeasuredBefore t until self.now)
             → source < length t.sources
             → result.sent ≡ saturated (sent_in (net_of t) source m.events) }
+        ensures totals { (t : TopologyValue) (until : ℕ) (m : IsMeasuredBefore t until self.now)
+            → source < length t.sources → HasTotals source (ends_in t m.events) result }
     {
         let counts = self.flow(source).unwrap_or(FlowCounts::NONE);
-        let (octets, delayed, differences) = match self.times(source) {
-            Some(times) => (
-                times.octets(),
-                times.delays.total(),
-                times.delays.differences(),
-            ),
-            None => (0, 0, 0),
-        };
+        let sums = self.delivered(source);
         FlowTotals {
             sent: counts.sent,
             delivered: counts.delivered,
             lost: counts.refused + counts.dropped + counts.discarded,
-            octets,
-            delayed,
-            differences,
+            octets: sums.octets,
+            delayed: sums.delayed,
+            differences: sums.differences,
+        }
+    }
+
+    /// How much of what a source sent was delivered so far, and how late.
+    fn delivered(&self, source: SourceNo) -> Delivered
+        ensures { (t : TopologyValue) (until : ℕ) (m : IsMeasuredBefore t until self.now)
+            → source < length t.sources → HasDelivered source (ends_in t m.events) result }
+    {
+        match self.times(source) {
+            Some(times) => Delivered {
+                octets: times.octets(),
+                delayed: times.delays.total(),
+                differences: times.delays.differences(),
+            },
+            None => Delivered {
+                octets: 0,
+                delayed: 0,
+                differences: 0,
+            },
         }
     }
 
@@ -319,12 +340,19 @@ impl Measured {
         }
     }
 
-    /// The greatest delay, in nanoseconds, of a source's packets that arrived since this was called
-    /// last; 0 if none did.
-    pub fn take_greatest(&mut self, source: SourceNo) -> u64
-        ensures { self.new ≡ self.old }
+    /// The greatest delay, in nanoseconds, of a source's packets that were delivered since the last
+    /// advance began; 0 if none was.
+    pub fn recent_delay(&self, source: SourceNo) -> u64
+        ensures { (t : TopologyValue) (first until : ℕ) → HasRecent t first self.now
+            → (m : IsMeasuredBefore t until self.now) → source < length t.sources
+            → result ≡ greatest_behind (length (delays_of source (ends_in t first)))
+            (delays_of source (ends_in t m.events)) }
     {
-        self.watched.take_greatest(source)
+        self.part.events(); // law: no more than 2^62
+        match self.watched.times(source) {
+            Some(times) => times.delays.recent(),
+            None => 0,
+        }
     }
 
     /// The first packet of the followed source that ended and was not taken yet.
@@ -393,9 +421,12 @@ impl Measured {
 
     /// How much of what a source sent arrived, and how late. `None` if there is no such source.
     pub fn times(&self, source: SourceNo) -> Option<&FlowTimes>
-        ensures { (t : TopologyValue) (until : ℕ) (m : IsMeasuredBefore t until self.now)
+        ensures arrivals { (t : TopologyValue) (until : ℕ) (m : IsMeasuredBefore t until self.now)
             → source < length t.sources → IsSomeAnd (option_map (λ x. x.now) result)
             (HasArrivals source (ends_in t m.events)) }
+        ensures begun { (t : TopologyValue) (until : ℕ) (m : IsMeasuredBefore t until self.now)
+            → source < length t.sources → IsSomeAnd (option_map (λ x. x.now) result)
+            (λ x. x.begun ≡ begun_in t source m.events) }
     {
         self.watched.times(source)
     }

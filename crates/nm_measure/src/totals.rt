@@ -15,6 +15,17 @@ pub struct IfaceTotals {
     pub busy: u64,
 }
 
+/// How much of what a source sent was delivered up to a time, and how late.
+#[derive(Clone, Copy, Drop)]
+pub(crate) struct Delivered {
+    /// The octets of the IPv4 packets, up to 2^64 - 1.
+    pub octets: u64,
+    /// The sum of the delays, in nanoseconds.
+    pub delayed: u128,
+    /// The sum of the absolute differences of the delays of successive arrivals, in nanoseconds.
+    pub differences: u128,
+}
+
 /// What became of the packets of a source up to a time.
 #[derive(Clone, Copy, Drop)]
 pub struct FlowTotals {

@@ -14,10 +14,11 @@ ghost use Rattle.nm_measure.specs.declared.flow_counts.PacketOutcome.TheVariants
 ghost use Rattle.nm_measure.specs.declared.flow_counts.PacketOutcome.TheVariants.{Dropped};
 ghost use Rattle.nm_measure.specs.declared.lane.Lane.{Lane};
 ghost use Rattle.nm_measure.specs.declared.tag.Tag.{Tag};
-ghost use Rattle.nm_measure.specs.Counted.{lasting};
+ghost use Rattle.nm_measure.specs.Starts.{AreStarts, start_of};
 ghost use Rattle.nm_measure.specs.Lanes.{CanBe, IsDropOf, IsEndOf, Watches, WatchesRun};
 ghost use Rattle.nm_measure.specs.Lanes.{left_in_hand, one_of};
 ghost use Rattle.nm_measure.specs.Lanes.{with_offer, with_start};
+ghost use Rattle.nm_topology.specs.TopologyValue.{TopologyValue};
 ghost use Rattle.nm_measure.specs.Ways.{WayEnd, answer_tag, dropped_as, ended_as, fate_by};
 ghost use Rattle.nm_measure.specs.Ways.{outcome_by};
 ghost use Rattle.nm_sim.specs.Effects.{IsPlaceIn};
@@ -120,6 +121,8 @@ impl Watched {
         ensures sent { IfOk result
             (λ w. AreSent topology.now 0 (sent_numbers w.flows.counts.items)) }
         ensures watches { IfOk result (WatchesRun topology.now 0) }
+        ensures starts { IfOk result
+            (λ w. AreStarts topology.now 0 0 (map start_of w.flows.times.items)) }
     {
         let courses = match followed {
             Some(source) => Some(Courses::new(alloc, source)),
@@ -133,14 +136,16 @@ impl Watched {
         })
     }
 
-    /// The greatest delay of a source's packets that arrived since this was called last.
-    pub(crate) fn take_greatest(&mut self, source: SourceNo) -> u64
+    /// The greatest delays of packets that arrive from now on are looked for.
+    pub(crate) fn begin_recent(&mut self)
         ensures counts { self.new.flows.counts ≡ self.old.flows.counts }
-        ensures times { map lasting self.new.flows.times.items
-            ≡ map lasting self.old.flows.times.items }
-        ensures lanes { self.new.lanes ≡ self.old.lanes }
+        ensures watches { (t : TopologyValue) (n : ℕ) → WatchesRun t n self.old
+            → WatchesRun t n self.new }
+        ensures starts { (t : TopologyValue) (first n : ℕ) → WatchesRun t n self.old
+            → AreStarts t first n (map start_of self.old.flows.times.items)
+            → AreStarts t n n (map start_of self.new.flows.times.items) }
     {
-        self.flows.take_greatest(source)
+        self.flows.begin_recent();
     }
 
     /// The first followed packet that ended and was not taken yet.
@@ -232,6 +237,10 @@ impl Watched {
             → WatchesRun topology.now n self.old → WatchesRun topology.now (suc n) self.new) }
         ensures sent { OnOk result (sent_numbers self.new.flows.counts.items
             ≡ sent_later place.now (sent_numbers self.old.flows.counts.items)) }
+        ensures starts { OnOk result ((first n : ℕ) (p : PartValue Held)
+            → IsNext topology.now n now place.now p happened.now
+            → AreStarts topology.now first n (map start_of self.old.flows.times.items)
+            → AreStarts topology.now first (suc n) (map start_of self.new.flows.times.items)) }
     {
         match place {
             Place::Complete(iface) => self.see_completion(topology, *iface, now, happened),
@@ -283,6 +292,8 @@ impl Watched {
             → WatchesRun topology.now n self.old → WatchesRun topology.now (suc n) self.new) }
         ensures sent { sent_numbers self.new.flows.counts.items
             ≡ sent_numbers self.old.flows.counts.items }
+        ensures starts { OnOk result (map start_of self.new.flows.times.items
+            ≡ map start_of self.old.flows.times.items) }
     {
         tags_change_no_run(topology); // law: tags are those of the one event list
         let iface = topology.iface(number);
@@ -336,6 +347,8 @@ impl Watched {
             (ends ++ ended_as end (outcome_by fate)) self.new) }
         ensures sent { sent_numbers self.new.flows.counts.items
             ≡ sent_numbers self.old.flows.counts.items }
+        ensures starts { OnOk result (map start_of self.new.flows.times.items
+            ≡ map start_of self.old.flows.times.items) }
     {
         let Some(outcome) = outcome_of(fate) else {
             return Ok(());
@@ -373,6 +386,10 @@ impl Watched {
             → WatchesRun topology.now n self.old → WatchesRun topology.now (suc n) self.new) }
         ensures sent { OnOk result (sent_numbers self.new.flows.counts.items
             ≡ with_sent source (sent_numbers self.old.flows.counts.items)) }
+        ensures starts { OnOk result ((first n : ℕ) (p : PartValue Held)
+            → IsNext topology.now n now (Fire source) p happened.now
+            → AreStarts topology.now first n (map start_of self.old.flows.times.items)
+            → AreStarts topology.now first (suc n) (map start_of self.new.flows.times.items)) }
     {
         tags_change_no_run(topology); // law: tags are those of the one event list
         let Some(from) = topology.sources().get(source.index()) else {
@@ -403,6 +420,8 @@ impl Watched {
             self.new) }
         ensures sent { sent_numbers self.new.flows.counts.items
             ≡ sent_numbers self.old.flows.counts.items }
+        ensures starts { OnOk result (map start_of self.new.flows.times.items
+            ≡ map start_of self.old.flows.times.items) }
     {
         match offering {
             Offering::Started(iface) => self.see_start(offer, iface),
@@ -438,6 +457,8 @@ impl Watched {
             → Watches count all [] (ends ++ end ∷ []) self.new) }
         ensures sent { sent_numbers self.new.flows.counts.items
             ≡ sent_numbers self.old.flows.counts.items }
+        ensures starts { OnOk result (map start_of self.new.flows.times.items
+            ≡ map start_of self.old.flows.times.items) }
     {
         let end = End {
             outcome: PacketOutcome::Dropped,
@@ -457,6 +478,8 @@ impl Watched {
             → Watches count all [] (ends ++ way ∷ []) self.new) }
         ensures sent { sent_numbers self.new.flows.counts.items
             ≡ sent_numbers self.old.flows.counts.items }
+        ensures starts { OnOk result (map start_of self.new.flows.times.items
+            ≡ map start_of self.old.flows.times.items) }
     {
         self.flows.end(tag, end.outcome);
         self.end(tag, end)

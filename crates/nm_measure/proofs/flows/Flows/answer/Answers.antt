@@ -1,7 +1,8 @@
-use Rattle.std.proofs.Common.{rules, ◌<◌, length, refl, ap}
+use Rattle.std.proofs.Common.{rules, ◌<◌, length, refl}
 use Rattle.nm_measure.proofs.Flowing.{flows_counts_as, flows_times_as, on_ok}
 use Rattle.nm_measure.proofs.Lists.{read_at}
 use Rattle.nm_measure.proofs.Making.{sent_kept}
+use Rattle.nm_measure.proofs.Starting.{start_kept}
 use Rattle.nm_measure.proofs.flows.Flows.answer.Goals as goal
 
 pub returns-in-Some-get_mut-clause-sent : goal.returns-in-Some-get_mut-clause-sent
@@ -21,4 +22,7 @@ returns-in-Some-clause-flows c =
     let y = c.answer.new.self in
     let there : c.index-then-eq.result < length times = search rules in
     on_ok c.answer.result _ _ (λ added ends under was. flows_times_as ends under c.args.self.now.counts.items times c.index-then-eq.result x y was
-    (read_at times c.index-then-eq.result c.index-then-eq.result x refl there c.in-Some.ensures.value) (ap (λ d. d.spread) c.answer.ensures.delays) (ap (λ d. d.sums) c.answer.ensures.delays) c.answer.ensures.octets) c.answer.ensures.added
+    (read_at times c.index-then-eq.result c.index-then-eq.result x refl there c.in-Some.ensures.value) c.answer.ensures.delays c.answer.ensures.octets c.answer.ensures.ended) c.answer.ensures.added
+
+pub returns-in-Some-clause-starts : goal.returns-in-Some-clause-starts
+returns-in-Some-clause-starts c = start_kept c.args.self.now.times.items c.index-then-eq.result c.in-Some.times.now c.answer.new.self c.in-Some.ensures.value c.answer.ensures.start

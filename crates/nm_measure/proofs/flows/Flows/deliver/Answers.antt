@@ -1,10 +1,12 @@
-use Rattle.std.proofs.Common.{rules, ◌≡◌, ◌+◌, ◌-◌, ◌<◌, ◌≤◌, ℕ, List, [], ◌∷◌, ◌++◌, length, true, false, refl, subst, sym, ap, ◌∙◌, arith}
+use Rattle.std.proofs.Common.{rules, ◌≡◌, ◌+◌, ◌-◌, ◌<◌, ◌≤◌, ℕ, List, [], ◌∷◌, ◌++◌, length, map, true, false, refl, subst, sym, ap, ◌∙◌, arith}
 use Rattle.nm_base.specs.Count.{saturated}
 use Rattle.nm_measure.specs.Counted.{AreFlows}
 use Rattle.nm_measure.specs.Delays.{AreDelays}
 use Rattle.nm_measure.specs.Lanes.{one_of}
 use Rattle.nm_measure.proofs.Flowing.{flows_delivered, flows_end, on_ok, own_not}
 use Rattle.nm_measure.proofs.Lists.{read_at}
+use Rattle.nm_measure.specs.Starts.{start_of}
+use Rattle.nm_measure.proofs.Starting.{start_kept}
 use Rattle.nm_measure.proofs.flows.Flows.deliver.Goals as goal
 
 pub returns-then-not-end-clause-flows : goal.returns-then-not-end-clause-flows
@@ -39,4 +41,9 @@ returns-in-Some-clause-flows c =
     (c.end.ensures.outcomes ends under e same is was.outcomes) c.end.ensures.count c.index.result x y
     (read_at times c.index.result c.index.result x refl there c.in-Some.ensures.value) (sym c.index.ensures)
     (subst (λ n. (ds : List ℕ) → AreDelays ds x.delays → AreDelays (ds ++ (n - c.args.tag.now.at) ∷ []) y.delays) (sym time) added)
-    (c.deliver.ensures.octets ∙ ap (λ n. saturated (x.octets + n)) (sym octets))) c.deliver.ensures.added
+    (c.deliver.ensures.octets ∙ ap (λ n. saturated (x.octets + n)) (sym octets)) (c.deliver.ensures.ended ∙ sym time)) c.deliver.ensures.added
+
+pub returns-in-Some-clause-starts : goal.returns-in-Some-clause-starts
+returns-in-Some-clause-starts c =
+    let times = c.end.new.self.times.items in
+    on_ok c.deliver.result _ _ (λ same. start_kept times c.index.result c.in-Some.times.now c.deliver.new.self c.in-Some.ensures.value same ∙ ap (λ v. map start_of v.items) c.end.ensures.times) c.deliver.ensures.start

@@ -5,6 +5,7 @@ use Rattle.nm_sim.specs.Network.{net_of}
 use Rattle.nm_sim.specs.Part.{Represents, SteppedAndTold, events_told}
 use Rattle.nm_measure.specs.contracts.measured.Measured.{the_view}
 use Rattle.nm_measure.specs.Measured.{IsMeasuredBefore, IsMeasuring, KeepsNone, MeasuredValue}
+use Rattle.nm_measure.specs.Flows.{sent_numbers}
 use Rattle.nm_measure.proofs.Advances.{measuring_first, measuring_next, next_of, place_in}
 use Rattle.nm_measure.proofs.measured.Measured.advance.Goals as goal
 
@@ -13,8 +14,10 @@ loop-done-init c =
     let t = c.args.topology.now in
     let z = c.requires.from in
     let was = subst (IsMeasuredBefore t z.0) (sym c.self.view_is) z.2 in
-    subst (λ (v : MeasuredValue). IsMeasuring t v.part.steps c.args.until (record (the_view c.self.inside) { seen = c.begin_recent.new.self.all.items })) c.self.view_is
-    (measuring_first t z.0 c.args.until (the_view c.self.inside) was z.1 c.begin_recent.new.self.all.items (c.begin_recent.ensures t))
+    let w = c.begin_recent-2.new.self in
+    subst (λ (v : MeasuredValue). IsMeasuring t v.part.steps c.args.until (record (the_view c.self.inside) { seen = c.begin_recent.new.self.all.items; sent = sent_numbers w.flows.counts.items; counts = w.flows.counts.items; times = w.flows.times.items; lanes = w.lanes.items })) c.self.view_is
+    (measuring_first t z.0 c.args.until (the_view c.self.inside) was z.1 c.begin_recent.new.self.all.items w (c.begin_recent.ensures t)
+    (c.begin_recent-2.ensures.watches t) (c.begin_recent-2.ensures.starts t) (ap (λ v. sent_numbers v.items) c.begin_recent-2.ensures.counts))
 
 pub step_and_tell-requires-clause-represents : goal.step_and_tell-requires-clause-represents
 step_and_tell-requires-clause-represents c =
@@ -51,7 +54,7 @@ loop-done-preserved c =
     subst (λ p. IsMeasuring t first c.args.until (record new { part = p })) (sym c.see.ensures.part)
     (measuring_next t first c.args.until inside m q told.key told.happened more.0 more.1 more.2 more.3 new
     (c.in_ok-see.ensures.traffic t) c.step_and_tell.ensures.keeping one (c.in_ok-see.ensures.seen first m.events m.seen next) c.in_ok-see.ensures.sent
-    (c.in_ok-see.ensures.watched m.events (omega (arith, few, one)) m.sent next m.watched))
+    (c.in_ok-see.ensures.watched m.events (omega (arith, few, one)) m.sent next m.watched) (c.in_ok-see.ensures.starts first m.events next m.starts))
 
 pub returns-in_default-clause-before : goal.returns-in_default-clause-before
 returns-in_default-clause-before c =
@@ -75,4 +78,5 @@ returns-in_default-clause-before c =
       seen = m.seen;
       sent = m.sent;
       watched = m.watched;
+      starts = m.starts;
     }

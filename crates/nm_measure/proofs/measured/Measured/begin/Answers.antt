@@ -1,10 +1,7 @@
-use Rattle.std.proofs.Common.{List, [], ℕ, length, arith}
+use Rattle.std.proofs.Common.{List, ℕ, arith}
 use Rattle.nm_model.specs.EventList.{least}
 use Rattle.nm_model.specs.Run.{one_list}
 use Rattle.nm_sim.specs.Network.{net_of}
-use Rattle.nm_measure.specs.Lanes.{lanes_in}
-use Rattle.nm_measure.specs.Ways.{ends_in, tagged_list}
-use Rattle.nm_measure.proofs.Laning.{watched_lasting}
 use Rattle.nm_measure.proofs.Counting.{none_before}
 use Rattle.nm_measure.proofs.measured.Measured.begin.Goals as goal
 
@@ -24,8 +21,6 @@ returns c = record {
   first = 0;
   seen = c.in_ok-interfaces.ensures;
   sent = c.in_ok-watched.ensures.sent;
-  watched =
-      let t = c.args.topology.now in
-      let w = c.in_ok-watched.watched in
-      watched_lasting (length t.ifaces) (lanes_in t (tagged_list t 0)) [] (ends_in t 0) w.lanes.items w.flows.counts.items w.flows.times.items c.in_ok-watched.ensures.watches;
+  watched = c.in_ok-watched.ensures.watches;
+  starts = c.in_ok-watched.ensures.starts;
 }

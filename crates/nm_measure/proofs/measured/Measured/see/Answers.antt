@@ -1,11 +1,8 @@
-use Rattle.std.proofs.Common.{arith, ◌≡◌, ◌+◌, ◌<◌, ◌^◌, [], length, suc, sym, subst}
+use Rattle.std.proofs.Common.{arith, ◌≡◌, ◌+◌, ◌<◌, ◌^◌, sym, subst}
 use Rattle.nm_measure.specs.Amounts.{AreTraffic}
 use Rattle.nm_measure.specs.Interfaces.{AreSeen, IsNext}
-use Rattle.nm_measure.specs.Lanes.{lanes_in}
-use Rattle.nm_measure.specs.Measured.{HasWatched, MeasuredValue}
+use Rattle.nm_measure.specs.Measured.{HasStarts, HasWatched, MeasuredValue}
 use Rattle.nm_measure.specs.Sent.{AreSent}
-use Rattle.nm_measure.specs.Ways.{ends_in, tagged_list}
-use Rattle.nm_measure.proofs.Laning.{watched_lasting, watched_of_lasting}
 use Rattle.nm_measure.proofs.measured.Measured.see.Goals as goal
 
 pub returns-clause-traffic : goal.returns-clause-traffic
@@ -24,10 +21,11 @@ returns-clause-watched c = λ n steps made next was.
     let most = c.events.ensures.most in
     let few : n + 1 < 2 ^ 64 = omega (arith, one, value, most) in
     let t = c.args.topology.now in
-    let w = c.self.inside.watched in
-    let new = c.see-2.new.self in
     let before = subst (HasWatched t n) (sym c.self.view_is) was in
-    let real = watched_of_lasting (length t.ifaces) (lanes_in t (tagged_list t n)) [] (ends_in t n) w.lanes.items w.flows.counts.items w.flows.times.items before in
-    let after = c.in_ok-see.ensures.watches n c.args.self.now.part few
-    (subst (λ (v : MeasuredValue). AreSent t n v.sent) (sym c.self.view_is) made) next real in
-    watched_lasting (length t.ifaces) (lanes_in t (tagged_list t (suc n))) [] (ends_in t (suc n)) new.lanes.items new.flows.counts.items new.flows.times.items after
+    c.in_ok-see.ensures.watches n c.args.self.now.part few
+    (subst (λ (v : MeasuredValue). AreSent t n v.sent) (sym c.self.view_is) made) next before
+
+pub returns-clause-starts : goal.returns-clause-starts
+returns-clause-starts c = λ first n next starts.
+    c.in_ok-see.ensures.starts first n c.args.self.now.part next
+    (subst (HasStarts c.args.topology.now first n) (sym c.self.view_is) starts)

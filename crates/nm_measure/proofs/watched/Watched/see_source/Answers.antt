@@ -1,4 +1,4 @@
-use Rattle.std.proofs.Common.{◌++◌, ◌∷◌, suc, [], length, refl, sym, ap, ◌∙◌, subst}
+use Rattle.std.proofs.Common.{◌++◌, ◌∷◌, suc, [], length, map, refl, sym, ap, ◌∙◌, subst}
 use Rattle.nm_sim.specs.Network.{net_of}
 use Rattle.nm_measure.specs.declared.flow_counts.PacketOutcome.TheVariants.{Discarded}
 use Rattle.nm_measure.specs.Flows.{sent_numbers}
@@ -6,8 +6,11 @@ use Rattle.nm_measure.specs.Lanes.{AreWatched, Watches, lanes_in, with_offer}
 use Rattle.nm_measure.specs.Sent.{sent_in}
 use Rattle.nm_measure.specs.Ways.{dropped_as, way_end, ends_in, made_as, own_tag, tagged_list}
 use Rattle.nm_measure.proofs.Flowing.{on_ok}
-use Rattle.nm_measure.proofs.Firings.{made_dropped, sent_at, source_step}
+use Rattle.nm_measure.proofs.Firings.{made_dropped, sent_at, source_step, timed_at}
 use Rattle.nm_measure.proofs.Laning.{to_hand, watched_as}
+use Rattle.nm_base.specs.declared.key.Place.TheVariants.{Fire}
+use Rattle.nm_measure.specs.Starts.{AreStarts, start_of}
+use Rattle.nm_measure.proofs.Starting.{starts_fired}
 use Rattle.nm_measure.proofs.watched.Watched.see_source.Goals as goal
 
 pub returns-in-Nothing-clause-watches : goal.returns-in-Nothing-clause-watches
@@ -70,3 +73,23 @@ returns-clause-watches c =
     (ap (λ l. ends ++ l) (sym (made_dropped way h.offering other)) ∙ step.ends)
     (watched_as count (with_offer h.offering (own_tag j k c.args.now) all) (lanes_in t (tagged_list t (suc n))) [] (ends ++ dropped_as way h.offering) new.lanes.items new.flows.counts.items new.flows.times.items step.lanes
     (subst (λ g. AreWatched count (with_offer h.offering g all) [] (ends ++ dropped_as way h.offering) new.lanes.items new.flows.counts.items new.flows.times.items) is three))) c.see_offer.ensures.watches
+
+pub returns-in-Nothing-clause-starts : goal.returns-in-Nothing-clause-starts
+returns-in-Nothing-clause-starts c = on_ok c.see_loss.result _ _ (λ same first n p next starts.
+    let t = c.args.topology.now in
+    let laws = c.tags_change_no_run.ensures in
+    let j = c.args.source in
+    let times = c.args.self.now.flows.times.items in
+    let timed = timed_at t laws.own n (laws.same n) laws.network (laws.orderly n) (laws.counts n) c.args.now j p c.args.happened.now next in
+    subst (AreStarts t first (suc n)) (sym (same ∙ ap (λ f. map start_of f.times.items) c.begin.ensures.flows ∙ c.send-tag.ensures.starts))
+    (starts_fired t first n (map start_of times) starts next.event (Fire j) next.first next.at_place j c.args.now refl timed)) c.see_loss.ensures.starts
+
+pub returns-clause-starts : goal.returns-clause-starts
+returns-clause-starts c = on_ok c.see_offer.result _ _ (λ same first n p next starts.
+    let t = c.args.topology.now in
+    let laws = c.tags_change_no_run.ensures in
+    let j = c.args.source in
+    let times = c.args.self.now.flows.times.items in
+    let timed = timed_at t laws.own n (laws.same n) laws.network (laws.orderly n) (laws.counts n) c.args.now j p c.args.happened.now next in
+    subst (AreStarts t first (suc n)) (sym (same ∙ ap (λ f. map start_of f.times.items) c.begin.ensures.flows ∙ c.send-tag.ensures.starts))
+    (starts_fired t first n (map start_of times) starts next.event (Fire j) next.first next.at_place j c.args.now refl timed)) c.see_offer.ensures.starts
