@@ -17,7 +17,7 @@ first_most d [] = omega arith
 first_most d (e ∷ ds) = let h = first_most (max d e) ds in omega (arith, h)
 
 -- delays that are no greater than this, and their differences
-sum_most : (before : ℕ) (ds : List ℕ) (most : ℕ) → fold max before ds ≤ most → sum ds ≤ length ds * most
+pub sum_most : (before : ℕ) (ds : List ℕ) (most : ℕ) → fold max before ds ≤ most → sum ds ≤ length ds * most
 sum_most before [] most h = omega arith
 sum_most before (d ∷ ds) most h =
     let first = first_most (max before d) ds in
@@ -25,7 +25,7 @@ sum_most before (d ∷ ds) most h =
     let all : sum (d ∷ ds) ≡ d + sum ds = sum_by-cons (λ x. x) d ds in
     omega (arith, first, rest, all, h)
 
-differences_most : (before : ℕ) (ds : List ℕ) (most : ℕ) → fold max before ds ≤ most
+pub differences_most : (before : ℕ) (ds : List ℕ) (most : ℕ) → fold max before ds ≤ most
     → sum (differences_of ds) ≤ length (differences_of ds) * most
 differences_most before [] most h = omega arith
 differences_most before (d ∷ []) most h = omega arith
@@ -36,7 +36,7 @@ differences_most before (d ∷ e ∷ ds) most h =
     sum_by-cons (λ x. x) (abs_diff e d) (differences_of (e ∷ ds)) in
     omega (arith, first, rest, all, h)
 
-differences_count : (ds : List ℕ) → length (differences_of ds) ≡ length ds - 1
+pub differences_count : (ds : List ℕ) → length (differences_of ds) ≡ length ds - 1
 differences_count [] = refl
 differences_count (d ∷ []) = refl
 differences_count (d ∷ e ∷ ds) = let h = differences_count (e ∷ ds) in omega (arith, h)
@@ -46,7 +46,7 @@ fits_twice : (total count most : ℕ) → total ≤ count * 18446744073709551615
     → most ≤ 340282366920938463463374607431768211455 → min total 340282366920938463463374607431768211455 ≡ total
 fits_twice total count most h few fits = omega arith
 
-fits_once : (mean : ℕ) → mean ≤ 18446744073709551615 → min mean 18446744073709551615 ≡ mean
+pub fits_once : (mean : ℕ) → mean ≤ 18446744073709551615 → min mean 18446744073709551615 ≡ mean
 fits_once mean h = omega arith
 
 mean_is : (total count : ℕ) → total ≤ count * 18446744073709551615 → count < 18446744073709551616

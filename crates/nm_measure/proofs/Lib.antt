@@ -22,3 +22,4 @@ mod Transmitting
 mod Seeing
 mod Watching
 mod Starting
+pub mod Between

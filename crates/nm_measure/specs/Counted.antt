@@ -1,5 +1,5 @@
 -- The numbers of sources, by the ends of their packets' ways.
-use Rattle.std.specs.Prelude.{◌≡◌, ℕ, ◌+◌, ◌-◌, ◌==◌, ◌&&◌, Bool, true, false, List, map, length, count_by, sum_by, slice_get, Some}
+use Rattle.std.specs.Prelude.{◌≡◌, ℕ, ◌+◌, ◌-◌, ◌<◌, ◌^◌, ◌==◌, ◌&&◌, Bool, true, false, List, map, length, count_by, sum_by, slice_get, Some}
 use Rattle.nm_base.specs.Count.{saturated}
 use Rattle.nm_model.specs.Lists.{keep_where}
 use Rattle.nm_measure.specs.declared.flow_counts.FlowCounts.{FlowCounts}
@@ -10,7 +10,7 @@ use Rattle.nm_measure.specs.declared.tag.Role.{Role}
 use Rattle.nm_measure.specs.declared.tag.Role.TheVariants as role
 use Rattle.nm_measure.specs.declared.tag.Tag.{Tag}
 use Rattle.nm_measure.specs.Delays.{AreDelays}
-use Rattle.nm_measure.specs.Sums.{differences_of, last_of, sum_to}
+use Rattle.nm_measure.specs.Sums.{differences_of, greatest_of, last_of, sum_to}
 use Rattle.nm_measure.specs.declared.totals.Delivered.{Delivered as DeliveredSums}
 use Rattle.nm_measure.specs.declared.totals.FlowTotals.{FlowTotals}
 use Rattle.nm_measure.specs.Ways.{WayEnd}
@@ -73,6 +73,7 @@ pub record HasDelivered (j : ℕ) (ends : List WayEnd) (x : DeliveredSums) : Typ
   pub octets : x.octets ≡ saturated (octets_delivered j ends)
   pub delayed : x.delayed ≡ sum_to (delays_of j ends)
   pub differences : x.differences ≡ sum_to (differences_of (delays_of j ends))
+  pub fits : greatest_of (delays_of j ends) < 2 ^ 64
 
 -- the totals of source j
 pub record HasTotals (j : ℕ) (ends : List WayEnd) (x : FlowTotals) : Type 0 where
@@ -81,6 +82,7 @@ pub record HasTotals (j : ℕ) (ends : List WayEnd) (x : FlowTotals) : Type 0 wh
   pub octets : x.octets ≡ saturated (octets_delivered j ends)
   pub delayed : x.delayed ≡ sum_to (delays_of j ends)
   pub differences : x.differences ≡ sum_to (differences_of (delays_of j ends))
+  pub fits : greatest_of (delays_of j ends) < 2 ^ 64
 
 -- of all sources
 abbrev pub AreOutcomes : List WayEnd → (under_way : ℕ → ℕ) → List FlowCounts → Type 0

@@ -12,6 +12,7 @@ returns-in-Some c = λ t until m low.
       octets = c.octets.ensures ∙ h.octets;
       delayed = c.total.ensures.sum _ h.delays;
       differences = c.differences.ensures.sum _ h.delays;
+      fits = h.delays.added.sums.fits;
     }
 
 pub returns-in-None : goal.returns-in-None

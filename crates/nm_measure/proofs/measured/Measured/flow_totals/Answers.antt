@@ -22,4 +22,5 @@ returns-clause-totals c = λ t until m there.
       octets = x.octets;
       delayed = x.delayed;
       differences = x.differences;
+      fits = x.fits;
     }
