@@ -20,14 +20,14 @@ greatest_more : (a b : ℕ) (ds : List ℕ) → a ≤ b → fold max a ds ≤ fo
 greatest_more a b [] h = h
 greatest_more a b (d ∷ ds) h = greatest_more (max a d) (max b d) ds (omega (arith, h))
 
-sum_fits : (ds : List ℕ) → greatest_of ds < 2 ^ 64 → length ds < 2 ^ 63 → sum ds ≤ 340282366920938463463374607431768211455
+sum_fits : (ds : List ℕ) → greatest_of ds < 2 ^ 64 → length ds ≤ 2 ^ 63 → sum ds ≤ 340282366920938463463374607431768211455
 sum_fits ds fits few = let m = sum_most 0 ds 18446744073709551615 (omega (arith, fits)) in omega (arith, m, few)
 
 sums_apart : (all old more : ℕ) → all ≡ old + more → all ≤ 340282366920938463463374607431768211455
     → min all 340282366920938463463374607431768211455 - min old 340282366920938463463374607431768211455 ≡ more
 sums_apart all old more is few = omega (arith, is, few)
 
-module _ (old more : List ℕ) (fits : greatest_of (old ++ more) < 2 ^ 64) (few : length (old ++ more) < 2 ^ 63) where
+module _ (old more : List ℕ) (fits : greatest_of (old ++ more) < 2 ^ 64) (few : length (old ++ more) ≤ 2 ^ 63) where
   all_most : fold max 0 (old ++ more) ≤ 18446744073709551615
   all_most = omega (arith, fits)
 
@@ -69,15 +69,15 @@ module _ (old more : List ℕ) (fits : greatest_of (old ++ more) < 2 ^ 64) (few 
       ∙ ap mean_of (sym (ap (drop (length (differences_of old))) r.1 ∙ drop-append_seam (differences_of old) r.0))
 
 -- of two lists, the first of which is the begin of the second
-pub mean_late : (old new more : List ℕ) → new ≡ old ++ more → greatest_of new < 2 ^ 64 → length new < 2 ^ 63
+pub mean_late : (old new more : List ℕ) → new ≡ old ++ more → greatest_of new < 2 ^ 64 → length new ≤ 2 ^ 63
     → saturated ((sum_to new - sum_to old) / (length new - length old)) ≡ mean_of (drop (length old) new)
 mean_late old new more is fits few = subst (λ l. saturated ((sum_to l - sum_to old) / (length l - length old)) ≡ mean_of (drop (length old) l)) (sym is)
-    (mean_apart old more (subst (λ l. greatest_of l < 2 ^ 64) is fits) (subst (λ l. length l < 2 ^ 63) is few))
+    (mean_apart old more (subst (λ l. greatest_of l < 2 ^ 64) is fits) (subst (λ l. length l ≤ 2 ^ 63) is few))
 
-pub jitter_late : (old new more : List ℕ) → new ≡ old ++ more → greatest_of new < 2 ^ 64 → length new < 2 ^ 63
+pub jitter_late : (old new more : List ℕ) → new ≡ old ++ more → greatest_of new < 2 ^ 64 → length new ≤ 2 ^ 63
     → saturated ((sum_to (differences_of new) - sum_to (differences_of old)) / (length new - max (length old) 1)) ≡ mean_of (drop (length (differences_of old)) (differences_of new))
 jitter_late old new more is fits few = subst (λ l. saturated ((sum_to (differences_of l) - sum_to (differences_of old)) / (length l - max (length old) 1)) ≡ mean_of (drop (length (differences_of old)) (differences_of l))) (sym is)
-    (jitter_apart old more (subst (λ l. greatest_of l < 2 ^ 64) is fits) (subst (λ l. length l < 2 ^ 63) is few))
+    (jitter_apart old more (subst (λ l. greatest_of l < 2 ^ 64) is fits) (subst (λ l. length l ≤ 2 ^ 63) is few))
 
 -- how many were delivered
 pub many_delivered : (j : ℕ) (ends : List WayEnd) → how_many j Delivered ends ≡ length (delays_of j ends)

@@ -21,5 +21,5 @@ mod Waitings
 mod Transmitting
 mod Seeing
 mod Watching
-mod Starting
+pub mod Starting
 pub mod Between

@@ -195,6 +195,14 @@ impl Measured {
         Ok(())
     }
 
+    /// How many events were done: no more than 2^62.
+    pub fn events(&self) -> u64
+        ensures value { result ≡ self.now.part.steps }
+        ensures most { result ≤ 2 ^ 62 }
+    {
+        self.part.events()
+    }
+
     /// The value of a node's counter. `None` if there is no such node.
     pub fn counter(&self, node: NodeNo, counter: Counter) -> Option<u64>
         ensures { (t : TopologyValue) (until : ℕ) (m : IsMeasuredBefore t until self.now)

@@ -6,7 +6,7 @@ use Rattle.nm_command.specs.declared.status.Status.{Status}
 use Rattle.nm_command.specs.declared.status.Status.TheVariants.{Done, Rows, File, Memory}
 use Rattle.nm_command.specs.declared.view.Subject.{Subject}
 use Rattle.nm_command.specs.declared.view.Subject.TheVariants.{Interfaces, Sources}
-use Rattle.nm_series.specs.Flows.{AreLines}
+use Rattle.nm_series.specs.Flows.{IsFlowStep}
 use Rattle.nm_series.specs.Rows.{IsIfaceStep}
 use Rattle.nm_series.specs.Steps.{AreAllSteps, AreSteps, steps_in}
 use Rattle.nm_series.specs.declared.steps.TheConstants.{MAX_ROWS}
@@ -23,7 +23,7 @@ columns_of Sources =
 -- the text of a step: the rows of interfaces, or whole lines of sources
 abbrev pub IsStepOf : Subject → TopologyValue → (from until : ℕ) → List ℕ → Type 0
 IsStepOf Interfaces t from until text = IsIfaceStep t from until text
-IsStepOf Sources t from until text = AreLines text
+IsStepOf Sources t from until text = IsFlowStep t from until text
 
 -- rows of this kind are the text of a step
 abbrev pub TellsOf : (AreRows : TopologyValue → (from until : ℕ) → List ℕ → Type 0) → Subject

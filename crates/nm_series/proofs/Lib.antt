@@ -1,1 +1,2 @@
 mod RowsMore
+mod FlowRows

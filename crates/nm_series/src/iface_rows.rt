@@ -190,7 +190,7 @@ impl Totals for IfaceTotals {
     fn rows(
         alloc: Global,
         topology: &Topology,
-        measured: &mut Measured,
+        measured: &Measured,
         before: &[IfaceTotals],
         after: &[IfaceTotals],
         span: &Span,

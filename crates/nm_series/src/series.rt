@@ -55,15 +55,14 @@ pub trait Totals: Drop {
     fn rows(
         alloc: Global,
         topology: &Topology,
-        measured: &mut Measured,
+        measured: &Measured,
         before: &[Self],
         after: &[Self],
         span: &Span,
     ) -> Result<Vec<u8>, AllocError>
         requires before { had topology.now span.now.from before.now }
         requires after { had topology.now span.now.until after.now }
-        requires step { IsMeasuredStep topology.now span.now.from span.now.until measured.old }
-        ensures same { measured.new ≡ measured.old }
+        requires step { IsMeasuredStep topology.now span.now.from span.now.until measured.now }
         ensures rows { IfOk result
             (λ text. are_rows topology.now span.now.from span.now.until text.items) };
 }
@@ -142,7 +141,7 @@ impl<T: Totals> Series<T> {
         let text = T::rows(
             alloc,
             topology,
-            &mut self.measured,
+            &self.measured,
             self.before.as_slice(),
             after.as_slice(),
             &span,

@@ -1,7 +1,6 @@
 use Rattle.std.proofs.Common.{◌≤◌, ◌<◌, Some, refl, rules, sym, subst, arith}
 use Rattle.nm_model.specs.Before.{IsBefore}
 use Rattle.nm_sim.specs.Network.{net_of}
-use Rattle.nm_measure.specs.Measured.{IsMeasuredBefore}
 use Rattle.nm_series.specs.Series.{IsSeries, Nexts, SeriesValue}
 use Rattle.nm_series.proofs.series.Series.next.Goals as goal
 
@@ -12,11 +11,11 @@ returns g c =
     let inside : SeriesValue _ = record { measured = c.self.inside.measured; before = c.self.inside.before.items; time = c.self.inside.time; step = c.self.inside.step } in
     let was : IsSeries had t inside = subst (λ o. IsSeries had t o) (sym c.self.view_is) c.requires in
     let end : c.end_of.result ≤ t.stop = let e = c.end_of.ensures in omega (arith, e) in
-    let now : SeriesValue _ = record { measured = c.rows.new.measured; before = c.in_ok-after.after.items; time = c.end_of.result; step = c.self.inside.step } in
+    let now : SeriesValue _ = record { measured = c.advance.new.self; before = c.in_ok-after.after.items; time = c.end_of.result; step = c.self.inside.step } in
     let early : c.self.inside.time < t.stop = search rules in
     subst (λ o. Nexts had g.T.Totals.are_rows t o now (Some c.in_ok-text.text.items)) c.self.view_is (
       record {
-        measured = subst (λ v. IsMeasuredBefore t c.end_of.result v) (sym c.in_ok-text.ensures.same) c.in_ok-advance.ensures.before;
+        measured = c.in_ok-advance.ensures.before;
         before = c.in_ok-after.ensures;
         within = end;
       },
