@@ -8,7 +8,7 @@ returns-clause-values c ds es delays trips few_ds few_es =
     let flow = c.args.flow.now in
     let times = c.args.times.now in
     let sent : List ℕ = flow.sent ∷ flow.delivered ∷ flow.refused ∷ flow.dropped ∷ flow.discarded ∷ flow.under_way ∷ [] in
-    let answered : c.count.result ≡ length es = c.count.ensures ∙ same_count times.round_trips.spread.count (length es) trips.count few_es in
+    let answered : c.count.result ≡ length es = c.count.ensures ∙ same_count times.round_trips.spread.count (length es) trips.added.count few_es in
     let first : c.extend_from_slice.new.self.items ≡ sent =
     c.in_ok-extend_from_slice.ensures.items ∙ ap (λ l. l ++ c.fates.result) c.new-values.ensures.items ∙ c.fates.ensures in
     record {

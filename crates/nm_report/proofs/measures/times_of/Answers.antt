@@ -8,8 +8,8 @@ number_of false = refl
 
 pub returns : goal.returns
 returns c = λ ds h few.
-    let least = c.least.ensures ∙ h.sums.least in
-    let greatest = c.greatest.ensures ∙ h.sums.greatest in
+    let least = c.least.ensures ∙ h.added.sums.least in
+    let greatest = c.greatest.ensures ∙ h.added.sums.greatest in
     let mean = c.mean.ensures ds h few in
     let jitter = c.jitter.ensures ds h few in
     let rounded = c.from.ensures ∙ number_of c.is_rounded.result ∙ ap (λ b. if b then 1 else 0) c.is_rounded.ensures.kind in
