@@ -19,7 +19,7 @@ use Rattle.nm_model.specs.Run.{Effect, State, arrived_after, effect, one_list, b
 use Rattle.nm_model.specs.Tags.{IsUntagged, untagged_event, with_tag}
 use Rattle.nm_model.specs.declared.offering.Offering.{Offering}
 use Rattle.nm_model.specs.declared.offering.Offering.TheVariants as became
-use Rattle.nm_measure.specs.declared.flow_counts.PacketOutcome.{PacketOutcome}
+use Rattle.nm_measure.specs.declared.flow_counts.PacketOutcome.TheVariants.{Discarded}
 use Rattle.nm_model.specs.declared.offering.Offering.TheVariants.{Nothing, Waits, Dropped}
 use Rattle.nm_model.proofs.Keys.{key_at, least_has}
 use Rattle.nm_model.proofs.ListLemmas.{not_some, number_apart, number_tied, same_number, some_inj}
@@ -34,7 +34,7 @@ use Rattle.nm_measure.specs.Lanes.{CanBe, lanes_in, with_offer}
 use Rattle.nm_model.specs.Before.{events_at, is_at, same_place}
 use Rattle.nm_measure.specs.Sent.{AreSent, is_fire, made_by, sent_in}
 use Rattle.nm_measure.specs.Tagged.{SendsByOwn}
-use Rattle.nm_measure.specs.Ways.{WayEnd, dropped_as, way_end, ends_at, ends_in, ends_next, made_as, own_tag, time_of, tagged_list, tagged_net, tagging}
+use Rattle.nm_measure.specs.Ways.{WayEnd, dropped_as, drop_at, end_at, unsent_at, ends_at, ends_in, ends_next, made_as, own_tag, time_of, tagged_list, tagged_net, tagging}
 use Rattle.nm_measure.proofs.Tagged.{lanes_of, lanes_offered}
 use Rattle.nm_measure.proofs.Turns.{next_state}
 use Rattle.nm_measure.proofs.Following.{came_with, can_be, few_arrived, offering_kept, sends_there, tag_of}
@@ -65,8 +65,9 @@ events_sent t j (suc n) = go (least (one_list (net_of t) n).pending) (events_sen
 pub record SourceStep (t : TopologyValue) (n now j : ℕ) (h : Happened) : Type 0 where
   pub packet : List ℕ
   pub can : CanBe (length t.ifaces) (lanes_in t (tagged_list t n)) h.offering
-  pub lanes : (k : ℕ) → with_offer h.offering (own_tag j (sent_in (net_of t) j n) now) (lanes_in t (tagged_list t n)) k ≡ lanes_in t (tagged_list t (suc n)) k
-  pub ends : ends_in t n ++ made_as (way_end now (own_tag j (sent_in (net_of t) j n) now, packet)) h.offering ≡ ends_in t (suc n)
+  pub lanes : (k : ℕ) → with_offer h.offering (own_tag j ((net_of t).source_node j) (sent_in (net_of t) j n) now) (lanes_in t (tagged_list t n)) k ≡ lanes_in t (tagged_list t (suc n)) k
+  pub ends : ends_in t n ++ made_as (end_at (unsent_at t ((net_of t).source_node j) packet) ((net_of t).source_node j) now (own_tag j ((net_of t).source_node j) (sent_in (net_of t) j n) now, packet) Discarded)
+      (drop_at now (own_tag j ((net_of t).source_node j) (sent_in (net_of t) j n) now, packet)) h.offering ≡ ends_in t (suc n)
 
 module _ (t : TopologyValue) (own : SendsByOwn t) (n : ℕ) (kept : IsUntagged (tagged_list t n) (one_list (net_of t) n)) (is_net : IsNet (tagged_net t)) (orderly : IsOrderly (tagged_net t) (λ q. true) (tagged_list t n))
     (rises : KeysRise (net_of t) n) (now j : ℕ) (p : PartValue Held) (h : Happened) (next : IsNext t n now (Fire j) p h) where
@@ -76,7 +77,7 @@ module _ (t : TopologyValue) (own : SendsByOwn t) (n : ℕ) (kept : IsUntagged (
   there : (f : Event (Tag × List ℕ)) × (least (tagged_list t n).pending ≡ Some (next.event.0, f)) × (next.event.1 ≡ untagged_event f)
   there = tagged_first state.pending (one_list (net_of t) n).pending kept.pending next.event next.first
 
-  made : (x : Tag × List ℕ) × (there.0 ≡ Delivery (Source j) x) × (with_tag (own_tag j next.event.0.number (time_of ((net_of t).source j next.event.0.number))) ((net_of t).source j next.event.0.number) ≡ Some (next.event.0.time, x))
+  made : (x : Tag × List ℕ) × (there.0 ≡ Delivery (Source j) x) × (with_tag (own_tag j ((net_of t).source_node j) next.event.0.number (time_of ((net_of t).source j next.event.0.number))) ((net_of t).source j next.event.0.number) ≡ Some (next.event.0.time, x))
   made = orderly.source j next.event.0.time next.event.0.number there.0 (ap (get state.pending) (sym (key_at next.event.0 (Fire j) next.at_place)) ∙ least_has state.pending (next.event.0, there.0) there.1)
 
   count : next.event.0.number ≡ sent_in (net_of t) j n
@@ -86,9 +87,9 @@ module _ (t : TopologyValue) (own : SendsByOwn t) (n : ℕ) (kept : IsUntagged (
   timed None g s e = absurd (not_some s e)
   timed (Some a) g s e = ap (λ z. z.0) (some_inj (a.0, (g, a.1)) s e)
 
-  tag_is : made.0.0 ≡ own_tag j (sent_in (net_of t) j n) now
-  tag_is = tag_of (own_tag j next.event.0.number (time_of ((net_of t).source j next.event.0.number))) ((net_of t).source j next.event.0.number) (next.event.0.time, made.0) made.2
-      ∙ (λ i. own_tag j (count i) ((timed ((net_of t).source j next.event.0.number) _ (next.event.0.time, made.0) made.2 ∙ next.at_time) i))
+  tag_is : made.0.0 ≡ own_tag j ((net_of t).source_node j) (sent_in (net_of t) j n) now
+  tag_is = tag_of (own_tag j ((net_of t).source_node j) next.event.0.number (time_of ((net_of t).source j next.event.0.number))) ((net_of t).source j next.event.0.number) (next.event.0.time, made.0) made.2
+      ∙ (λ i. own_tag j ((net_of t).source_node j) (count i) ((timed ((net_of t).source j next.event.0.number) _ (next.event.0.time, made.0) made.2 ∙ next.at_time) i))
 
   pub timed_at : now ≡ time_of ((net_of t).source j (sent_in (net_of t) j n))
   timed_at = sym next.at_time ∙ sym (timed ((net_of t).source j next.event.0.number) _ (next.event.0.time, made.0) made.2)
@@ -131,7 +132,7 @@ module _ (t : TopologyValue) (own : SendsByOwn t) (n : ℕ) (kept : IsUntagged (
         (λ i. with_offer (offer_is i) (sym tag_is i) (lanes_in t (tagged_list t n)) k)
         ∙ sym (lanes_offered (tagged_net t) is_net state.port state.sent state.arrived low next.event.0.time None r.0 (with_tag made.0.0 r.1) follows made.0.0 (λ x. tag_of made.0.0 r.1 x) k)
         ∙ sym (after k);
-    ends = (λ i. ends_in t n ++ made_as (way_end (sym next.at_time i) (sym tag_is i, made.0.1)) (offer_is i))
+    ends = (λ i. ends_in t n ++ made_as (end_at (unsent_at t ((net_of t).source_node j) made.0.1) ((net_of t).source_node j) (sym next.at_time i) (sym tag_is i, made.0.1) Discarded) (drop_at (sym next.at_time i) (sym tag_is i, made.0.1)) (offer_is i))
         ∙ sym (ap (λ o. ends_in t n ++ ends_next t state o) there.1 ∙ ap (λ f. ends_in t n ++ ends_at t state next.event.0.time f) made.1);
   }
 
@@ -157,8 +158,8 @@ sent_at t n sent h j low few = ⊎_elim
     (λ g. absurd (let c = h.count in omega (arith, c, g.0, low)))
     ((slice_get_cases sent j).1)
 
-pub made_dropped : (end : PacketOutcome → WayEnd) (o : Offering) → o ≢ Nothing → made_as end o ≡ dropped_as end o
-made_dropped end Nothing other = absurd (other refl)
-made_dropped end (became.Started i) other = refl
-made_dropped end (Waits i) other = refl
-made_dropped end (Dropped i) other = refl
+pub made_dropped : (discarded : WayEnd) (end : ℕ → WayEnd) (o : Offering) → o ≢ Nothing → made_as discarded end o ≡ dropped_as end o
+made_dropped discarded end Nothing other = absurd (other refl)
+made_dropped discarded end (became.Started i) other = refl
+made_dropped discarded end (Waits i) other = refl
+made_dropped discarded end (Dropped i) other = refl

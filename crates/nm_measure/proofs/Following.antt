@@ -46,7 +46,7 @@ use Rattle.nm_measure.specs.declared.tag.Tag.{Tag}
 use Rattle.nm_measure.specs.Interfaces.{IsNext}
 use Rattle.nm_measure.specs.Lanes.{CanBe, lanes_in, one_of, with_offer}
 use Rattle.nm_measure.specs.Tagged.{SendsByOwn}
-use Rattle.nm_measure.specs.Ways.{answer_tag, dropped_as, way_end, ended_as, ends_at, ends_in, ends_next, fate_at, fate_by, outcome_by, sent_tag, tagged_list, tagged_net, tagging}
+use Rattle.nm_measure.specs.Ways.{answer_tag, dropped_as, counter_at, drop_at, end_at, ended_as, ends_at, ends_in, ends_next, fate_at, fate_by, outcome_by, sent_tag, tagged_list, tagged_net, tagging}
 use Rattle.nm_measure.proofs.Laning.{answer_counts_none}
 use Rattle.nm_measure.proofs.Tagged.{lanes_arrived, lanes_of, lanes_offered}
 use Rattle.nm_topology.specs.PartValues.{IfaceValue}
@@ -198,8 +198,8 @@ pub record ArrivalStep (t : TopologyValue) (n now c : ℕ) (h : Happened) : Type
   pub lanes : (i : ℕ) → with_offer h.offering (answer_tag (fate_at t ((net_of t).owner c) packet.1) packet.0)
       (set_at (lanes_in t (tagged_list t n)) ((net_of t).far_end c) (on, (lanes_in t (tagged_list t n) ((net_of t).far_end c)).1)) i
       ≡ lanes_in t (tagged_list t (suc n)) i
-  pub ends : (ends_in t n ++ ended_as (way_end now packet) (outcome_by (fate_at t ((net_of t).owner c) packet.1)))
-      ++ dropped_as (way_end now (answer_tag (fate_at t ((net_of t).owner c) packet.1) packet.0, packet.1)) h.offering
+  pub ends : (ends_in t n ++ ended_as (end_at (counter_at t ((net_of t).owner c) packet.1) ((net_of t).owner c) now packet) (outcome_by (fate_at t ((net_of t).owner c) packet.1)))
+      ++ dropped_as (drop_at now (answer_tag (fate_at t ((net_of t).owner c) packet.1) packet.0, packet.1)) h.offering
       ≡ ends_in t (suc n)
 
 module _ (t : TopologyValue) (own : SendsByOwn t) (n : ℕ) (kept : IsUntagged (tagged_list t n) (one_list (net_of t) n)) (is_net : IsNet (tagged_net t)) (orderly : IsOrderly (tagged_net t) (λ q. true) (tagged_list t n))
@@ -307,10 +307,10 @@ module _ (t : TopologyValue) (own : SendsByOwn t) (n : ℕ) (kept : IsUntagged (
         go fate.Refused is = subst (λ f. one_of j (answer_tag f number.0.0) ≡ 0) (sym is) refl
         go fate.Discarded is = subst (λ f. one_of j (answer_tag f number.0.0) ≡ 0) (sym is) refl
 
-    ends_are : (ends_in t n ++ ended_as (way_end now number.0) (outcome_by (fate_at t v number.0.1))) ++ dropped_as (way_end now (answer, number.0.1)) h.offering ≡ ends_in t (suc n)
+    ends_are : (ends_in t n ++ ended_as (end_at (counter_at t v number.0.1) v now number.0) (outcome_by (fate_at t v number.0.1))) ++ dropped_as (drop_at now (answer, number.0.1)) h.offering ≡ ends_in t (suc n)
     ends_are =
-        (λ j. (ends_in t n ++ ended_as (way_end (sym next.at_time j) number.0) (outcome_by (fate_at t v number.0.1))) ++ dropped_as (way_end (sym next.at_time j) (answer, number.0.1)) (offer_is j))
-        ∙ append_assoc (ends_in t n) (ended_as (way_end next.event.0.time number.0) (outcome_by (fate_at t v number.0.1))) (dropped_as (way_end next.event.0.time (answer, number.0.1)) (offering_of (tagged_net t) state.port (with_tag answer r.1)))
+        (λ j. (ends_in t n ++ ended_as (end_at (counter_at t v number.0.1) v (sym next.at_time j) number.0) (outcome_by (fate_at t v number.0.1))) ++ dropped_as (drop_at (sym next.at_time j) (answer, number.0.1)) (offer_is j))
+        ∙ append_assoc (ends_in t n) (ended_as (end_at (counter_at t v number.0.1) v next.event.0.time number.0) (outcome_by (fate_at t v number.0.1))) (dropped_as (drop_at next.event.0.time (answer, number.0.1)) (offering_of (tagged_net t) state.port (with_tag answer r.1)))
         ∙ sym (ap (λ o. ends_in t n ++ ends_next t state o) there.1 ∙ ap (λ f. ends_in t n ++ ends_at t state next.event.0.time f) number.1)
 
     pub arrival_step : ArrivalStep t n now c h

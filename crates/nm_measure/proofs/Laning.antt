@@ -157,7 +157,7 @@ nothing_in_hand count all tag ends lanes counts times was none = record {
 }
 
 -- what became of an offer, said otherwise
-pub offered_as : (count : ℕ) (all : ℕ → List Tag × List Tag) (ends : List WayEnd) (offering is : Offering) → offering ≡ is → (tag : Tag) (end : PacketOutcome → WayEnd) (lanes : List Lane) (counts : List FlowCounts) (times : List FlowTimes)
+pub offered_as : (count : ℕ) (all : ℕ → List Tag × List Tag) (ends : List WayEnd) (offering is : Offering) → offering ≡ is → (tag : Tag) (end : ℕ → WayEnd) (lanes : List Lane) (counts : List FlowCounts) (times : List FlowTimes)
     → AreWatched count (with_offer is tag all) [] (ends ++ dropped_as end is) lanes counts times → AreWatched count (with_offer offering tag all) [] (ends ++ dropped_as end offering) lanes counts times
 offered_as count all ends offering is same tag end lanes counts times = subst (λ o. AreWatched count (with_offer o tag all) [] (ends ++ dropped_as end o) lanes counts times) (sym same)
 

@@ -25,9 +25,9 @@ use Rattle.nm_sim.specs.Network.{net_of}
 use Rattle.nm_measure.specs.Counted.{AreArrivals, delays_of, ended_so}
 use Rattle.nm_measure.specs.Sent.{sent_in}
 use Rattle.nm_measure.specs.Starts.{AreStarts, IsRecent, Start, begun_by, begun_in, begun_of, first_time, nothing_begun, start_of, with_begin}
-use Rattle.nm_measure.specs.Ways.{WayEnd, dropped_as, ended_as, ends_at, ends_in, ends_next, fate_at, made_as, outcome_by, sent_tag, tagged_list, tagged_net, time_of, way_end}
+use Rattle.nm_measure.specs.Ways.{WayEnd, counter_at, drop_at, dropped_as, end_at, ended_as, ends_at, ends_in, ends_next, fate_at, made_as, outcome_by, sent_tag, tagged_list, tagged_net, time_of, unsent_at}
 use Rattle.nm_measure.specs.declared.flow_counts.PacketOutcome.{PacketOutcome}
-use Rattle.nm_measure.specs.declared.flow_counts.PacketOutcome.TheVariants.{Delivered}
+use Rattle.nm_measure.specs.declared.flow_counts.PacketOutcome.TheVariants.{Delivered, Discarded}
 use Rattle.nm_measure.specs.declared.flow_times.FlowTimes.{FlowTimes}
 use Rattle.nm_measure.specs.declared.tag.Tag.{Tag}
 use Rattle.nm_measure.proofs.Lists.{AreTurned, mapped_some, set_other, set_same}
@@ -71,27 +71,28 @@ module _ (t : TopologyValue) where
       ended end None = omega arith
       ended end (Some p) = omega arith
 
-      dropped : (end : PacketOutcome → WayEnd) (o : Offering) → length (dropped_as end o) ≤ 1
+      dropped : (end : ℕ → WayEnd) (o : Offering) → length (dropped_as end o) ≤ 1
       dropped end Nothing = omega arith
       dropped end (Started i) = omega arith
       dropped end (Waits i) = omega arith
       dropped end (Dropped i) = omega arith
 
-      made : (end : PacketOutcome → WayEnd) (o : Offering) → length (made_as end o) ≤ 1
-      made end Nothing = omega arith
-      made end (Started i) = omega arith
-      made end (Waits i) = omega arith
-      made end (Dropped i) = omega arith
+      made : (discarded : WayEnd) (end : ℕ → WayEnd) (o : Offering) → length (made_as discarded end o) ≤ 1
+      made discarded end Nothing = omega arith
+      made discarded end (Started i) = omega arith
+      made discarded end (Waits i) = omega arith
+      made discarded end (Dropped i) = omega arith
 
       one : (s : State (Tag × List ℕ) NodeStateValue) (time : ℕ) (e : Event (Tag × List ℕ)) → length (ends_at t s time e) ≤ 2
       one s time (Delivery (Arrival i) x) =
-          let a = ended (way_end time x) (outcome_by (fate_at t ((net_of t).owner i) x.1)) in
-          let end = way_end time (sent_tag t ((net_of t).owner i) (Arrival i) x, x.1) in
+          let arrived = end_at (counter_at t ((net_of t).owner i) x.1) ((net_of t).owner i) time x in
+          let a = ended arrived (outcome_by (fate_at t ((net_of t).owner i) x.1)) in
+          let end = drop_at time (sent_tag t ((net_of t).owner i) (Arrival i) x, x.1) in
           let o = offering_in (tagged_net t) s.node s.port (Delivery (Arrival i) x) in
           let b = dropped end o in
-          let l = length-append (ended_as (way_end time x) (outcome_by (fate_at t ((net_of t).owner i) x.1))) (dropped_as end o) in
+          let l = length-append (ended_as arrived (outcome_by (fate_at t ((net_of t).owner i) x.1))) (dropped_as end o) in
           omega (arith, a, b, l)
-      one s time (Delivery (Source j) x) = let m = made (way_end time x) (offering_in (tagged_net t) s.node s.port (Delivery (Source j) x)) in omega (arith, m)
+      one s time (Delivery (Source j) x) = let m = made (end_at (unsent_at t ((net_of t).source_node j) x.1) ((net_of t).source_node j) time x Discarded) (drop_at time x) (offering_in (tagged_net t) s.node s.port (Delivery (Source j) x)) in omega (arith, m)
       one s time (Completion i) = omega arith
 
       two : (s : State (Tag × List ℕ) NodeStateValue) (o : Option (Key × Event (Tag × List ℕ))) → length (ends_next t s o) ≤ 2

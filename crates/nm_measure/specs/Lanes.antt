@@ -10,6 +10,9 @@ use Rattle.nm_sim.specs.Network.{net_of}
 use Rattle.nm_topology.specs.TopologyValue.{TopologyValue}
 use Rattle.nm_measure.specs.declared.flow_counts.FlowCounts.{FlowCounts}
 use Rattle.nm_measure.specs.declared.flow_times.FlowTimes.{FlowTimes}
+use Rattle.nm_measure.specs.declared.courses.EndPlace.TheVariants.{Node}
+use Rattle.nm_measure.specs.declared.courses.Reason.{Reason}
+use Rattle.nm_measure.specs.declared.courses.Reason.TheVariants.{NoRoom}
 use Rattle.nm_measure.specs.declared.flow_counts.PacketOutcome.{PacketOutcome}
 use Rattle.nm_measure.specs.declared.flow_counts.PacketOutcome.TheVariants as ended
 use Rattle.nm_measure.specs.declared.flows.Arrival.{Arrival}
@@ -79,13 +82,15 @@ CanBe count all (Waits i) = i < count
 CanBe count all (Dropped i) = i < count
 
 -- these are ends of this packet
-abbrev pub IsDropOf : Tag → (PacketOutcome → WayEnd) → Type 0
-IsDropOf tag end = ((end ended.Dropped).tag ≡ tag) × ((end ended.Dropped).outcome ≡ ended.Dropped)
+abbrev pub IsDropOf : Tag → (ℕ → WayEnd) → Type 0
+IsDropOf tag end = (i : ℕ) → ((end i).tag ≡ tag) × ((end i).outcome ≡ ended.Dropped)
+    × ((end i).reason ≡ NoRoom)
 
 -- of one that came to a node
-abbrev pub IsEndOf : Tag → Arrival → (PacketOutcome → WayEnd) → Type 0
-IsEndOf tag arrival end = (o : PacketOutcome) → ((end o).tag ≡ tag) × ((end o).outcome ≡ o)
+abbrev pub IsEndOf : Tag → Reason → Arrival → (PacketOutcome → WayEnd) → Type 0
+IsEndOf tag reason arrival end = (o : PacketOutcome) → ((end o).tag ≡ tag) × ((end o).outcome ≡ o)
     × ((end o).time ≡ arrival.now) × ((end o).octets ≡ arrival.octets)
+    × ((end o).reason ≡ reason) × ((end o).place ≡ Node arrival.node)
 
 -- a packet whose way does not end stays in hand
 abbrev pub left_in_hand : Option PacketOutcome → Tag → List Tag

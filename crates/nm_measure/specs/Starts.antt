@@ -53,3 +53,4 @@ pub record IsRecent (x y : FlowTimes) : Type 0 where
   pub begun : y.begun ≡ x.begun
   pub seen : y.delays.seen ≡ x.delays.spread.count
   pub delays : (ds : List ℕ) → AreDelays ds x.delays → AreDelays ds y.delays
+  pub trips : y.round_trips ≡ x.round_trips

@@ -2,7 +2,7 @@
 -- whose it is: packets with tags behave as packets without (`tags_change_nothing` of nm_model). A
 -- node that sends a packet on sends it with its tag. The echo reply to a source's packet is the
 -- reply to that one; other packets that nodes make are nobody's.
-use Rattle.std.specs.Prelude.{ℕ, zero, suc, List, [], ◌∷◌, ◌++◌, length, Option, None, Some}
+use Rattle.std.specs.Prelude.{ℕ, zero, suc, if◌then◌else◌, List, [], ◌∷◌, ◌++◌, length, Option, None, Some}
 use Rattle.nm_base.specs.declared.event.Event.{Event}
 use Rattle.nm_base.specs.declared.event.Event.TheVariants.{Delivery, Completion}
 use Rattle.nm_base.specs.declared.event.Origin.{Origin}
@@ -11,7 +11,8 @@ use Rattle.nm_base.specs.declared.key.Key.{Key}
 use Rattle.nm_forward.specs.declared.counter.Counter.{Counter}
 use Rattle.nm_forward.specs.declared.counter.Counter.TheVariants as count
 use Rattle.nm_forward.specs.Row.{arrival_row, row_counter}
-use Rattle.nm_forward.specs.State.{NodeStateValue, table_of}
+use Rattle.nm_forward.specs.State.{NodeStateValue, is_own, table_of}
+use Rattle.nm_packet.specs.Ipv4.{fields_of}
 use Rattle.nm_model.specs.EventList.{least}
 use Rattle.nm_model.specs.Network.{Net}
 use Rattle.nm_model.specs.Offers.{offering_in}
@@ -23,24 +24,29 @@ use Rattle.nm_sim.specs.Network.{net_of}
 use Rattle.nm_topology.specs.TopologyValue.{TopologyValue}
 use Rattle.nm_measure.specs.declared.fates.Fate.{Fate}
 use Rattle.nm_measure.specs.declared.fates.Fate.TheVariants as fate
+use Rattle.nm_measure.specs.declared.courses.EndPlace.{EndPlace}
+use Rattle.nm_measure.specs.declared.courses.EndPlace.TheVariants.{Iface, Node}
+use Rattle.nm_measure.specs.declared.courses.Reason.{Reason}
+use Rattle.nm_measure.specs.declared.courses.Reason.TheVariants.{Counted, NoRoom}
 use Rattle.nm_measure.specs.declared.flow_counts.PacketOutcome.{PacketOutcome}
 use Rattle.nm_measure.specs.declared.flow_counts.PacketOutcome.TheVariants as ended
 use Rattle.nm_measure.specs.declared.tag.Role.{Role}
 use Rattle.nm_measure.specs.declared.tag.Role.TheVariants as role
 use Rattle.nm_measure.specs.declared.tag.Tag.{Tag}
 
--- packet n of source j, which makes it at this time
-abbrev pub own_tag : (j n at : ℕ) → Tag
-own_tag j n at = record { role = role.Sent; source = j; number = n; at = at }
+-- packet n of source j, which stands at node v and makes it at this time
+abbrev pub own_tag : (j v n at : ℕ) → Tag
+own_tag j v n at = record { role = role.Sent; source = j; home = v; number = n; at = at }
 
 abbrev pub nobodys : Tag
-nobodys = record { role = role.Nothing; source = 0; number = 0; at = 0 }
+nobodys = record { role = role.Nothing; source = 0; home = 0; number = 0; at = 0 }
 
 -- the reply to a packet
 abbrev pub reply_as : Role → Tag → Tag
 reply_as role.Sent tag = record {
   role = role.Reply;
   source = tag.source;
+  home = tag.home;
   number = tag.number;
   at = tag.at;
 }
@@ -95,17 +101,34 @@ abbrev pub time_of : Option (ℕ × List ℕ) → ℕ
 time_of None = 0
 time_of (Some made) = made.0
 
--- the end of a packet's way: whose, how and when, with the packet's octets as it came to that node
+-- the end of a packet's way: whose, how, why, where and when, with the packet's octets as it came to
+-- that node
 pub record WayEnd : Type 0 where
   pub tag : Tag
   pub outcome : PacketOutcome
+  pub reason : Reason
+  pub place : EndPlace
   pub time : ℕ
   pub octets : ℕ
 
-abbrev pub way_end : (time : ℕ) → Tag × List ℕ → PacketOutcome → WayEnd
-way_end time x outcome = record {
+-- at node v, where this counter rose
+abbrev pub end_at : Counter → (v time : ℕ) → Tag × List ℕ → PacketOutcome → WayEnd
+end_at counter v time x outcome = record {
   tag = x.0;
   outcome = outcome;
+  reason = Counted counter;
+  place = Node v;
+  time = time;
+  octets = length x.1;
+}
+
+-- at the queue of interface i, which had no room
+abbrev pub drop_at : (time : ℕ) → Tag × List ℕ → (i : ℕ) → WayEnd
+drop_at time x i = record {
+  tag = x.0;
+  outcome = ended.Dropped;
+  reason = NoRoom;
+  place = Iface i;
   time = time;
   octets = length x.1;
 }
@@ -116,23 +139,31 @@ ended_as end None = []
 ended_as end (Some outcome) = end outcome ∷ []
 
 -- of what a node sends: it ends if it is dropped
-abbrev pub dropped_as : (PacketOutcome → WayEnd) → Offering → List WayEnd
+abbrev pub dropped_as : (ℕ → WayEnd) → Offering → List WayEnd
 dropped_as end became.Nothing = []
 dropped_as end (became.Started i) = []
 dropped_as end (became.Waits i) = []
-dropped_as end (became.Dropped i) = end ended.Dropped ∷ []
+dropped_as end (became.Dropped i) = end i ∷ []
 
 -- of what a source makes: what its node does not send is discarded
-abbrev pub made_as : (PacketOutcome → WayEnd) → Offering → List WayEnd
-made_as end became.Nothing = end ended.Discarded ∷ []
-made_as end (became.Started i) = []
-made_as end (became.Waits i) = []
-made_as end (became.Dropped i) = end ended.Dropped ∷ []
+abbrev pub made_as : (discarded : WayEnd) → (dropped : ℕ → WayEnd) → Offering → List WayEnd
+made_as discarded dropped became.Nothing = discarded ∷ []
+made_as discarded dropped (became.Started i) = []
+made_as discarded dropped (became.Waits i) = []
+made_as discarded dropped (became.Dropped i) = dropped i ∷ []
 
 module _ (t : TopologyValue) where
-  -- what node v does with octets that arrive
+  -- the counter that rises at node v where octets arrive, and what the node does with them
+  abbrev pub counter_at : (v : ℕ) → List ℕ → Counter
+  counter_at v x = row_counter (arrival_row (table_of t v) x)
+
   abbrev pub fate_at : (v : ℕ) → List ℕ → Fate
-  fate_at v x = fate_by (row_counter (arrival_row (table_of t v) x))
+  fate_at v x = fate_by (counter_at v x)
+
+  -- the counter that rises at node v where it does not send what a source makes
+  abbrev pub unsent_at : (v : ℕ) → List ℕ → Counter
+  unsent_at v x =
+      if is_own (table_of t v) (fields_of x).destination then count.ToSelf else count.NoRoute
 
   -- the tag of what node v sends in reaction to a packet
   abbrev pub sent_tag : (v : ℕ) → Origin → Tag × List ℕ → Tag
@@ -141,7 +172,7 @@ module _ (t : TopologyValue) where
 
   abbrev pub tagging : Tagging (List ℕ) NodeStateValue Tag
   tagging = record {
-    made = λ j n. own_tag j n (time_of ((net_of t).source j n));
+    made = λ j n. own_tag j ((net_of t).source_node j) n (time_of ((net_of t).source j n));
     sent = λ v n o x. sent_tag v o x;
   }
 
@@ -156,12 +187,17 @@ module _ (t : TopologyValue) where
   abbrev pub ends_at : State (Tag × List ℕ) NodeStateValue → (time : ℕ) → Event (Tag × List ℕ)
       → List WayEnd
   ends_at s time (Delivery (Arrival i) x) =
-      ended_as (way_end time x) (outcome_by (fate_at ((net_of t).owner i) x.1))
+      ended_as (end_at (counter_at ((net_of t).owner i) x.1) ((net_of t).owner i) time x)
+      (outcome_by (fate_at ((net_of t).owner i) x.1))
       ++ dropped_as
-      (way_end time (sent_tag ((net_of t).owner i) (Arrival i) x, x.1))
+      (drop_at time (sent_tag ((net_of t).owner i) (Arrival i) x, x.1))
       (offering_in tagged_net s.node s.port (Delivery (Arrival i) x))
   ends_at s time (Delivery (Source j) x) =
-      made_as (way_end time x) (offering_in tagged_net s.node s.port (Delivery (Source j) x))
+      made_as
+      (end_at (unsent_at ((net_of t).source_node j) x.1) ((net_of t).source_node j) time x
+      ended.Discarded)
+      (drop_at time x)
+      (offering_in tagged_net s.node s.port (Delivery (Source j) x))
   ends_at s time (Completion i) = []
 
   abbrev pub ends_next : State (Tag × List ℕ) NodeStateValue

@@ -53,6 +53,7 @@ impl FlowCounts {
         ensures sent { self.new.sent ≡ saturated (self.old.sent + 1) }
         ensures way { self.old.sent + 1 < 2 ^ 64 → self.new.under_way ≡ self.old.under_way + 1 }
         ensures ended { ended_of self.new ≡ ended_of self.old }
+        ensures astray { self.new.astray ≡ self.old.astray }
     {
         if self.sent < u64::MAX {
             self.sent += 1;

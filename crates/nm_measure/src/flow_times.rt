@@ -130,8 +130,7 @@ impl FlowTimes {
 
     /// The greatest delay of those that arrive from now on is looked for.
     pub(crate) fn begin_recent(&mut self)
-        ensures recent { IsRecent self.old self.new }
-        ensures trips { self.new.round_trips ≡ self.old.round_trips }
+        ensures { IsRecent self.old self.new }
     {
         self.delays.begin_recent();
     }

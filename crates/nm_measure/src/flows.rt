@@ -3,7 +3,11 @@
 ghost use Rattle.std.specs.Prelude.{◌≡◌, ℕ, ◌+◌, ◌<◌, ◌++◌, ◌∷◌, [], List, length, map, option_map};
 ghost use Rattle.std.specs.Prelude.{true, false, None, Some, ◌^◌, IfOk, IfSome, OnOk, slice_get};
 ghost use Rattle.nm_measure.specs.declared.flow_counts.PacketOutcome.TheVariants.{Delivered};
-ghost use Rattle.nm_measure.specs.Counted.{AreArrivals, AreFlows, AreOutcomes, counts_for, is_sent};
+ghost use Rattle.nm_measure.specs.Counted.{AreArrivals, AreFlows, AreOutcomes, counts_for};
+ghost use Rattle.nm_measure.specs.Counted.{is_answer, is_reply, is_sent};
+ghost use Rattle.nm_forward.specs.declared.counter.Counter.TheVariants.{Icmp};
+ghost use Rattle.nm_measure.specs.declared.courses.EndPlace.TheVariants.{Node};
+ghost use Rattle.nm_measure.specs.declared.courses.Reason.TheVariants.{Counted};
 ghost use Rattle.nm_measure.specs.Lanes.{one_of};
 ghost use Rattle.nm_measure.specs.Ways.{WayEnd, own_tag};
 ghost use Rattle.nm_measure.specs.Flows.{sent_numbers};
@@ -22,8 +26,6 @@ use std::alloc::{AllocError, Global};
 /// What became of the packets of all sources.
 #[derive(Drop)]
 pub(crate) struct Flows {
-    /// The node of each source.
-    homes: Vec<NodeNo>,
     counts: Vec<FlowCounts>,
     times: Vec<FlowTimes>,
 }
@@ -34,15 +36,6 @@ pub(crate) struct Arrival {
     pub node: NodeNo,
     pub octets: u64,
     pub now: Time,
-}
-
-/// The node of each source.
-fn homes_of(alloc: Global, topology: &Topology) -> Result<Vec<NodeNo>, AllocError> {
-    let mut homes = Vec::new(alloc);
-    for source in topology.sources() {
-        homes.push(source.node)?;
-    }
-    Ok(homes)
 }
 
 /// Nothing has arrived of so many sources.
@@ -69,7 +62,6 @@ impl Flows {
     {
         let sources = topology.sources().len();
         Ok(Flows {
-            homes: homes_of(alloc, topology)?,
             counts: vec![in alloc; FlowCounts::NONE; sources]?,
             times: no_times(alloc, sources)?,
         })
@@ -90,14 +82,14 @@ impl Flows {
     }
 
     /// A source makes a packet. Answers its tag.
-    pub(crate) fn send(&mut self, source: SourceNo, now: Time) -> Tag
+    pub(crate) fn send(&mut self, source: SourceNo, home: NodeNo, now: Time) -> Tag
         ensures starts { map start_of self.new.times.items
             ≡ with_begin source now (map start_of self.old.times.items) }
         ensures sent { sent_numbers self.new.counts.items
             ≡ with_sent source (sent_numbers self.old.counts.items) }
         ensures tag { (number : ℕ)
             → slice_get (sent_numbers self.old.counts.items) source ≡ Some number
-            → result ≡ own_tag source number now }
+            → result ≡ own_tag source home number now }
         ensures flows { (ends : List WayEnd) (under_way : ℕ → ℕ) (number : ℕ)
             → slice_get (sent_numbers self.old.counts.items) source ≡ Some number
             → number + 1 < 2 ^ 64
@@ -107,7 +99,7 @@ impl Flows {
     {
         let number = self.count(source);
         self.note_begin(source, now);
-        Tag::of_source(source, number, now)
+        Tag::of_source(source, home, number, now)
     }
 
     /// A source makes a packet. Answers how many it had made.
@@ -122,7 +114,7 @@ impl Flows {
             → slice_get (sent_numbers self.old.counts.items) source ≡ Some number
             → number + 1 < 2 ^ 64
             → AreFlows ends under_way self.old.counts.items self.old.times.items
-            → AreFlows ends (λ j. one_of j (own_tag source 0 0) + under_way j)
+            → AreFlows ends (λ j. one_of j (own_tag source 0 0 0) + under_way j)
             self.new.counts.items self.new.times.items }
     {
         let Some(counts) = self.counts.get_mut(source.index()) else {
@@ -178,6 +170,8 @@ impl Flows {
             → AreOutcomes ends (λ j. one_of j tag.now + under_way j) self.old.counts.items
             → (j : ℕ) → j < length self.old.counts.items → counts_for j tag.now ≡ false }
         ensures sent { sent_numbers self.new.counts.items ≡ sent_numbers self.old.counts.items }
+        ensures astray { map (λ f. f.astray) self.new.counts.items
+            ≡ map (λ f. f.astray) self.old.counts.items }
     {
         let Role::Sent = tag.role else {
             return false;
@@ -194,7 +188,7 @@ impl Flows {
             (map start_of self.new.times.items ≡ map start_of self.old.times.items) }
         ensures flows { OnOk result ((ends : List WayEnd) (under_way : ℕ → ℕ) (end : WayEnd)
             → end.tag ≡ tag.now → end.outcome ≡ Delivered → end.time ≡ arrival.now
-            → end.octets ≡ arrival.octets
+            → end.octets ≡ arrival.octets → is_answer end ≡ false
             → AreFlows ends (λ j. one_of j tag.now + under_way j)
             self.old.counts.items self.old.times.items
             → AreFlows (ends ++ end ∷ []) under_way self.new.counts.items self.new.times.items) }
@@ -216,33 +210,39 @@ impl Flows {
             (map start_of self.new.times.items ≡ map start_of self.old.times.items) }
         ensures flows { OnOk result ((ends : List WayEnd) (under_way : ℕ → ℕ) (end : WayEnd)
             → end.tag ≡ tag.now → end.outcome ≡ Delivered → end.time ≡ arrival.now
-            → end.octets ≡ arrival.octets
+            → end.octets ≡ arrival.octets → end.reason ≡ Counted Icmp
+            → end.place ≡ Node arrival.node
             → AreFlows ends (λ j. one_of j tag.now + under_way j)
             self.old.counts.items self.old.times.items
             → AreFlows (ends ++ end ∷ []) under_way self.new.counts.items self.new.times.items) }
         ensures sent { sent_numbers self.new.counts.items ≡ sent_numbers self.old.counts.items }
     {
         match tag.role {
-            Role::Reply => self.answer(tag.source, tag.at, arrival),
+            Role::Reply => self.answer(tag, arrival),
             Role::Sent | Role::Nothing => self.deliver(tag, arrival),
         }
     }
 
-    /// The reply to a packet that a source made at `at` arrives at a node.
-    fn answer(&mut self, source: SourceNo, at: Time, arrival: Arrival) -> Result<(), AllocError>
+    /// The reply to a packet that a source made arrives at a node.
+    fn answer(&mut self, tag: &Tag, arrival: Arrival) -> Result<(), AllocError>
+        requires { is_reply tag.now.role ≡ true }
         ensures starts { map start_of self.new.times.items ≡ map start_of self.old.times.items }
-        ensures flows { OnOk result ((ends : List WayEnd) (under_way : ℕ → ℕ)
+        ensures flows { OnOk result ((ends : List WayEnd) (under_way : ℕ → ℕ) (end : WayEnd)
+            → end.tag ≡ tag.now → end.time ≡ arrival.now → end.reason ≡ Counted Icmp
+            → end.place ≡ Node arrival.node
             → AreFlows ends under_way self.old.counts.items self.old.times.items
-            → AreFlows ends under_way self.new.counts.items self.new.times.items) }
+            → AreFlows (ends ++ end ∷ []) under_way
+            self.new.counts.items self.new.times.items) }
         ensures sent { sent_numbers self.new.counts.items ≡ sent_numbers self.old.counts.items }
     {
-        if self.homes.get(source.index()).copied() == Some(arrival.node) {
-            return match self.times.get_mut(source.index()) {
-                Some(times) => times.answer(at, arrival.now),
+        let source = tag.source.index();
+        if tag.home == arrival.node {
+            return match self.times.get_mut(source) {
+                Some(times) => times.answer(tag.at, arrival.now),
                 None => Ok(()),
             };
         }
-        if let Some(counts) = self.counts.get_mut(source.index()) {
+        if let Some(counts) = self.counts.get_mut(source) {
             counts.go_astray();
         }
         Ok(())

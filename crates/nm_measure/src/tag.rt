@@ -3,7 +3,7 @@
 ghost use Rattle.std.specs.Prelude.{◌≡◌};
 ghost use Rattle.nm_measure.specs.Ways.{nobodys, own_tag, reply_tag};
 
-use nm_base::{SourceNo, Time};
+use nm_base::{NodeNo, SourceNo, Time};
 
 /// How a packet counts for a source.
 #[derive(Clone, Copy, Drop)]
@@ -23,6 +23,8 @@ pub(crate) struct Tag {
     pub role: Role,
     /// Source 0 if it counts for none.
     pub source: SourceNo,
+    /// The source's node.
+    pub home: NodeNo,
     /// The number of the packet, or of the one that it replies to, among those of the source, from
     /// 0 on.
     pub number: u64,
@@ -32,12 +34,13 @@ pub(crate) struct Tag {
 
 impl Tag {
     /// The tag of the packet with this number, which a source makes at this time.
-    pub(crate) fn of_source(source: SourceNo, number: u64, at: Time) -> Tag
-        ensures { result ≡ own_tag source number at }
+    pub(crate) fn of_source(source: SourceNo, home: NodeNo, number: u64, at: Time) -> Tag
+        ensures { result ≡ own_tag source home number at }
     {
         Tag {
             role: Role::Sent,
             source,
+            home,
             number,
             at,
         }
@@ -50,6 +53,7 @@ impl Tag {
         Tag {
             role: Role::Nothing,
             source: SourceNo::new(0),
+            home: NodeNo::new(0),
             number: 0,
             at: Time::from_nanoseconds(0),
         }
@@ -63,6 +67,7 @@ impl Tag {
             Role::Sent => Tag {
                 role: Role::Reply,
                 source: self.source,
+                home: self.home,
                 number: self.number,
                 at: self.at,
             },

@@ -14,6 +14,9 @@ ghost use Rattle.nm_measure.specs.declared.flow_counts.PacketOutcome.TheVariants
 ghost use Rattle.nm_measure.specs.declared.flow_counts.PacketOutcome.TheVariants.{Dropped};
 ghost use Rattle.nm_measure.specs.declared.lane.Lane.{Lane};
 ghost use Rattle.nm_measure.specs.declared.tag.Tag.{Tag};
+ghost use Rattle.std.specs.Prelude.{false};
+ghost use Rattle.nm_measure.specs.Counted.{FitsReason, is_answer};
+ghost use Rattle.nm_measure.specs.declared.courses.Reason.TheVariants.{Counted, NoRoom};
 ghost use Rattle.nm_measure.specs.Starts.{AreStarts, start_of};
 ghost use Rattle.nm_measure.specs.Lanes.{CanBe, IsDropOf, IsEndOf, Watches, WatchesRun};
 ghost use Rattle.nm_measure.specs.Lanes.{left_in_hand, one_of};
@@ -79,8 +82,10 @@ fn hop(iface: IfaceNo, dir: Dir, time: Time) -> Hop {
 
 /// What is said of a packet that arrived, and why.
 fn said_of(arrived: &Arrived) -> (Fate, Reason)
-    ensures { (counter : Counter)
-        → arrived.now.counter ≡ Some counter → result.0 ≡ fate_by counter }
+    ensures fits { FitsReason result.0 result.1 }
+    ensures said { (counter : Counter)
+        → arrived.now.counter ≡ Some counter
+        → (result.0 ≡ fate_by counter) × (result.1 ≡ Counted counter) }
 {
     match arrived.counter {
         Some(counter) => (fate_of(counter), Reason::Counted(counter)),
@@ -340,8 +345,10 @@ impl Watched {
         reason: Reason,
         arrival: Arrival,
     ) -> Result<(), AllocError>
+        requires fits { FitsReason fate reason }
         ensures watches { OnOk result ((count : ℕ) (all : ℕ → List Tag × List Tag)
-            (ends : List WayEnd) (end : PacketOutcome → WayEnd) → IsEndOf tag.now arrival end
+            (ends : List WayEnd) (end : PacketOutcome → WayEnd)
+            → IsEndOf tag.now reason arrival end
             → Watches count all (tag.now ∷ []) ends self.old
             → Watches count all (left_in_hand (outcome_by fate) tag.now)
             (ends ++ ended_as end (outcome_by fate)) self.new) }
@@ -395,7 +402,7 @@ impl Watched {
         let Some(from) = topology.sources().get(source.index()) else {
             return Ok(());
         };
-        let tag = self.flows.send(source, now);
+        let tag = self.flows.send(source, from.node, now);
         self.begin(&tag)?;
         let node = from.node;
         if let Offering::Nothing = happened.offering {
@@ -413,7 +420,7 @@ impl Watched {
     /// Sees what becomes of a packet that a node sends: it starts, waits, or is dropped.
     fn see_offer(&mut self, offer: Offer, offering: Offering) -> Result<(), AllocError>
         ensures watches { OnOk result ((count : ℕ) (all : ℕ → List Tag × List Tag)
-            (ends : List WayEnd) (end : PacketOutcome → WayEnd) → IsDropOf offer.tag end
+            (ends : List WayEnd) (end : ℕ → WayEnd) → IsDropOf offer.tag end
             → CanBe count all offering → ((j : ℕ) → offering ≡ Nothing → one_of j offer.tag ≡ 0)
             → Watches count all (offer.tag ∷ []) ends self.old
             → Watches count (with_offer offering offer.tag all) [] (ends ++ dropped_as end offering)
@@ -453,6 +460,7 @@ impl Watched {
     fn see_drop(&mut self, tag: &Tag, iface: IfaceNo, now: Time) -> Result<(), AllocError>
         ensures watches { OnOk result ((count : ℕ) (all : ℕ → List Tag × List Tag)
             (ends : List WayEnd) (end : WayEnd) → end.tag ≡ tag.now → end.outcome ≡ Dropped
+            → end.reason ≡ NoRoom
             → Watches count all (tag.now ∷ []) ends self.old
             → Watches count all [] (ends ++ end ∷ []) self.new) }
         ensures sent { sent_numbers self.new.flows.counts.items
@@ -474,6 +482,7 @@ impl Watched {
         requires lost { end.outcome ≢ Delivered }
         ensures watches { OnOk result ((count : ℕ) (all : ℕ → List Tag × List Tag)
             (ends : List WayEnd) (way : WayEnd) → way.tag ≡ tag.now → way.outcome ≡ end.outcome
+            → is_answer way ≡ false
             → Watches count all (tag.now ∷ []) ends self.old
             → Watches count all [] (ends ++ way ∷ []) self.new) }
         ensures sent { sent_numbers self.new.flows.counts.items

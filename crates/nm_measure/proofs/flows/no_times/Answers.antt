@@ -12,7 +12,7 @@ loop-number-preserved c = record {
   count = search rules;
   none = λ j x at. ⊎_elim
       (λ before. c.loop-number.invariant.none j x before)
-      (λ last. subst (HasArrivals j []) (sym last.1) (arrivals_first j c.new.result c.new.ensures.delays c.new.ensures.octets c.new.ensures.ended))
+      (λ last. subst (HasArrivals j []) (sym last.1) (arrivals_first j c.new.result c.new.ensures.delays c.new.ensures.trips c.new.ensures.octets c.new.ensures.ended))
       (pushed_is c.loop-number.times.items c.new.result j x (sym (ap (λ l. slice_get l j) c.in_ok-push.ensures.items) ∙ at));
   starts = λ j x at. ⊎_elim
       (λ before. c.loop-number.invariant.starts j x before)

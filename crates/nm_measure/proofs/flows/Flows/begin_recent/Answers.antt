@@ -29,7 +29,7 @@ loop-number-preserved c =
       within = omega (arith, low);
       counts = m.counts;
       count = length-set mid n y ∙ m.count;
-      each = turned_more IsRecent old mid n x y here (read_at mid n n x refl here c.index_mut.ensures.value) c.begin_recent.ensures.recent m.each;
+      each = turned_more IsRecent old mid n x y here (read_at mid n n x refl here c.index_mut.ensures.value) c.begin_recent.ensures m.each;
     }
 
 pub returns-clause-flows : goal.returns-clause-flows

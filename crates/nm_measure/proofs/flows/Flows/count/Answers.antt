@@ -29,5 +29,5 @@ returns-clause-flows c =
     let at = read_at counts c.args.source c.index.result c.in-Some.counts.now c.index.ensures there c.in-Some.ensures.value in
     λ ends under number is few was.
     let same = sent_is counts c.args.source c.in-Some.counts.now number at is in
-    subst (λ k. AreFlows ends (λ j. one_of j (own_tag c.args.source 0 0) + under j) (slice_set counts k c.send.new.self) c.args.self.now.times.items) (sym c.index.ensures)
-    (flows_sent c.args.source ends under counts c.args.self.now.times.items c.in-Some.counts.now c.send.new.self was at (c.send.ensures.way (omega (arith, same, few))) c.send.ensures.ended)
+    subst (λ k. AreFlows ends (λ j. one_of j (own_tag c.args.source 0 0 0) + under j) (slice_set counts k c.send.new.self) c.args.self.now.times.items) (sym c.index.ensures)
+    (flows_sent c.args.source ends under counts c.args.self.now.times.items c.in-Some.counts.now c.send.new.self was at (c.send.ensures.way (omega (arith, same, few))) c.send.ensures.ended c.send.ensures.astray)

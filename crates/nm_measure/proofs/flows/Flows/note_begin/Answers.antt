@@ -12,7 +12,7 @@ returns-in-Some-clause-flows c =
     let y = c.begin.new.self in
     let there : c.index.result < length times = search rules in
     λ ends under was. flows_times_as ends under c.args.self.now.counts.items times c.index.result x y was
-    (read_at times c.index.result c.index.result x refl there c.in-Some.ensures.value) c.begin.ensures.delays c.begin.ensures.octets c.begin.ensures.ended
+    (read_at times c.index.result c.index.result x refl there c.in-Some.ensures.value) c.begin.ensures.delays c.begin.ensures.trips c.begin.ensures.octets c.begin.ensures.ended
 
 pub returns-in-Some-clause-starts : goal.returns-in-Some-clause-starts
 returns-in-Some-clause-starts c =

@@ -17,8 +17,8 @@ returns-clause-totals c = λ t until m there.
     (some_or (HasEnds c.args.source (ends_in t m.events)) c.flow.result _ (c.flow.ensures.ended t until m there)) in
     let x = c.delivered-sums.ensures t until m there in
     record {
-      delivered = f.delivered;
-      lost = λ i. f.refused i + f.dropped i + f.discarded i;
+      delivered = f.outcomes.delivered;
+      lost = λ i. f.outcomes.refused i + f.outcomes.dropped i + f.outcomes.discarded i;
       octets = x.octets;
       delayed = x.delayed;
       differences = x.differences;

@@ -4,10 +4,12 @@ use Rattle.nm_model.specs.Lists.{set_at}
 use Rattle.nm_sim.specs.Network.{net_of}
 use Rattle.nm_sim.specs.declared.told.Arrived.{Arrived}
 use Rattle.nm_measure.specs.Lanes.{AreWatched, Watches, lanes_in, one_of, with_offer}
-use Rattle.nm_measure.specs.Ways.{answer_tag, dropped_as, way_end, ended_as, ends_in, fate_at, outcome_by, tagged_list}
+use Rattle.nm_measure.specs.Ways.{answer_tag, counter_at, drop_at, dropped_as, end_at, ended_as, ends_in, fate_at, outcome_by, tagged_list}
 use Rattle.nm_measure.proofs.Flowing.{on_ok}
 use Rattle.nm_measure.proofs.Following.{arrival_step, far_end_is, far_end_low}
 use Rattle.nm_measure.proofs.Laning.{answer_to_hand, watched_as}
+use Rattle.nm_measure.proofs.Nodes.{owner_is}
+use Rattle.nm_measure.specs.declared.courses.EndPlace.TheVariants.{Node}
 use Rattle.nm_measure.proofs.watched.Watched.see_arrival.Goals as goal
 
 pub returns-in_default-clause-watches : goal.returns-in_default-clause-watches
@@ -29,6 +31,7 @@ returns-clause-watches c =
     let all = lanes_in t (tagged_list t n) in
     let ends = ends_in t n in
     let from : c.far.result.iface ≡ (net_of t).far_end c.args.number = ap (λ f. f.iface) c.far.ensures ∙ far_end_is t c.args.number c.iface-iface.result.now c.iface-iface.ensures in
+    let home : c.node-node.result ≡ v = c.node-node.ensures ∙ sym (owner_is t c.args.number c.iface-iface.result.now c.iface-iface.ensures) in
     let low : c.far.result.iface < count = subst (λ k. k < count) (sym from) (far_end_low t laws.network c.args.number c.requires.there) in
     let left = c.leave_link-tag.ensures.watches count all x.0 step.on ends was low (ap (λ k. (all k).0) from ∙ step.first) in
     let tag = c.leave_link-tag.result in
@@ -40,10 +43,11 @@ returns-clause-watches c =
     subst (λ v. AreWatched count popped (tag ∷ []) ends v.items w2.flows.counts.items w2.flows.times.items) (sym c.pass.ensures.lanes)
     (subst (λ f. AreWatched count popped (tag ∷ []) ends w1.lanes.items f.counts.items f.times.items) (sym c.pass.ensures.flows) one) in
     let told : step.told.0 ≡ c.in-Some.arrived = some_inj step.told.0 c.in-Some.arrived (sym step.told.1 ∙ c.in-Some.is) in
-    let fate : c.said_of-fate.result.0 ≡ fate_at t v x.1 = c.said_of-fate.ensures _ (ap (λ (a : Arrived). a.counter) (sym told) ∙ step.told.2) in
+    let said = c.said_of-fate.ensures.said _ (ap (λ (a : Arrived). a.counter) (sym told) ∙ step.told.2) in
+    let fate : c.said_of-fate.result.0 ≡ fate_at t v x.1 = said.0 in
     let octets : length x.1 ≡ c.from.result = sym step.told.3 ∙ ap (λ (a : Arrived). a.octets) told ∙ sym c.from.ensures in
-    let how = way_end c.args.now x in
-    let three = c.in_ok-see_end.ensures.watches count popped ends how (λ o. (sym left.0, refl, refl, octets)) two in
+    let how = end_at (counter_at t v x.1) v c.args.now x in
+    let three = c.in_ok-see_end.ensures.watches count popped ends how (λ o. (sym left.0, refl, refl, octets, sym said.1, ap Node (sym home))) two in
     let w3 = c.see_end.new.self in
     let four = answer_to_hand count popped c.said_of-fate.result.0 tag (ends ++ ended_as how (outcome_by c.said_of-fate.result.0)) w3.lanes.items w3.flows.counts.items w3.flows.times.items three in
     let answer = answer_tag (fate_at t v x.1) x.0 in
@@ -52,9 +56,9 @@ returns-clause-watches c =
     subst (λ f. Watches count popped (c.answer_to.result ∷ []) (ends ++ ended_as how (outcome_by f)) w3) fate
     (subst (λ g. Watches count popped (g ∷ []) (ends ++ ended_as how (outcome_by c.said_of-fate.result.0)) w3) (sym c.answer_to.ensures) four) in
     let is = c.answer_to.ensures ∙ answers in
-    let dropped = way_end c.args.now (answer, x.1) in
+    let dropped = drop_at c.args.now (answer, x.1) in
     let new = c.see_offer.new.self in
-    let six = offers count popped (ends ++ ended_as how (outcome_by (fate_at t v x.1))) dropped (sym is, refl) step.can (λ j none. ap (one_of j) is ∙ step.nothing j none) five in
+    let six = offers count popped (ends ++ ended_as how (outcome_by (fate_at t v x.1))) dropped (λ i. (sym is, refl, refl)) step.can (λ j none. ap (one_of j) is ∙ step.nothing j none) five in
     subst (λ l. AreWatched count (lanes_in t (tagged_list t (suc n))) [] l new.lanes.items new.flows.counts.items new.flows.times.items) step.ends
     (watched_as count (with_offer h.offering answer popped) (lanes_in t (tagged_list t (suc n))) [] ((ends ++ ended_as how (outcome_by (fate_at t v x.1))) ++ dropped_as dropped h.offering) new.lanes.items new.flows.counts.items new.flows.times.items step.lanes
     (subst (λ g. AreWatched count (with_offer h.offering g popped) [] ((ends ++ ended_as how (outcome_by (fate_at t v x.1))) ++ dropped_as dropped h.offering) new.lanes.items new.flows.counts.items new.flows.times.items) is six))) c.see_offer.ensures.watches

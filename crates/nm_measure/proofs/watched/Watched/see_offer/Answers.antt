@@ -1,6 +1,5 @@
 use Rattle.std.proofs.Common.{rules, ◌<◌, [], length, slice_set, sym, subst, append-nil}
 use Rattle.nm_model.specs.declared.offering.Offering.TheVariants.{Started}
-use Rattle.nm_measure.specs.declared.flow_counts.PacketOutcome.TheVariants.{Dropped}
 use Rattle.nm_measure.specs.Lanes.{AreWatched, CanBe, with_offer, with_wait}
 use Rattle.nm_measure.proofs.Flowing.{ok_both, on_ok}
 use Rattle.nm_measure.proofs.Laning.{offered_as, nothing_in_hand, waits_behind}
@@ -35,7 +34,7 @@ returns-in-Dropped-clause-watches c =
     let new = c.see_drop.new.self in
     on_ok c.see_drop.result _ _ (λ loses count all ends end drops can none was.
     offered_as count all ends c.args.offering _ c.in-Dropped.is c.args.offer.tag end new.lanes.items new.flows.counts.items new.flows.times.items
-    (loses count all ends (end Dropped) drops.0 drops.1 was)) c.see_drop.ensures.watches
+    (let z = drops c.in-Dropped.iface in loses count all ends (end c.in-Dropped.iface) z.0 z.1 z.2 was)) c.see_drop.ensures.watches
 
 pub returns-in-Nothing-clause-watches : goal.returns-in-Nothing-clause-watches
 returns-in-Nothing-clause-watches c =

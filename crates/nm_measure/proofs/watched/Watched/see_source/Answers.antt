@@ -1,16 +1,20 @@
-use Rattle.std.proofs.Common.{◌++◌, ◌∷◌, suc, [], length, map, refl, sym, ap, ◌∙◌, subst}
+use Rattle.std.proofs.Common.{◌++◌, ◌∷◌, suc, [], length, map, ◌≡◌, refl, sym, ap, ◌∙◌, subst}
 use Rattle.nm_sim.specs.Network.{net_of}
 use Rattle.nm_measure.specs.declared.flow_counts.PacketOutcome.TheVariants.{Discarded}
 use Rattle.nm_measure.specs.Flows.{sent_numbers}
 use Rattle.nm_measure.specs.Lanes.{AreWatched, Watches, lanes_in, with_offer}
 use Rattle.nm_measure.specs.Sent.{sent_in}
-use Rattle.nm_measure.specs.Ways.{dropped_as, way_end, ends_in, made_as, own_tag, tagged_list}
+use Rattle.nm_measure.specs.Ways.{drop_at, dropped_as, end_at, ends_in, made_as, own_tag, tagged_list, unsent_at}
 use Rattle.nm_measure.proofs.Flowing.{on_ok}
 use Rattle.nm_measure.proofs.Firings.{made_dropped, sent_at, source_step, timed_at}
 use Rattle.nm_measure.proofs.Laning.{to_hand, watched_as}
 use Rattle.nm_base.specs.declared.key.Place.TheVariants.{Fire}
 use Rattle.nm_measure.specs.Starts.{AreStarts, start_of}
+use Rattle.nm_measure.proofs.Flowing.{quiet_because, unsent_told}
+use Rattle.nm_measure.proofs.Nodes.{source_read}
 use Rattle.nm_measure.proofs.Starting.{starts_fired}
+use Rattle.nm_forward.specs.State.{is_own, table_of}
+use Rattle.nm_packet.specs.Ipv4.{fields_of}
 use Rattle.nm_measure.proofs.watched.Watched.see_source.Goals as goal
 
 pub returns-in-Nothing-clause-watches : goal.returns-in-Nothing-clause-watches
@@ -36,12 +40,17 @@ returns-in-Nothing-clause-watches c =
     let two : Watches count all (tag ∷ []) ends begun =
     subst (λ v. AreWatched count all (tag ∷ []) ends v.items begun.flows.counts.items begun.flows.times.items) (sym c.begin.ensures.lanes)
     (subst (λ f. AreWatched count all (tag ∷ []) ends w.lanes.items f.counts.items f.times.items) (sym c.begin.ensures.flows) one) in
-    let way = way_end c.args.now (own_tag j k c.args.now, step.packet) in
-    let three = loses count all ends (way Discarded) (sym is) refl two in
+    let v = (net_of t).source_node j in
+    let home = source_read t j c.index.result c.sources.result.now c.in-Some.from.now c.sources.ensures c.index.ensures c.requires.there ∙ ap (λ s. s.node) (sym c.in-Some.ensures.lookup.1) in
+    let own = own_tag j v k c.args.now in
+    let owned : tag ≡ own = is ∙ ap (λ v. own_tag j v k c.args.now) (sym home) in
+    let discarded = end_at (unsent_at t v step.packet) v c.args.now (own, step.packet) Discarded in
+    let dropped = drop_at c.args.now (own, step.packet) in
+    let three = loses count all ends discarded (sym owned) refl (quiet_because discarded (unsent_told (is_own (table_of t v) (fields_of step.packet).destination))) two in
     subst (λ l. AreWatched count (lanes_in t (tagged_list t (suc n))) [] l new.lanes.items new.flows.counts.items new.flows.times.items)
-    (ap (λ o. ends ++ made_as way o) (sym c.in-Nothing.is) ∙ step.ends)
-    (watched_as count all (lanes_in t (tagged_list t (suc n))) [] (ends ++ way Discarded ∷ []) new.lanes.items new.flows.counts.items new.flows.times.items
-    (λ i. ap (λ o. with_offer o (own_tag j k c.args.now) all i) (sym c.in-Nothing.is) ∙ step.lanes i) three)) c.see_loss.ensures.watches
+    (ap (λ o. ends ++ made_as discarded dropped o) (sym c.in-Nothing.is) ∙ step.ends)
+    (watched_as count all (lanes_in t (tagged_list t (suc n))) [] (ends ++ discarded ∷ []) new.lanes.items new.flows.counts.items new.flows.times.items
+    (λ i. ap (λ o. with_offer o (own) all i) (sym c.in-Nothing.is) ∙ step.lanes i) three)) c.see_loss.ensures.watches
 
 pub returns-clause-watches : goal.returns-clause-watches
 returns-clause-watches c =
@@ -66,13 +75,18 @@ returns-clause-watches c =
     let two : Watches count all (tag ∷ []) ends begun =
     subst (λ v. AreWatched count all (tag ∷ []) ends v.items begun.flows.counts.items begun.flows.times.items) (sym c.begin.ensures.lanes)
     (subst (λ f. AreWatched count all (tag ∷ []) ends w.lanes.items f.counts.items f.times.items) (sym c.begin.ensures.flows) one) in
-    let way = way_end c.args.now (own_tag j k c.args.now, step.packet) in
+    let v = (net_of t).source_node j in
+    let home = source_read t j c.index.result c.sources.result.now c.in-Some.from.now c.sources.ensures c.index.ensures c.requires.there ∙ ap (λ s. s.node) (sym c.in-Some.ensures.lookup.1) in
+    let own = own_tag j v k c.args.now in
+    let owned : tag ≡ own = is ∙ ap (λ v. own_tag j v k c.args.now) (sym home) in
+    let discarded = end_at (unsent_at t v step.packet) v c.args.now (own, step.packet) Discarded in
+    let dropped = drop_at c.args.now (own, step.packet) in
     let other = c.in_default-offering.not-Nothing in
-    let three = offers count all ends way (sym is, refl) step.can (λ i none. absurd (other none)) two in
+    let three = offers count all ends dropped (λ i. (sym owned, refl, refl)) step.can (λ i none. absurd (other none)) two in
     subst (λ l. AreWatched count (lanes_in t (tagged_list t (suc n))) [] l new.lanes.items new.flows.counts.items new.flows.times.items)
-    (ap (λ l. ends ++ l) (sym (made_dropped way h.offering other)) ∙ step.ends)
-    (watched_as count (with_offer h.offering (own_tag j k c.args.now) all) (lanes_in t (tagged_list t (suc n))) [] (ends ++ dropped_as way h.offering) new.lanes.items new.flows.counts.items new.flows.times.items step.lanes
-    (subst (λ g. AreWatched count (with_offer h.offering g all) [] (ends ++ dropped_as way h.offering) new.lanes.items new.flows.counts.items new.flows.times.items) is three))) c.see_offer.ensures.watches
+    (ap (λ l. ends ++ l) (sym (made_dropped discarded dropped h.offering other)) ∙ step.ends)
+    (watched_as count (with_offer h.offering (own) all) (lanes_in t (tagged_list t (suc n))) [] (ends ++ dropped_as dropped h.offering) new.lanes.items new.flows.counts.items new.flows.times.items step.lanes
+    (subst (λ g. AreWatched count (with_offer h.offering g all) [] (ends ++ dropped_as dropped h.offering) new.lanes.items new.flows.counts.items new.flows.times.items) owned three))) c.see_offer.ensures.watches
 
 pub returns-in-Nothing-clause-starts : goal.returns-in-Nothing-clause-starts
 returns-in-Nothing-clause-starts c = on_ok c.see_loss.result _ _ (λ same first n p next starts.
