@@ -22,7 +22,7 @@ use Rattle.nm_model.specs.declared.offering.Offering.TheVariants.{Dropped, Nothi
 use Rattle.nm_model.proofs.ListLemmas.{same_number, some_inj}
 use Rattle.nm_topology.specs.TopologyValue.{TopologyValue}
 use Rattle.nm_sim.specs.Network.{net_of}
-use Rattle.nm_measure.specs.Counted.{AreArrivals, delays_of, ended_so}
+use Rattle.nm_measure.specs.Counted.{AreArrivals, answers, delays_of, ended_so, trips_of}
 use Rattle.nm_measure.specs.Sent.{sent_in}
 use Rattle.nm_measure.specs.Starts.{AreStarts, IsRecent, Start, begun_by, begun_in, begun_of, first_time, nothing_begun, start_of, with_begin}
 use Rattle.nm_measure.specs.Ways.{WayEnd, counter_at, drop_at, dropped_as, end_at, ended_as, ends_at, ends_in, ends_next, fate_at, made_as, outcome_by, sent_tag, tagged_list, tagged_net, time_of, unsent_at}
@@ -98,6 +98,13 @@ module _ (t : TopologyValue) where
       two : (s : State (Tag × List ℕ) NodeStateValue) (o : Option (Key × Event (Tag × List ℕ))) → length (ends_next t s o) ≤ 2
       two s None = omega arith
       two s (Some e) = one s e.0.time e.1
+
+  pub trips_few : (j n : ℕ) → length (trips_of j (ends_in t n)) ≤ 2 * n
+  trips_few j n =
+      let l = length-map (keep_where (answers j) (ends_in t n)) (λ (e : WayEnd). e.time - e.tag.at) in
+      let k = kept_few (answers j) (ends_in t n) in
+      let e = ends_few n in
+      omega (arith, l, k, e)
 
   pub delays_few : (j n : ℕ) → length (delays_of j (ends_in t n)) ≤ 2 * n
   delays_few j n =

@@ -1,5 +1,6 @@
 -- Lines of values, one behind another.
 use Rattle.std.proofs.Common.{◌≡◌, ℕ, zero, suc, ◌+◌, ◌<◌, List, [], ◌∷◌, ◌++◌, length, take, Some, slice_get, refl, sym, ap, ◌∙◌, arith, append_assoc, append-nil, OnOk, Result, Ok, Err, Option, None, true, cond, ltb, ◌&&◌, unwrap_or, codes, slice_index, inl, inr, subst}
+use Rattle.std.specs.Prelude.{IsSomeAnd}
 use Rattle.std.proofs.lemmas.Bool.Decides.{nat_tests}
 use Rattle.nm_base.specs.Count.{saturated}
 use Rattle.nm_forward.specs.Counter.{counter_name, counter_number}
@@ -130,3 +131,8 @@ drops_here t s i there =
 -- what is there
 pub some_is : {X : Type 0} (o : Option X) (d x r : X) → r ≡ unwrap_or o d → o ≡ Some x → r ≡ x
 some_is o d x r h e = h ∙ ap (λ z. unwrap_or z d) e
+
+-- what is there is what one finds
+pub some_or : {X : Type 0} (P : X → Type 0) (o : Option X) (d : X) → IsSomeAnd o P → P (unwrap_or o d)
+some_or P None d h = absurd h
+some_or P (Some x) d h = h

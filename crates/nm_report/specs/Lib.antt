@@ -1,2 +1,3 @@
 pub mod Sources
 pub mod Values
+pub mod Csv

@@ -1,5 +1,14 @@
 -- The values of sources as comma-separated values.
-use Rattle.std.specs.Prelude.{◌≡◌, ℕ, Bool, if◌then◌else◌, List, [], ◌∷◌, ◌++◌, codes, decimal, length}
+use Rattle.std.specs.Prelude.{◌≡◌, ℕ, zero, suc, Bool, if◌then◌else◌, List, [], ◌∷◌, ◌++◌, codes, decimal, length, slice_get, take, Some}
+use Rattle.nm_base.specs.Count.{saturated}
+use Rattle.nm_sim.specs.Network.{net_of}
+use Rattle.nm_measure.specs.Counted.{HasArrivals, HasEnds, delays_of, trips_of}
+use Rattle.nm_measure.specs.Flows.{Balances}
+use Rattle.nm_measure.specs.Sent.{sent_in}
+use Rattle.nm_measure.specs.Starts.{begun_in}
+use Rattle.nm_measure.specs.Ways.{ends_in}
+use Rattle.nm_topology.specs.TopologyValue.{TopologyValue}
+use Rattle.nm_topology.specs.declared.traffic.Source.{Source}
 use Rattle.nm_measure.specs.Added.{ShowsPercentile}
 use Rattle.nm_measure.specs.Rates.{rate_between}
 use Rattle.nm_measure.specs.Sums.{greatest_of, jitter_of, least_of, mean_of}
@@ -70,3 +79,32 @@ pub record SaysMeasures (f : FlowCounts) (x : FlowTimes) (ds es : List ℕ) (sai
   pub values : List ℕ
   pub are : AreMeasures f x ds es values
   pub is : after ≡ before ++ said values
+
+-- what was measured of source j in the first n events of the one event list
+pub record IsMeasured (t : TopologyValue) (n j : ℕ) (f : FlowCounts) (x : FlowTimes) : Type 0 where
+  pub sent : f.sent ≡ saturated (sent_in (net_of t) j n)
+  pub balances : Balances f
+  pub ended : HasEnds j (ends_in t n) f
+  pub arrivals : HasArrivals j (ends_in t n) x
+  pub begun : x.begun ≡ begun_in t j n
+
+-- the values of source j
+pub record HasMeasures (t : TopologyValue) (n j : ℕ) (values : List ℕ) : Type 0 where
+  pub counts : FlowCounts
+  pub times : FlowTimes
+  pub is : IsMeasured t n j counts times
+  pub are : AreMeasures counts times (delays_of j (ends_in t n)) (trips_of j (ends_in t n)) values
+
+-- its lines
+pub record AreLinesOf (t : TopologyValue) (n j : ℕ) (s : Source) (lines : List ℕ) : Type 0 where
+  pub values : List ℕ
+  pub have : HasMeasures t n j values
+  pub is : lines ≡ source_lines (decimal j) (take (measure_count s.traffic) measure_names) values
+
+-- the lines of the first k sources, one behind another
+abbrev pub AreSourceLines : TopologyValue → (n k : ℕ) → List ℕ → Type 0
+AreSourceLines t n zero text = text ≡ []
+AreSourceLines t n (suc k) text =
+    (front : List ℕ) × (last : List ℕ) × AreSourceLines t n k front
+    × (s : Source) × (slice_get t.sources k ≡ Some s) × AreLinesOf t n k s last
+    × (text ≡ front ++ last)

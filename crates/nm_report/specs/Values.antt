@@ -71,10 +71,3 @@ module _ (t : TopologyValue) (events : ℕ) where
   abbrev pub all_counts : ℕ → List NodeValue → List ℕ
   all_counts v [] = []
   all_counts v (x ∷ xs) = node_counts v x.name ALL ++ all_counts (suc v) xs
-
-  -- the names of the columns, the lines of all nodes and of all interfaces, in the order of the
-  -- topology's text, and whole lines
-  pub record HaveValues (text : List ℕ) : Type 0 where
-    pub rest : List ℕ
-    pub after : AreWholeLines rest
-    pub is : text ≡ head ++ all_counts 0 t.nodes ++ all_values 0 t.ifaces ++ rest

@@ -11,7 +11,9 @@ ghost use Rattle.nm_measure.specs.Delays.{AreDelays};
 ghost use Rattle.nm_measure.specs.Lines.{EndsLine};
 ghost use Rattle.nm_measure.specs.Measured.{IsMeasuredBefore};
 ghost use Rattle.nm_report.specs.Sources.{SaysMeasures, measure_count, measure_names, source_lines};
-ghost use Rattle.nm_report.specs.Values.{AreWholeLines, HaveValues, all_counts, all_values, head};
+ghost use Rattle.nm_report.specs.Csv.{HaveValues};
+ghost use Rattle.nm_report.specs.Sources.{AreLinesOf, AreSourceLines};
+ghost use Rattle.nm_report.specs.Values.{AreWholeLines, all_counts, all_values, head};
 ghost use Rattle.nm_report.specs.Values.{iface_line, iface_values, node_counts, traffic_lines};
 ghost use Rattle.nm_report.specs.Values.{use_lines, value_line};
 
@@ -226,8 +228,13 @@ fn push_source(
     number: SourceNo,
 ) -> Appended
     requires { AreWholeLines text.old.items }
-    ensures { OnOk result (AreWholeLines text.new.items) }
+    ensures lines { OnOk result (AreWholeLines text.new.items) }
+    ensures values { (t : TopologyValue) (until : ℕ) (m : IsMeasuredBefore t until measured.now)
+        → number < length t.sources → OnOk result ((last : List ℕ)
+        × AreLinesOf t m.events number source.now last
+        × (text.new.items ≡ text.old.items ++ last)) }
 {
+    measured.events(); // law: no more than 2^62
     match measured.times(number) {
         Some(times) => {
             push_counted(
@@ -243,13 +250,30 @@ fn push_source(
     }
 }
 
-/// The values of all sources.
+/// The source with this number.
+fn source_at(topology: &Topology, number: usize) -> &Source
+    requires { number < length topology.now.sources }
+    ensures { slice_get topology.now.sources number ≡ Some result.now }
+{
+    &topology.sources()[number]
+}
+
+/// The values of all sources, in the order of the topology's text.
 fn sources_text(alloc: Global, topology: &Topology, measured: &Measured) -> MadeText
-    ensures { IfOk result (λ text. AreWholeLines text.items) }
+    ensures is { (until : ℕ) (m : IsMeasuredBefore topology.now until measured.now)
+        → IfOk result (λ text. AreSourceLines topology.now m.events (length topology.now.sources)
+        text.items) }
+    ensures ends { IfOk result (λ text. AreWholeLines text.items) }
 {
     let mut text = Vec::new(alloc);
-    for (number, source) in (0..u32::MAX).zip(topology.sources()) {
-        push_source(alloc, &mut text, measured, source, SourceNo::new(number))?;
+    for number in 0..topology.sources().len() {
+        push_source(
+            alloc,
+            &mut text,
+            measured,
+            source_at(topology, number),
+            topology.source_number(number),
+        )?;
     }
     Ok(text)
 }

@@ -1,6 +1,14 @@
 //! The tables of sources.
 
-ghost use Rattle.std.specs.Prelude.{◌≡◌, ◌∷◌, []};
+ghost use Rattle.std.specs.Prelude.{◌≡◌, ◌<◌, ◌∷◌, [], ℕ, length};
+ghost use Rattle.nm_base.specs.Count.{saturated};
+ghost use Rattle.nm_topology.specs.TopologyValue.{TopologyValue};
+ghost use Rattle.nm_sim.specs.Network.{net_of};
+ghost use Rattle.nm_measure.specs.Counted.{HasEnds};
+ghost use Rattle.nm_measure.specs.Flows.{Balances};
+ghost use Rattle.nm_measure.specs.Measured.{IsMeasuredBefore};
+ghost use Rattle.nm_measure.specs.Sent.{sent_in};
+ghost use Rattle.nm_measure.specs.Ways.{ends_in};
 
 use crate::table::{Table, push_left_out};
 use crate::units::{PERCENTILES, push_address};
@@ -66,7 +74,12 @@ const ECHO_HEAD: [&str; 15] = [
 ];
 
 /// What became of the packets of a source; nothing if it is not there.
-pub(crate) fn flow_of(measured: &Measured, source: SourceNo) -> FlowCounts {
+pub(crate) fn flow_of(measured: &Measured, source: SourceNo) -> FlowCounts
+    ensures balances { Balances result }
+    ensures ended { (t : TopologyValue) (until : ℕ) (m : IsMeasuredBefore t until measured.now)
+        → source < length t.sources → (result.sent ≡ saturated (sent_in (net_of t) source m.events))
+        × HasEnds source (ends_in t m.events) result }
+{
     measured.flow(source).unwrap_or(FlowCounts::NONE)
 }
 

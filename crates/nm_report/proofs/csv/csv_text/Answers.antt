@@ -8,7 +8,7 @@ returns-clause-lines c =
     let front = c.in_ok-text.text.items in
     let mid = c.push_text.new.text.items in
     let with_ifaces = ends_behind_whole front c.in_ok-ifaces.ifaces.items mid (c.in_ok-push_text.ensures ∙ ap (λ l. front ++ l) c.as_slice.ensures.value) c.in_ok-text.ensures.ends c.in_ok-ifaces.ensures.ends in
-    ends_behind_whole mid c.in_ok-sources.sources.items c.push_text-2.new.text.items (c.in_ok-push_text-2.ensures ∙ ap (λ l. mid ++ l) c.as_slice-2.ensures.value) with_ifaces c.in_ok-sources.ensures
+    ends_behind_whole mid c.in_ok-sources.sources.items c.push_text-2.new.text.items (c.in_ok-push_text-2.ensures ∙ ap (λ l. mid ++ l) c.as_slice-2.ensures.value) with_ifaces c.in_ok-sources.ensures.ends
 
 pub returns-clause-values : goal.returns-clause-values
 returns-clause-values c = λ until m.
@@ -18,8 +18,8 @@ returns-clause-values c = λ until m.
     let rest = c.in_ok-sources.sources.items in
     let values = all_values t m.events 0 t.ifaces in
     record {
-      rest = rest;
-      after = c.in_ok-sources.ensures;
+      sources = rest;
+      are = c.in_ok-sources.ensures.is until m;
       is = c.in_ok-push_text-2.ensures ∙ ap (λ l. mid ++ l) c.as_slice-2.ensures.value
           ∙ ap (λ l. l ++ rest) (c.in_ok-push_text.ensures ∙ ap (λ l. front ++ l) (c.as_slice.ensures.value ∙ c.in_ok-ifaces.ensures.is until m) ∙ ap (λ l. l ++ values) (c.in_ok-text.ensures.is until m));
     }
