@@ -1,6 +1,10 @@
 -- Lines of values, one behind another.
-use Rattle.std.proofs.Common.{◌≡◌, ℕ, zero, suc, ◌+◌, ◌<◌, List, [], ◌∷◌, ◌++◌, length, take, Some, slice_get, refl, sym, ap, ◌∙◌, arith, append_assoc, append-nil, OnOk, Result, Ok, Err, Option, None, true, cond, ltb, ◌&&◌, unwrap_or, codes, slice_index, inl, inr, subst}
+use Rattle.std.proofs.Common.{◌≡◌, ℕ, zero, suc, ◌+◌, ◌<◌, All, ⊎_elim, List, [], ◌∷◌, ◌++◌, length, take, Some, slice_get, refl, sym, ap, ◌∙◌, arith, append_assoc, append-nil, OnOk, Result, Ok, Err, Option, None, true, cond, ltb, ◌&&◌, unwrap_or, codes, slice_index, inl, inr, subst}
 use Rattle.std.specs.Prelude.{IsSomeAnd}
+use Rattle.std.proofs.lemmas.List.Elements.{All-get_or}
+use Rattle.std.proofs.lemmas.Option.{get_or_from_slice_get, slice_get_cases, slice_get_within}
+use Rattle.nm_topology.specs.Accepted.{IsPlaced, LeavesByOwn, owners_of}
+use Rattle.nm_topology.specs.declared.traffic.Source.{Source}
 use Rattle.std.proofs.lemmas.Bool.Decides.{nat_tests}
 use Rattle.nm_base.specs.Count.{saturated}
 use Rattle.nm_forward.specs.Counter.{counter_name, counter_number}
@@ -15,6 +19,7 @@ use Rattle.nm_model.proofs.ListLemmas.{not_some, some_inj}
 use Rattle.nm_topology.specs.PartValues.{IfaceValue, NodeValue}
 use Rattle.nm_topology.specs.TopologyValue.{TopologyValue}
 use Rattle.nm_measure.specs.Lines.{EndsLine}
+use Rattle.nm_report.specs.Sources.{name_cells}
 use Rattle.nm_report.specs.Values.{AreWholeLines, all_counts, all_values, iface_values, node_counts, value_line}
 
 pub on_ok : {T E : Type 0} {P Q : Type 0} (r : Result T E) → (P → Q) → OnOk r P → OnOk r Q
@@ -136,3 +141,35 @@ some_is o d x r h e = h ∙ ap (λ z. unwrap_or z d) e
 pub some_or : {X : Type 0} (P : X → Type 0) (o : Option X) (d : X) → IsSomeAnd o P → P (unwrap_or o d)
 some_or P None d h = absurd h
 some_or P (Some x) d h = h
+
+-- the node of a source is there
+pub node_of : (t : TopologyValue) (j : ℕ) (s : Source) → slice_get t.sources j ≡ Some s → All (λ s. IsPlaced (length t.nodes) (owners_of t.ifaces) s) t.sources → (node : NodeValue) × (slice_get t.nodes s.node ≡ Some node)
+unfolding IsPlaced
+node_of t j s at placed =
+    let here : (s.node < length t.nodes) × LeavesByOwn (owners_of t.ifaces) s.node s.traffic = subst (λ (z : Source). IsPlaced (length t.nodes) (owners_of t.ifaces) z) (get_or_from_slice_get t.sources j s s at) (All-get_or (λ s. IsPlaced (length t.nodes) (owners_of t.ifaces) s) t.sources j s (slice_get_within t.sources j s at) placed) in
+    ⊎_elim (λ g. (g.0, g.2)) (λ g. absurd (let h = here.0 in omega (arith, h, g.0))) ((slice_get_cases t.nodes s.node).1)
+
+pub regrouped : (text a b c : List ℕ) → ((text ++ a) ++ b) ++ c ≡ text ++ (a ++ b ++ c)
+regrouped text a b c = simp append_assoc
+
+joined : (text a b c : List ℕ) → ((text ++ a) ++ b) ++ c ≡ text ++ (a ++ (b ++ c))
+joined text a b c = simp append_assoc
+
+-- one name more
+names_push : (xs : List (List ℕ)) (m : List ℕ) → name_cells (xs ++ m ∷ []) ≡ name_cells xs ++ (codes "," ++ m)
+names_push [] m = ap (λ l. codes "," ++ l) (append-nil m)
+names_push (x ∷ xs) m = ap (λ l. codes "," ++ (x ++ l)) (names_push xs m) ∙ behind (codes ",") x (name_cells xs) (codes "," ++ m)
+  where
+    behind : (a b c d : List ℕ) → a ++ (b ++ (c ++ d)) ≡ (a ++ (b ++ c)) ++ d
+    behind a b c d = simp append_assoc
+
+pub names_more : (names : List (List ℕ)) (n : ℕ) (m text mid one two : List ℕ) → slice_get names n ≡ Some m → mid ≡ text ++ name_cells (take n names) → one ≡ mid ++ codes "," → two ≡ one ++ m
+    → two ≡ text ++ name_cells (take (n + 1) names)
+names_more names n m text mid one two at so_far comma name =
+    name ∙ ap (λ l. l ++ m) (comma ∙ ap (λ l. l ++ codes ",") so_far) ∙ joined text (name_cells (take n names)) (codes ",") m
+    ∙ ap (λ l. text ++ l) (sym (ap name_cells (take_more names n m at).0 ∙ names_push (take n names) m))
+
+pub seven_pieces : (a b c d e f g old one two three four five six seven : List ℕ) → one ≡ old ++ a → two ≡ one ++ b → three ≡ two ++ c → four ≡ three ++ d → five ≡ four ++ e → six ≡ five ++ f → seven ≡ six ++ g
+    → seven ≡ old ++ (a ++ b ++ c ++ d ++ e ++ f ++ g)
+seven_pieces a b c d e f g old one two three four five six seven h1 h2 h3 h4 h5 h6 h7 =
+    h7 ∙ ap (λ t. t ++ g) (h6 ∙ ap (λ t. t ++ f) (h5 ∙ ap (λ t. t ++ e) (h4 ∙ ap (λ t. t ++ d) (h3 ∙ ap (λ t. t ++ c) (h2 ∙ ap (λ t. t ++ b) h1))))) ∙ simp append_assoc

@@ -7,6 +7,8 @@ use Rattle.nm_measure.specs.Flows.{Balances}
 use Rattle.nm_measure.specs.Sent.{sent_in}
 use Rattle.nm_measure.specs.Starts.{begun_in}
 use Rattle.nm_measure.specs.Ways.{ends_in}
+use Rattle.nm_packet.specs.Address.{address_text}
+use Rattle.nm_topology.specs.PartValues.{NodeValue}
 use Rattle.nm_topology.specs.TopologyValue.{TopologyValue}
 use Rattle.nm_topology.specs.declared.traffic.Source.{Source}
 use Rattle.nm_measure.specs.Added.{ShowsPercentile}
@@ -108,3 +110,44 @@ AreSourceLines t n (suc k) text =
     (front : List ℕ) × (last : List ℕ) × AreSourceLines t n k front
     × (s : Source) × (slice_get t.sources k ≡ Some s) × AreLinesOf t n k s last
     × (text ≡ front ++ last)
+
+-- which source it is: its number, its kind, its node, and where its packets go
+abbrev pub kind_name : Traffic → List ℕ
+kind_name (Cbr c) = codes "cbr"
+kind_name (Echo e) = codes "echo"
+kind_name (Raw r) = codes "raw"
+
+abbrev pub destination_text : Traffic → List ℕ
+destination_text (Cbr c) = address_text c.to
+destination_text (Echo e) = address_text e.to
+destination_text (Raw r) = codes "-"
+
+abbrev pub source_text : (j : ℕ) → (node : List ℕ) → Source → List ℕ
+source_text j node s =
+    decimal j ++ codes "," ++ kind_name s.traffic ++ codes "," ++ node ++ codes ","
+    ++ destination_text s.traffic
+
+-- the names of the columns of a table with a row for each source
+abbrev pub name_cells : List (List ℕ) → List ℕ
+name_cells [] = []
+name_cells (m ∷ ms) = codes "," ++ m ++ name_cells ms
+
+abbrev pub row_head : List ℕ
+row_head = codes "source,kind,node,to" ++ name_cells measure_names ++ codes "\n"
+
+-- the row of source j
+pub record IsRowOf (t : TopologyValue) (n j : ℕ) (row : List ℕ) : Type 0 where
+  pub source : Source
+  pub at : slice_get t.sources j ≡ Some source
+  pub node : NodeValue
+  pub here : slice_get t.nodes source.node ≡ Some node
+  pub values : List ℕ
+  pub have : HasMeasures t n j values
+  pub is : row ≡ source_text j node.name source ++ row_values values ++ codes "\n"
+
+-- the names of the columns, and the rows of the first k sources, one behind another
+abbrev pub AreRows : TopologyValue → (n k : ℕ) → List ℕ → Type 0
+AreRows t n zero text = text ≡ row_head
+AreRows t n (suc k) text =
+    (front : List ℕ) × (row : List ℕ) × AreRows t n k front × IsRowOf t n k row
+    × (text ≡ front ++ row)

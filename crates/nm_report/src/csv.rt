@@ -251,7 +251,7 @@ fn push_source(
 }
 
 /// The source with this number.
-fn source_at(topology: &Topology, number: usize) -> &Source
+pub(crate) fn source_at(topology: &Topology, number: usize) -> &Source
     requires { number < length topology.now.sources }
     ensures { slice_get topology.now.sources number ≡ Some result.now }
 {

@@ -1,6 +1,7 @@
 //! The tables of sources.
 
-ghost use Rattle.std.specs.Prelude.{◌≡◌, ◌<◌, ◌∷◌, [], ℕ, length};
+ghost use Rattle.std.specs.Prelude.{◌≡◌, ◌<◌, ◌∷◌, ◌++◌, [], ℕ, OnOk, length};
+ghost use Rattle.nm_report.specs.Sources.{destination_text, kind_name};
 ghost use Rattle.nm_base.specs.Count.{saturated};
 ghost use Rattle.nm_topology.specs.TopologyValue.{TopologyValue};
 ghost use Rattle.nm_sim.specs.Network.{net_of};
@@ -84,7 +85,9 @@ pub(crate) fn flow_of(measured: &Measured, source: SourceNo) -> FlowCounts
 }
 
 /// The kind of a source, as the topology's text has it.
-pub(crate) fn kind_of(source: &Source) -> &'static str {
+pub(crate) fn kind_of(source: &Source) -> &'static str
+    ensures { result.now ≡ kind_name source.now.traffic }
+{
     match &source.traffic {
         Traffic::Cbr(_) => "cbr",
         Traffic::Echo(_) => "echo",
@@ -93,7 +96,10 @@ pub(crate) fn kind_of(source: &Source) -> &'static str {
 }
 
 /// Appends the destination of a source's packets; `-` for raw packets, which have their own.
-pub(crate) fn push_destination(text: &mut Vec<u8>, source: &Source) -> Appended {
+pub(crate) fn push_destination(text: &mut Vec<u8>, source: &Source) -> Appended
+    ensures { OnOk result (text.new.items
+        ≡ text.old.items ++ destination_text source.now.traffic) }
+{
     match &source.traffic {
         Traffic::Cbr(cbr) => push_address(text, cbr.to),
         Traffic::Echo(echo) => push_address(text, echo.to),
