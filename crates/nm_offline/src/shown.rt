@@ -3,7 +3,8 @@
 ghost use Rattle.std.specs.Prelude.{IfErr, IfOk, OnOk};
 ghost use Rattle.nm_offline.specs.Input.{IsRefused, inputs_seen};
 ghost use Rattle.nm_offline.specs.Output.{FailsOfInput, SaysOfInput, exchange};
-ghost use Rattle.nm_offline.specs.Shown.{ArePacketLines, EndsShown, EndsText, SaysShown, SaysText};
+ghost use Rattle.nm_offline.specs.Shown.{ArePacketLines, EndsShown, EndsText, SaysShown};
+ghost use Rattle.nm_offline.specs.Shown.{SaysText, ShowsView};
 ghost use Rattle.nm_offline.specs.Traces.{HasNoIface};
 ghost use Rattle.nm_measure.specs.Lines.{EndsLine};
 
@@ -29,7 +30,8 @@ fn view_text(
     view: View,
     progress: &Progress,
 ) -> Result<Vec<u8>, AllocError>
-    ensures { IfOk result (λ text. EndsLine text.items) }
+    ensures lines { IfOk result (λ text. EndsLine text.items) }
+    ensures shows { IfOk result (λ text. ShowsView view network.now text.items) }
 {
     if let View::Graph = view {
         return dot_text(alloc, network);
@@ -55,7 +57,7 @@ fn view_said<I: Inputs>(
 ) -> Result<Output, Status>
     ensures said { IfOk result (λ output. SaysOfInput (inputs_seen I.seen inputs.old)
         topology.now
-        SaysShown output.status output.text.items) }
+        (SaysShown view) output.status output.text.items) }
     ensures fault { IfErr result (λ status. FailsOfInput
         (inputs_seen I.seen inputs.old) (inputs_seen I.seen inputs.new)
         topology.now IsRefused status) }
@@ -75,7 +77,7 @@ pub fn say_view<I: Inputs, O: Sink + Drop>(
 ) -> (Status, O)
     ensures { EndsShown (exchange I.seen O.seen inputs.old out)
         (exchange I.seen O.seen inputs.new result.1)
-        topology.entry.now result.0 }
+        view topology.entry.now result.0 }
 {
     end(view_said(alloc, topology, view, inputs, progress), out)
 }

@@ -45,7 +45,7 @@ module _ {S : Type 0} (before after : Surroundings S) where
   ProgramEnds (Some (Check topology)) status =
       MakesNone (λ old new. EndsCheck old new topology status)
   ProgramEnds (Some (Show topology view)) status =
-      MakesNone (λ old new. EndsShown old new topology status)
+      MakesNone (λ old new. EndsShown old new view topology status)
   ProgramEnds (Some (Text topology iface)) status =
       MakesNone (λ old new. EndsText old new topology iface status)
   ProgramEnds (Some (Series topology step subject)) status =
