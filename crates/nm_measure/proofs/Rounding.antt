@@ -5,7 +5,8 @@ use Rattle.std.proofs.Math.Pow.{pow_mono, pow_pos, shl_exact}
 use Rattle.std.proofs.lemmas.Bool.{cases_lt}
 use Rattle.std.proofs.lemmas.Nat.{div-add-mod', leading_top, pow-add}
 use Rattle.std.specs.Int.Count.{count_leading_zeros, leading_of_zero}
-use Rattle.nm_measure.specs.Spread.{rounded_down}
+use Rattle.nm_base.specs.Count.{saturated}
+use Rattle.nm_measure.specs.Spread.{rounded_down, top_of}
 
 rest_of : (d r w s : ℕ) → r < s → w + r ≡ d → 128 * s ≤ w → 128 * (d - (d - r)) ≤ d - r
 rest_of d r w s l e m = omega arith
@@ -92,3 +93,18 @@ rounded_rises (suc n) e h fits =
     let b = leading_top 64 e some fits in
     steps_rise (suc n) e a.0 b.0 (64 - count_leading_zeros 64 (suc n) - 8) (64 - count_leading_zeros 64 e - 8) h a.2 a.3 b.2 b.3
     (let f = a.1 in omega (arith, f)) (let f = b.1 in omega (arith, f))
+
+-- the greatest that is rounded down to a number
+pub top_small : (d : ℕ) → d < 2 ^ 64 → 64 - count_leading_zeros 64 d ≤ 8 → d ≡ top_of d
+unfolding top_of
+top_small d fits few =
+    let none : 64 - count_leading_zeros 64 d - 8 ≡ 0 = omega (arith, few) in
+    subst (λ k. d ≡ saturated (d + (2 ^ k - 1))) (sym none) (omega (arith, fits))
+
+pub top_large : (d : ℕ) → 8 < 64 - count_leading_zeros 64 d
+    → saturated (d + (1 * 2 ^ (64 - count_leading_zeros 64 d - 8) % 18446744073709551616 - 1)) ≡ top_of d
+unfolding top_of
+top_large d many =
+    let k = 64 - count_leading_zeros 64 d - 8 in
+    let exact : 1 * 2 ^ k % 18446744073709551616 ≡ 1 * 2 ^ k = shl_exact 1 k 64 (omega arith) (omega arith) in
+    ap (λ s. saturated (d + (s - 1))) (exact ∙ one-mul (2 ^ k))

@@ -2,11 +2,18 @@
 use Rattle.std.specs.Prelude.{◌≡◌, ℕ, ◌-◌, ◌*◌, ◌%◌, ◌^◌, ◌<◌, ◌≤◌, max, Bool, true, false, if◌then◌else◌, nat_eq, nat_lt, nat_le, List, [], ◌∷◌, ◌++◌, length, count_by, sum_by, slice_index_or, ◌==◌, ◌+◌}
 use Rattle.std.specs.Int.{div_ceil}
 use Rattle.std.specs.Int.Count.{count_leading_zeros}
+use Rattle.nm_base.specs.Count.{saturated}
+use Rattle.std.specs.List.Sorted.{IsNonDecreasingBy}
+use Rattle.nm_measure.specs.declared.spread.Bucket.{Bucket}
 use Rattle.nm_measure.specs.declared.spread.Row.{Row}
 
 -- a delay rounded down to its eight highest bits
 unfoldable pub rounded_down : ℕ → ℕ
 rounded_down d = d - d % 2 ^ (64 - count_leading_zeros 64 d - 8)
+
+-- the greatest delay that is rounded down to this one
+unfoldable pub top_of : ℕ → ℕ
+top_of d = saturated (d + (2 ^ (64 - count_leading_zeros 64 d - 8) - 1))
 
 -- a delay as it is kept
 abbrev pub kept : (is_rounded : Bool) → ℕ → ℕ
@@ -50,3 +57,16 @@ rank_of count thousandths = max (div_ceil (count * thousandths) 1000) 1
 pub record IsPercentile (ds : List ℕ) (thousandths p : ℕ) : Type 0 where
   pub enough : rank_of (length ds) thousandths ≤ count_by (λ d. nat_le d p) ds
   pub least : count_by (λ d. nat_lt d p) ds < rank_of (length ds) thousandths
+
+-- the rows of these delays, by rising delays
+pub record AreRows (ds : List ℕ) (is_rounded : Bool) (rows : List Row) : Type 0 where
+  pub spread : IsSpread ds rows is_rounded
+  pub rise : IsNonDecreasingBy (λ r. r.delay) rows
+
+-- a row as it is shown
+abbrev pub bucket_of : (is_rounded : Bool) → Row → Bucket
+bucket_of is_rounded r = record {
+  least = r.delay;
+  greatest = if is_rounded then top_of r.delay else r.delay;
+  times = r.times;
+}

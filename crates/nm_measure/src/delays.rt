@@ -4,7 +4,9 @@ ghost use Rattle.std.specs.Prelude.{◌≡◌, ℕ, ◌+◌, ◌<◌, ◌≤◌,
 ghost use Rattle.std.specs.Prelude.{◌++◌, length};
 ghost use Rattle.nm_base.specs.Count.{saturated};
 ghost use Rattle.nm_measure.specs.Added.{AreAdded, ShowsPercentile};
-ghost use Rattle.nm_measure.specs.Spread.{different_of};
+ghost use Rattle.nm_measure.specs.Spread.{AreRows, bucket_of, different_of};
+ghost use Rattle.std.specs.Option.{option_map};
+ghost use Rattle.std.specs.Prelude.{Some, slice_get};
 ghost use Rattle.nm_measure.specs.Sums.{jitter_of, least_after, mean_of, sum_to};
 ghost use Rattle.nm_measure.specs.Sums.{differences_of};
 
@@ -94,10 +96,23 @@ impl Delays {
         self.recent
     }
 
+    /// How many rows there are: one for each delay, or, if they are rounded, for all that round to
+    /// one.
+    pub fn rows(&self) -> usize
+        ensures count { result ≡ length self.now.spread.rows.items }
+        ensures spread { (ds : List ℕ) → AreDelays ds self.now → length ds < 2 ^ 64
+            → AreRows ds self.now.spread.is_rounded self.now.spread.rows.items }
+    {
+        self.spread.rows()
+    }
+
     /// The row with this place, by rising delays: the least and the greatest delay of it, and how
-    /// many there were. A row has one delay, or, if they are rounded, all that round to one. `None`
-    /// if there are no more rows.
-    pub fn bucket(&self, place: usize) -> Option<Bucket> {
+    /// many there were.
+    pub fn bucket(&self, place: usize) -> Bucket
+        requires { place < length self.now.spread.rows.items }
+        ensures { option_map (bucket_of self.now.spread.is_rounded)
+            (slice_get self.now.spread.rows.items place) ≡ Some result }
+    {
         self.spread.bucket(place)
     }
 

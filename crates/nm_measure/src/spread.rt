@@ -6,7 +6,9 @@ ghost use Rattle.std.specs.Prelude.{OnOk, OnErr, IfOk, List, [], ◌∷◌, ◌+
 ghost use Rattle.std.specs.List.Sorted.{IsNonDecreasingBy};
 ghost use Rattle.nm_base.specs.Count.{saturated};
 ghost use Rattle.nm_measure.specs.Spread.{HaveTimes, IsPercentile, IsSpread, different_of, kept};
-ghost use Rattle.nm_measure.specs.Spread.{rank_of, rounded_down, times_of};
+ghost use Rattle.nm_measure.specs.Spread.{bucket_of, rank_of, rounded_down, times_of, top_of};
+ghost use Rattle.std.specs.Option.{option_map};
+ghost use Rattle.std.specs.Prelude.{Some, slice_get};
 
 use std::alloc::{AllocError, Global};
 
@@ -74,7 +76,7 @@ fn kept(is_rounded: bool, delay: u64) -> u64
 
 /// The greatest delay that is rounded down to this one.
 fn greatest_of(rounded: u64) -> u64
-    ensures { rounded ≤ result }
+    ensures { result ≡ top_of rounded }
 {
     let bits = u64::BITS - rounded.leading_zeros();
     if bits <= KEPT_BITS {
@@ -163,19 +165,31 @@ impl Spread {
         self.is_rounded
     }
 
+    /// How many rows there are: a row for each delay that is kept.
+    pub(crate) fn rows(&self) -> usize
+        ensures count { result ≡ length self.now.rows.items }
+        ensures rise { IsNonDecreasingBy (λ r. r.delay) self.now.rows.items }
+    {
+        self.rows.len()
+    }
+
     /// The row with this place, by rising delays.
-    pub(crate) fn bucket(&self, place: usize) -> Option<Bucket> {
-        let row = self.rows.get(place)?;
+    pub(crate) fn bucket(&self, place: usize) -> Bucket
+        requires { place < length self.now.rows.items }
+        ensures { option_map (bucket_of self.now.is_rounded) (slice_get self.now.rows.items place)
+            ≡ Some result }
+    {
+        let row = &self.rows[place];
         let greatest = if self.is_rounded {
             greatest_of(row.delay)
         } else {
             row.delay
         };
-        Some(Bucket {
+        Bucket {
             least: row.delay,
             greatest,
             times: row.times,
-        })
+        }
     }
 
     /// Adds one delay. From 2^64 - 1 on no more are noted.

@@ -11,6 +11,7 @@ use Rattle.nm_sim.specs.Network.{net_of}
 use Rattle.nm_measure.specs.Lines.{EndsLine}
 use Rattle.nm_report.specs.Csv.{HaveValues}
 use Rattle.nm_report.specs.Sources.{AreRows}
+use Rattle.nm_series.specs.Buckets.{AreDelayRows}
 use Rattle.nm_offline.specs.Input.{IsRefused}
 use Rattle.nm_offline.specs.Output.{EndsWord, Exchange, FailsOfInput, SaysOfInput}
 use Rattle.nm_offline.specs.Traces.{HasNoIface, iface_named}
@@ -22,13 +23,13 @@ pub record ShowsRun (Has : (events : ℕ) → List ℕ → Type 0) (t : Topology
   pub over : IsBefore (net_of t) t.stop events
   pub has : Has events octets
 
--- the values of nodes, interfaces and sources, and a row of them for each source; tables for people
--- and pictures may have any words
+-- the values of nodes, interfaces and sources, a row of them for each source, and how the delays of
+-- each are spread; tables for people and pictures may have any words
 abbrev pub ShowsView : View → TopologyValue → List ℕ → Type 0
 ShowsView Values t octets = ShowsRun (HaveValues t) t octets
 ShowsView Rows t octets = ShowsRun (λ n text. AreRows t n (length t.sources) text) t octets
 ShowsView Tables t octets = Unit {0}
-ShowsView Delays t octets = Unit {0}
+ShowsView Delays t octets = ShowsRun (λ n text. AreDelayRows t n (length t.sources) text) t octets
 ShowsView Graph t octets = Unit {0}
 ShowsView Load t octets = Unit {0}
 

@@ -1,2 +1,3 @@
 mod RowsMore
 mod FlowRows
+mod BucketRows

@@ -2,3 +2,4 @@ pub mod Rows
 pub mod Steps
 pub mod Series
 pub mod Flows
+pub mod Buckets

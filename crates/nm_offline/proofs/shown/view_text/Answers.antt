@@ -39,10 +39,14 @@ returns-in-Rows c =
     }
 
 pub returns-in-Delays : goal.returns-in-Delays
-returns-in-Delays c = record {
-  lines = c.delays_text.ensures;
-  shows = subst (λ v. IfOk c.delays_text.result (λ text. ShowsView v c.args.network.now text.items)) (sym c.in-Delays.is) (any_text c.delays_text.result);
-}
+returns-in-Delays c =
+    let t = c.args.network.now in
+    let m = c.in_ok-measured.ensures in
+    record {
+      lines = c.delays_text.ensures.lines;
+      shows = subst (λ v. IfOk c.delays_text.result (λ text. ShowsView v t text.items)) (sym c.in-Delays.is)
+          (of_text c.delays_text.result (λ text h. record { events = m.events; over = m.over; has = h }) (c.delays_text.ensures.rows t.stop m));
+    }
 
 pub returns : goal.returns
 returns c = record {
