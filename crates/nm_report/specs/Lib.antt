@@ -1,3 +1,4 @@
 pub mod Sources
 pub mod Values
 pub mod Csv
+pub mod Loads

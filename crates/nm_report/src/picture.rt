@@ -1,6 +1,8 @@
 //! The network as a graph for Graphviz (dot) that shows how it was used.
 
-ghost use Rattle.std.specs.Prelude.{IfOk};
+ghost use Rattle.std.specs.Prelude.{◌≡◌, ◌<◌, ℕ, IfOk, length};
+ghost use Rattle.nm_measure.specs.Measured.{IsMeasuredBefore};
+ghost use Rattle.nm_report.specs.Loads.{IsLoad, from_end};
 ghost use Rattle.nm_measure.specs.Lines.{EndsLine};
 
 use crate::dot::{push_owner, push_partitions, push_quality};
@@ -41,12 +43,23 @@ struct Load {
     share: Option<u64>,
 }
 
-/// How a direction of a link was used.
-fn load_of(topology: &Topology, measured: &Measured, link: Link, way: Way) -> Load {
-    let iface = match way {
+/// The interface that transmits in a direction of a link.
+fn from_end(link: Link, way: Way) -> IfaceNo
+    ensures { result ≡ from_end way link }
+{
+    match way {
         Way::There => link.a,
         Way::Back => link.b,
-    };
+    }
+}
+
+/// How a direction of a link was used.
+fn load_of(topology: &Topology, measured: &Measured, link: Link, way: Way) -> Load
+    ensures { (until : ℕ) (m : IsMeasuredBefore topology.now until measured.now)
+        → from_end way link < length topology.now.ifaces
+        → IsLoad topology.now m.events (from_end way link) result }
+{
+    let iface = from_end(link, way);
     Load {
         iface,
         packets: traffic_at(measured, iface).went.packets,
