@@ -23,7 +23,7 @@ use Rattle.nm_measure.specs.declared.fates.Fate.TheVariants as fate
 use Rattle.nm_measure.specs.declared.tag.Role.{Role}
 use Rattle.nm_measure.specs.declared.tag.Role.TheVariants.{Sent, Reply, Nothing as NothingRole}
 use Rattle.nm_measure.specs.declared.tag.Tag.{Tag}
-use Rattle.nm_measure.specs.Counted.{AreArrivals, AreAstray, AreFlows, AreOutcomes, HasArrivals, HasEnds, HasOutcomes, FitsReason, answers, astray_of, delays_of, ended_so, how_many, counts_for, is_answer, is_at, is_reply, is_sent, is_told, outcome_number, strays, trips_of}
+use Rattle.nm_measure.specs.Counted.{AreArrivals, AreAstray, AreFlows, AreOutcomes, HasArrivals, HasEnds, HasOutcomes, FitsReason, comes_home, astray_of, delays_of, ended_so, how_many, counts_for, is_answer, is_at_home, is_reply, is_sent, is_told, outcome_number, strays, trips_of}
 use Rattle.nm_measure.specs.Delays.{AreDelays}
 use Rattle.nm_measure.specs.Sums.{last_of}
 use Rattle.nm_measure.specs.Flows.{Ends, counts_of, ended_of, sent_numbers}
@@ -157,7 +157,7 @@ module _ (j : ℕ) (ends : List WayEnd) (e : WayEnd) where
 
   -- it answers none
   no_trips : is_answer e ≡ false → trips_of j (ends ++ e ∷ []) ≡ trips_of j ends
-  no_trips quiet = ap (map (λ (d : WayEnd). d.time - d.tag.at)) (keep_no (answers j) ends e (ap (λ b. b && ((e.tag.source == j) && is_at e.place e.tag.home)) quiet))
+  no_trips quiet = ap (map (λ (d : WayEnd). d.time - d.tag.at)) (keep_no (comes_home j) ends e (ap (λ b. b && ((e.tag.source == j) && is_at_home e.place e.tag.home)) quiet))
 
   arrivals_by : (l : List WayEnd) (x : FlowTimes) → keep_where (ended_so j Delivered) (ends ++ e ∷ []) ≡ l → by_kept l x → AreDelays (trips_of j (ends ++ e ∷ [])) x.round_trips → HasArrivals j (ends ++ e ∷ []) x
   arrivals_by l x is h trips = let z = subst (λ k. by_kept k x) (sym is) h in record { delays = z.0; octets = z.1; ended = z.2; trips = trips }
@@ -189,16 +189,16 @@ module _ (j : ℕ) (ends : List WayEnd) (e : WayEnd) where
   arrivals_of_another quiet h = arrivals_same quiet (not_so h)
 
   -- a reply that came home, or did not come home
-  pub arrivals_answered : is_reply e.tag.role ≡ true → answers j e ≡ true → (x y : FlowTimes) → y.delays ≡ x.delays → y.octets ≡ x.octets → y.ended ≡ x.ended
+  pub arrivals_answered : is_reply e.tag.role ≡ true → comes_home j e ≡ true → (x y : FlowTimes) → y.delays ≡ x.delays → y.octets ≡ x.octets → y.ended ≡ x.ended
       → ((ds : List ℕ) → AreDelays ds x.round_trips → AreDelays (ds ++ (e.time - e.tag.at) ∷ []) y.round_trips) → HasArrivals j ends x → HasArrivals j (ends ++ e ∷ []) y
   arrivals_answered reply came x y delays octets ended added was = arrivals_but (not_so (reply_not reply)) x y delays octets ended was
       (subst (λ ds. AreDelays ds y.round_trips)
-      (sym (ap (map (λ (d : WayEnd). d.time - d.tag.at)) (keep_yes (answers j) ends e came) ∙ map-append (λ (d : WayEnd). d.time - d.tag.at) (keep_where (answers j) ends) (e ∷ [])))
+      (sym (ap (map (λ (d : WayEnd). d.time - d.tag.at)) (keep_yes (comes_home j) ends e came) ∙ map-append (λ (d : WayEnd). d.time - d.tag.at) (keep_where (comes_home j) ends) (e ∷ [])))
       (added (trips_of j ends) was.trips))
 
-  pub arrivals_unanswered : is_reply e.tag.role ≡ true → answers j e ≡ false → (x : FlowTimes) → HasArrivals j ends x → HasArrivals j (ends ++ e ∷ []) x
+  pub arrivals_unanswered : is_reply e.tag.role ≡ true → comes_home j e ≡ false → (x : FlowTimes) → HasArrivals j ends x → HasArrivals j (ends ++ e ∷ []) x
   arrivals_unanswered reply away x was = arrivals_but (not_so (reply_not reply)) x x refl refl refl was
-      (subst (λ ds. AreDelays ds x.round_trips) (sym (ap (map (λ (d : WayEnd). d.time - d.tag.at)) (keep_no (answers j) ends e away))) was.trips)
+      (subst (λ ds. AreDelays ds x.round_trips) (sym (ap (map (λ (d : WayEnd). d.time - d.tag.at)) (keep_no (comes_home j) ends e away))) was.trips)
 
   pub arrivals_more : is_answer e ≡ false → counts_for j e.tag ≡ true → e.outcome ≡ Delivered → (x y : FlowTimes) → y.round_trips ≡ x.round_trips → HasArrivals j ends x
       → ((ds : List ℕ) → AreDelays ds x.delays → AreDelays (ds ++ (e.time - e.tag.at) ∷ []) y.delays) → y.octets ≡ saturated (x.octets + e.octets) → y.ended ≡ e.time
@@ -289,7 +289,7 @@ module _ (ends : List WayEnd) (e : WayEnd) where
   none_stray j is = let h = one_stray j false is in omega (arith, h)
 
   quiet_strays : is_answer e ≡ false → (j : ℕ) → strays j e ≡ false
-  quiet_strays quiet j = ap (λ b. b && ((e.tag.source == j) && not (is_at e.place e.tag.home))) quiet
+  quiet_strays quiet j = ap (λ b. b && ((e.tag.source == j) && not (is_at_home e.place e.tag.home))) quiet
 
   -- these numbers stay
   pub astray_kept : (counts after : List FlowCounts) → map (λ f. f.astray) after ≡ map (λ f. f.astray) counts → ((j : ℕ) → j < length counts → strays j e ≡ false) → AreAstray ends counts → AreAstray (ends ++ e ∷ []) after
@@ -309,16 +309,16 @@ module _ (ends : List WayEnd) (e : WayEnd) where
       (same_number j k)
 
 -- whose a reply is
-pub answer_yes : (e : WayEnd) (k : ℕ) → is_reply e.tag.role ≡ true → is_told e.reason ≡ true → e.tag.source ≡ k → (b : Bool) → is_at e.place e.tag.home ≡ b → (answers k e ≡ b) × (strays k e ≡ not b)
+pub answer_yes : (e : WayEnd) (k : ℕ) → is_reply e.tag.role ≡ true → is_told e.reason ≡ true → e.tag.source ≡ k → (b : Bool) → is_at_home e.place e.tag.home ≡ b → (comes_home k e ≡ b) × (strays k e ≡ not b)
 answer_yes e k reply told source b home = (
   (λ i. (reply i && told i) && ((source i == k) && home i)) ∙ ap (λ c. c && b) (number_tied k),
   (λ i. (reply i && told i) && ((source i == k) && not (home i))) ∙ ap (λ c. c && not b) (number_tied k),
 )
 
-pub answer_no : (e : WayEnd) (j : ℕ) → e.tag.source ≢ j → (answers j e ≡ false) × (strays j e ≡ false)
+pub answer_no : (e : WayEnd) (j : ℕ) → e.tag.source ≢ j → (comes_home j e ≡ false) × (strays j e ≡ false)
 answer_no e j apart = (
-  ap (λ b. is_answer e && (b && is_at e.place e.tag.home)) (number_apart e.tag.source j apart) ∙ never (is_answer e),
-  ap (λ b. is_answer e && (b && not (is_at e.place e.tag.home))) (number_apart e.tag.source j apart) ∙ never (is_answer e),
+  ap (λ b. is_answer e && (b && is_at_home e.place e.tag.home)) (number_apart e.tag.source j apart) ∙ never (is_answer e),
+  ap (λ b. is_answer e && (b && not (is_at_home e.place e.tag.home))) (number_apart e.tag.source j apart) ∙ never (is_answer e),
 )
 
 -- what is not told answers none
@@ -414,7 +414,7 @@ outcomes_as j ends n f g is was =
     record { delivered = z.0 ∙ was.delivered; refused = z.1 ∙ was.refused; dropped = z.2 ∙ was.dropped; discarded = z.3 ∙ was.discarded; on_way = z.4 ∙ was.on_way }
 
 -- a reply came home
-pub flows_answered : (ends : List WayEnd) (e : WayEnd) (u : ℕ → ℕ) (counts : List FlowCounts) (times : List FlowTimes) → is_reply e.tag.role ≡ true → is_told e.reason ≡ true → is_at e.place e.tag.home ≡ true → AreFlows ends u counts times
+pub flows_answered : (ends : List WayEnd) (e : WayEnd) (u : ℕ → ℕ) (counts : List FlowCounts) (times : List FlowTimes) → is_reply e.tag.role ≡ true → is_told e.reason ≡ true → is_at_home e.place e.tag.home ≡ true → AreFlows ends u counts times
     → (k : ℕ) (x y : FlowTimes) → slice_get times k ≡ Some x → e.tag.source ≡ k → y.delays ≡ x.delays → y.octets ≡ x.octets → y.ended ≡ x.ended
     → ((ds : List ℕ) → AreDelays ds x.round_trips → AreDelays (ds ++ (e.time - e.tag.at) ∷ []) y.round_trips) → AreFlows (ends ++ e ∷ []) u counts (slice_set times k y)
 flows_answered ends e u counts times reply told home was k x y at source delays octets ended added = record {
@@ -434,7 +434,7 @@ flows_answered ends e u counts times reply told home was k x y at source delays 
 }
 
 -- elsewhere
-pub flows_strayed : (ends : List WayEnd) (e : WayEnd) (u : ℕ → ℕ) (counts : List FlowCounts) (times : List FlowTimes) → is_reply e.tag.role ≡ true → is_told e.reason ≡ true → is_at e.place e.tag.home ≡ false → AreFlows ends u counts times
+pub flows_strayed : (ends : List WayEnd) (e : WayEnd) (u : ℕ → ℕ) (counts : List FlowCounts) (times : List FlowTimes) → is_reply e.tag.role ≡ true → is_told e.reason ≡ true → is_at_home e.place e.tag.home ≡ false → AreFlows ends u counts times
     → (k : ℕ) (f g : FlowCounts) → slice_get counts k ≡ Some f → e.tag.source ≡ k → counts_of g ≡ counts_of f → g.astray ≡ saturated (f.astray + 1) → AreFlows (ends ++ e ∷ []) u (slice_set counts k g) times
 flows_strayed ends e u counts times reply told home was k f g at source is more = record {
   outcomes = λ j z found. ⊎_elim

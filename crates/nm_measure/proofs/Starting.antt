@@ -22,9 +22,9 @@ use Rattle.nm_model.specs.declared.offering.Offering.TheVariants.{Dropped, Nothi
 use Rattle.nm_model.proofs.ListLemmas.{same_number, some_inj}
 use Rattle.nm_topology.specs.TopologyValue.{TopologyValue}
 use Rattle.nm_sim.specs.Network.{net_of}
-use Rattle.nm_measure.specs.Counted.{AreArrivals, answers, delays_of, ended_so, trips_of}
+use Rattle.nm_measure.specs.Counted.{AreArrivals, comes_home, delays_of, ended_so, trips_of}
 use Rattle.nm_measure.specs.Sent.{sent_in}
-use Rattle.nm_measure.specs.Starts.{AreStarts, IsRecent, Start, begun_by, begun_in, begun_of, first_time, nothing_begun, start_of, with_begin}
+use Rattle.nm_measure.specs.Starts.{AreStarts, IsRecent, SourceStart, begun_by, begun_in, begun_of, first_time, nothing_begun, start_of, with_begin}
 use Rattle.nm_measure.specs.Ways.{WayEnd, counter_at, drop_at, dropped_as, end_at, ended_as, ends_at, ends_in, ends_next, fate_at, made_as, outcome_by, sent_tag, tagged_list, tagged_net, time_of, unsent_at}
 use Rattle.nm_measure.specs.declared.flow_counts.PacketOutcome.{PacketOutcome}
 use Rattle.nm_measure.specs.declared.flow_counts.PacketOutcome.TheVariants.{Delivered, Discarded}
@@ -101,8 +101,8 @@ module _ (t : TopologyValue) where
 
   pub trips_few : (j n : ℕ) → length (trips_of j (ends_in t n)) ≤ 2 * n
   trips_few j n =
-      let l = length-map (keep_where (answers j) (ends_in t n)) (λ (e : WayEnd). e.time - e.tag.at) in
-      let k = kept_few (answers j) (ends_in t n) in
+      let l = length-map (keep_where (comes_home j) (ends_in t n)) (λ (e : WayEnd). e.time - e.tag.at) in
+      let k = kept_few (comes_home j) (ends_in t n) in
       let e = ends_few n in
       omega (arith, l, k, e)
 
@@ -146,7 +146,7 @@ module _ (t : TopologyValue) where
         );
   }
 
-  module _ (first n : ℕ) (starts : List Start) (h : AreStarts t first n starts) (e : Key × Event (List ℕ)) (place : Place)
+  module _ (first n : ℕ) (starts : List SourceStart) (h : AreStarts t first n starts) (e : Key × Event (List ℕ)) (place : Place)
       (next : least (one_list (net_of t) n).pending ≡ Some e) (at : e.0.place ≡ place) where
     -- no source has an event
     pub starts_stay : ((j : ℕ) → made_at j place ≡ 0) → AreStarts t first (suc n) starts
@@ -163,7 +163,7 @@ module _ (t : TopologyValue) where
       begins zero none old had = ap (first_time now) had ∙ ap Some (timed ∙ ap (λ k. time_of ((net_of t).source i k)) none)
       begins (suc k) some old had = ap (first_time now) had
 
-      here : (s : Start) → slice_get (with_begin i now starts) i ≡ Some s → (s.begun ≡ begun_in t i (suc n)) × (s.seen ≡ saturated (length (delays_of i (ends_in t first))))
+      here : (s : SourceStart) → slice_get (with_begin i now starts) i ≡ Some s → (s.begun ≡ begun_in t i (suc n)) × (s.seen ≡ saturated (length (delays_of i (ends_in t first))))
       here s got =
           let within : i < length starts = let w = slice_get_within (with_begin i now starts) i s got in let c = length-set starts i (begun_by now (get_or starts i nothing_begun)) in omega (arith, w, c) in
           let old = get_or starts i nothing_begun in
@@ -174,7 +174,7 @@ module _ (t : TopologyValue) where
             ap (λ v. v.seen) new ∙ z.1,
           )
 
-      elsewhere : (j : ℕ) (s : Start) → (j ≡ i → ⊥) → slice_get (with_begin i now starts) j ≡ Some s → (s.begun ≡ begun_in t j (suc n)) × (s.seen ≡ saturated (length (delays_of j (ends_in t first))))
+      elsewhere : (j : ℕ) (s : SourceStart) → (j ≡ i → ⊥) → slice_get (with_begin i now starts) j ≡ Some s → (s.begun ≡ begun_in t j (suc n)) × (s.seen ≡ saturated (length (delays_of j (ends_in t first))))
       elsewhere j s apart got =
           let z = h.each j s (sym (set_other starts i j (begun_by now (get_or starts i nothing_begun)) apart) ∙ got) in
           let same : sent_in (net_of t) j n ≡ sent_in (net_of t) j (suc n) = let l = made_later t n e place next at j ∙ ap (λ p. sent_in (net_of t) j n + made_at j p) is in let r = rests i j apart in omega (arith, l, r) in

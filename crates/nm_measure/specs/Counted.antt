@@ -58,20 +58,20 @@ FitsReason fate.Requested reason = is_told reason ≡ false
 FitsReason fate.Refused reason = is_told reason ≡ false
 FitsReason fate.Discarded reason = is_told reason ≡ false
 
-abbrev pub is_at : EndPlace → ℕ → Bool
-is_at (Node v) home = v == home
-is_at (Iface i) home = false
+abbrev pub is_at_home : EndPlace → ℕ → Bool
+is_at_home (Node v) home = v == home
+is_at_home (Iface i) home = false
 
 -- the reply to a packet that a source made came to an end
 abbrev pub is_answer : WayEnd → Bool
 is_answer e = is_reply e.tag.role && is_told e.reason
 
 -- at the node of source j, or elsewhere
-abbrev pub answers : ℕ → WayEnd → Bool
-answers j e = is_answer e && ((e.tag.source == j) && is_at e.place e.tag.home)
+abbrev pub comes_home : ℕ → WayEnd → Bool
+comes_home j e = is_answer e && ((e.tag.source == j) && is_at_home e.place e.tag.home)
 
 abbrev pub strays : ℕ → WayEnd → Bool
-strays j e = is_answer e && ((e.tag.source == j) && not (is_at e.place e.tag.home))
+strays j e = is_answer e && ((e.tag.source == j) && not (is_at_home e.place e.tag.home))
 
 -- packets of source j whose ways ended so
 abbrev pub ended_so : ℕ → PacketOutcome → WayEnd → Bool
@@ -92,7 +92,7 @@ octets_delivered j ends = sum_by (λ e. e.octets) (keep_where (ended_so j Delive
 -- from a source's event to the arrival of the reply to what it made then, in the order of the
 -- arrivals; and how many replies came elsewhere
 abbrev pub trips_of : ℕ → List WayEnd → List ℕ
-trips_of j ends = map (λ e. e.time - e.tag.at) (keep_where (answers j) ends)
+trips_of j ends = map (λ e. e.time - e.tag.at) (keep_where (comes_home j) ends)
 
 abbrev pub astray_of : ℕ → List WayEnd → ℕ
 astray_of j ends = count_by (strays j) ends

@@ -59,7 +59,7 @@ pub record IsPercentile (ds : List ℕ) (thousandths p : ℕ) : Type 0 where
   pub least : count_by (λ d. nat_lt d p) ds < rank_of (length ds) thousandths
 
 -- the rows of these delays, by rising delays
-pub record AreRows (ds : List ℕ) (is_rounded : Bool) (rows : List Row) : Type 0 where
+pub record AreSpreadRows (ds : List ℕ) (is_rounded : Bool) (rows : List Row) : Type 0 where
   pub spread : IsSpread ds rows is_rounded
   pub rise : IsNonDecreasingBy (λ r. r.delay) rows
 

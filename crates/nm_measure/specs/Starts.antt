@@ -10,15 +10,15 @@ use Rattle.nm_measure.specs.Delays.{AreDelays}
 use Rattle.nm_measure.specs.Sent.{sent_in}
 use Rattle.nm_measure.specs.Ways.{ends_in, time_of}
 
-pub record Start : Type 0 where
+pub record SourceStart : Type 0 where
   -- the time of the source's first event, if it had one
   pub begun : Option ℕ
   pub seen : ℕ
 
-abbrev pub start_of : FlowTimes → Start
+abbrev pub start_of : FlowTimes → SourceStart
 start_of x = record { begun = x.begun; seen = x.delays.seen }
 
-abbrev pub nothing_begun : Start
+abbrev pub nothing_begun : SourceStart
 nothing_begun = record { begun = None; seen = 0 }
 
 -- a source has an event
@@ -26,10 +26,10 @@ abbrev pub first_time : ℕ → Option ℕ → Option ℕ
 first_time now None = Some now
 first_time now (Some time) = Some time
 
-abbrev pub begun_by : ℕ → Start → Start
+abbrev pub begun_by : ℕ → SourceStart → SourceStart
 begun_by now s = record { begun = first_time now s.begun; seen = s.seen }
 
-abbrev pub with_begin : (j now : ℕ) → List Start → List Start
+abbrev pub with_begin : (j now : ℕ) → List SourceStart → List SourceStart
 with_begin j now starts = slice_set starts j (begun_by now (slice_index_or starts j nothing_begun))
 
 -- the time of a source's first packet, if it made so many
@@ -41,9 +41,9 @@ abbrev pub begun_in : TopologyValue → (j n : ℕ) → Option ℕ
 begun_in t j n = begun_of ((net_of t).source j 0) (sent_in (net_of t) j n)
 
 -- of each source, after n events; the greatest is looked for since `first` events
-pub record AreStarts (t : TopologyValue) (first n : ℕ) (starts : List Start) : Type 0 where
+pub record AreStarts (t : TopologyValue) (first n : ℕ) (starts : List SourceStart) : Type 0 where
   pub count : length starts ≡ length t.sources
-  pub each : (j : ℕ) (s : Start) → slice_get starts j ≡ Some s
+  pub each : (j : ℕ) (s : SourceStart) → slice_get starts j ≡ Some s
       → (s.begun ≡ begun_in t j n) × (s.seen ≡ saturated (length (delays_of j (ends_in t first))))
 
 -- the greatest delays are looked for anew

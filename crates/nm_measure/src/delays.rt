@@ -4,7 +4,7 @@ ghost use Rattle.std.specs.Prelude.{◌≡◌, ℕ, ◌+◌, ◌<◌, ◌≤◌,
 ghost use Rattle.std.specs.Prelude.{◌++◌, length};
 ghost use Rattle.nm_base.specs.Count.{saturated};
 ghost use Rattle.nm_measure.specs.Added.{AreAdded, ShowsPercentile};
-ghost use Rattle.nm_measure.specs.Spread.{AreRows, bucket_of, different_of};
+ghost use Rattle.nm_measure.specs.Spread.{AreSpreadRows, bucket_of, different_of};
 ghost use Rattle.std.specs.Option.{option_map};
 ghost use Rattle.std.specs.Prelude.{Some, slice_get};
 ghost use Rattle.nm_measure.specs.Sums.{jitter_of, least_after, mean_of, sum_to};
@@ -101,7 +101,7 @@ impl Delays {
     pub fn rows(&self) -> usize
         ensures count { result ≡ length self.now.spread.rows.items }
         ensures spread { (ds : List ℕ) → AreDelays ds self.now → length ds < 2 ^ 64
-            → AreRows ds self.now.spread.is_rounded self.now.spread.rows.items }
+            → AreSpreadRows ds self.now.spread.is_rounded self.now.spread.rows.items }
     {
         self.spread.rows()
     }

@@ -83,7 +83,7 @@ pub record SaysMeasures (f : FlowCounts) (x : FlowTimes) (ds es : List ℕ) (sai
   pub is : after ≡ before ++ said values
 
 -- what was measured of source j in the first n events of the one event list
-pub record IsMeasured (t : TopologyValue) (n j : ℕ) (f : FlowCounts) (x : FlowTimes) : Type 0 where
+pub record IsSourceMeasured (t : TopologyValue) (n j : ℕ) (f : FlowCounts) (x : FlowTimes) : Type 0 where
   pub sent : f.sent ≡ saturated (sent_in (net_of t) j n)
   pub balances : Balances f
   pub ended : HasEnds j (ends_in t n) f
@@ -94,7 +94,7 @@ pub record IsMeasured (t : TopologyValue) (n j : ℕ) (f : FlowCounts) (x : Flow
 pub record HasMeasures (t : TopologyValue) (n j : ℕ) (values : List ℕ) : Type 0 where
   pub counts : FlowCounts
   pub times : FlowTimes
-  pub is : IsMeasured t n j counts times
+  pub is : IsSourceMeasured t n j counts times
   pub are : AreMeasures counts times (delays_of j (ends_in t n)) (trips_of j (ends_in t n)) values
 
 -- its lines

@@ -2,7 +2,7 @@
 use Rattle.std.specs.Prelude.{◌≡◌, ℕ, zero, suc, Bool, List, [], ◌∷◌, ◌++◌, codes, decimal}
 use Rattle.nm_topology.specs.TopologyValue.{TopologyValue}
 use Rattle.nm_measure.specs.Counted.{delays_of}
-use Rattle.nm_measure.specs.Spread.{AreRows, bucket_of}
+use Rattle.nm_measure.specs.Spread.{AreSpreadRows, bucket_of}
 use Rattle.nm_measure.specs.Ways.{ends_in}
 use Rattle.nm_measure.specs.declared.spread.Bucket.{Bucket}
 use Rattle.nm_measure.specs.declared.spread.Row.{Row}
@@ -26,7 +26,7 @@ bucket_rows j is_rounded (r ∷ rs) =
 pub record AreBuckets (t : TopologyValue) (n j : ℕ) (text : List ℕ) : Type 0 where
   pub is_rounded : Bool
   pub rows : List Row
-  pub are : AreRows (delays_of j (ends_in t n)) is_rounded rows
+  pub are : AreSpreadRows (delays_of j (ends_in t n)) is_rounded rows
   pub is : text ≡ bucket_rows j is_rounded rows
 
 -- the names of the columns, and the rows of the first k sources, one behind another

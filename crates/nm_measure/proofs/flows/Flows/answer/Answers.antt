@@ -1,5 +1,5 @@
 use Rattle.std.proofs.Common.{rules, ◌≡◌, ◌<◌, ◌≤◌, ◌-◌, ◌==◌, ◌++◌, ◌∷◌, ℕ, [], true, false, length, refl, sym, ap, subst, ◌∙◌, arith}
-use Rattle.nm_measure.specs.Counted.{is_at, is_reply, is_told}
+use Rattle.nm_measure.specs.Counted.{is_at_home, is_reply, is_told}
 use Rattle.nm_measure.specs.Delays.{AreDelays}
 use Rattle.nm_measure.specs.declared.tag.Tag.{Tag}
 use Rattle.nm_measure.proofs.Flowing.{flows_answered, flows_strayed, flows_unasked, on_ok}
@@ -17,7 +17,7 @@ returns-in-Some-get_mut-clause-flows c = λ ends under e same time reason place 
     let k = c.index-source.result in
     let there : k < length counts = search rules in
     let away : (c.args.arrival.node == c.args.tag.now.home) ≡ false = search rules in
-    flows_strayed ends e under counts c.args.self.now.times.items (ap (λ tag. is_reply tag.role) same ∙ c.requires) (ap is_told reason) (ap (is_at e.place) (ap (λ tag. tag.home) same) ∙ ap (λ p. is_at p c.args.tag.now.home) place ∙ away) was
+    flows_strayed ends e under counts c.args.self.now.times.items (ap (λ tag. is_reply tag.role) same ∙ c.requires) (ap is_told reason) (ap (is_at_home e.place) (ap (λ tag. tag.home) same) ∙ ap (λ p. is_at_home p c.args.tag.now.home) place ∙ away) was
     k c.in-Some-get_mut.counts.now c.go_astray.new.self (read_at counts k k c.in-Some-get_mut.counts.now refl there c.in-Some-get_mut.ensures.value)
     (ap (λ tag. tag.source) same ∙ sym c.index-source.ensures) c.go_astray.ensures.same c.go_astray.ensures.astray
 
@@ -30,7 +30,7 @@ returns-in-Some-clause-flows c =
     let there : k < length times = search rules in
     let home : (c.args.arrival.node == c.args.tag.now.home) ≡ true = search rules in
     on_ok c.answer.result _ _ (λ added ends under e same time reason place was.
-    flows_answered ends e under c.args.self.now.counts.items times (ap (λ tag. is_reply tag.role) same ∙ c.requires) (ap is_told reason) (ap (is_at e.place) (ap (λ tag. tag.home) same) ∙ ap (λ p. is_at p c.args.tag.now.home) place ∙ home) was
+    flows_answered ends e under c.args.self.now.counts.items times (ap (λ tag. is_reply tag.role) same ∙ c.requires) (ap is_told reason) (ap (is_at_home e.place) (ap (λ tag. tag.home) same) ∙ ap (λ p. is_at_home p c.args.tag.now.home) place ∙ home) was
     k x y (read_at times k k x refl there c.in-Some.ensures.value) (ap (λ tag. tag.source) same ∙ sym c.index-source.ensures) c.answer.ensures.delays c.answer.ensures.octets c.answer.ensures.ended
     (λ ds h. subst (λ (p : ℕ × Tag). AreDelays (ds ++ (p.0 - p.1.at) ∷ []) y.round_trips) (λ i. (sym time i, sym same i)) (added ds h))) c.answer.ensures.added
 
