@@ -3,6 +3,7 @@
 
 pub mod ending;
 pub mod fault;
+pub mod laws;
 pub mod process;
 
 pub use ending::ProcessEnd;

@@ -93,6 +93,16 @@ fn is_full(standing: Standing) -> bool
     standing.records.saturating_sub(standing.handed) > MAX_KEPT
 }
 
+/// Whether a book in this state is to have a job, if it is lent or not.
+fn has_job(is_lent: bool, standing: Standing) -> bool
+    ensures only { result ≡ true → (is_lent ≡ true) × (standing.is_done ≡ false)
+        × (standing.records - standing.handed ≤ MAX_KEPT) }
+    ensures all { is_lent ≡ true → standing.is_done ≡ false
+        → standing.records - standing.handed ≤ MAX_KEPT → result ≡ true }
+{
+    is_lent && !standing.is_done && !is_full(standing)
+}
+
 impl<'a> Watched<'a> {
     /// The notes of this replica's book, which has had no job.
     pub(crate) fn new(
@@ -151,7 +161,7 @@ impl<'a> Watched<'a> {
         }
         let standing = self.own.book.act(rt, &mut self.pass, Stand);
         self.note_standing(&standing);
-        is_lent && !self.is_done && !is_full(standing)
+        has_job(is_lent, standing)
     }
 
     /// Notes the state of its book, which was just read.
