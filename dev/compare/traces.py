@@ -253,9 +253,9 @@ def every(paths):
     tallies = []
     with process.folder("compare") as folder:
         files = [("files", "the files named", plain.of_files(paths))]
-        for name, what, topologies in files if paths else plain.every(folder):
+        for name, what, labelled in files if paths else plain.every(folder):
             tallies.append(Tally(name, what))
-            for label, topology in topologies:
+            for label, topology in labelled:
                 try_whole(label, topology, tallies[-1])
     return tallies if paths else tallies + try_parts()
 

@@ -51,7 +51,6 @@ nm_check/faults MAX_FAULTS: each other table follows, at most # and
 nm_paths/path DEFAULT_TIME_TO_LIVE: sends to ADDRESS with a time to live of #:
 nm_measure/spread EXACT_ROWS: while a source has up to # different delays
 nm_measure/spread KEPT_BITS: rounded down to its # highest bits
-nm_series/buckets MOST_ROWS: A source takes at most # rows
 nm_series/steps MAX_ROWS: More than # rows are refused
 nm_base/limits MAX_INPUT_OCTETS: It may have # octets; one more
 docs/PROTOCOL.md
