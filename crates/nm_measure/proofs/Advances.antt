@@ -44,7 +44,7 @@ module _ (t : TopologyValue) where
       → ((n : ℕ) → HasWatched t n m → WatchesRun t n w)
       → ((first n : ℕ) → HasWatched t n m → HasStarts t first n m → AreStarts t n n (map start_of w.flows.times.items))
       → sent_numbers w.flows.counts.items ≡ m.sent
-      → IsMeasuring t m.part.steps until (record m { seen = seen; sent = sent_numbers w.flows.counts.items; counts = w.flows.counts.items; times = w.flows.times.items; lanes = w.lanes.items })
+      → IsMeasuring t m.part.steps until (record m { seen = seen; sent = sent_numbers w.flows.counts.items; counts = w.flows.counts.items; times = w.flows.times.items; lanes = w.lanes.items; courses = w.courses })
   measuring_first from until m h le seen w begins watches starts sent = record {
     events = h.events;
     early = λ n l. later from until (least (one_list (net_of t) n).pending) le (h.over.first n l);

@@ -1,6 +1,8 @@
 -- What the end of a transmission does to the tags of packets.
 use Rattle.std.proofs.Common.{◌⊎◌, inl, inr, append-nil, ◌≡◌, ℕ, suc, ◌≤◌, true, List, [], ◌∷◌, ◌++◌, map, length, Option, Some, None, refl, sym, ap, ◌∙◌}
+use Rattle.std.proofs.lemmas.List.{map-append}
 use Rattle.std.specs.Option.{option_map}
+use Rattle.nm_base.specs.declared.record.Dir.TheVariants.{Out}
 use Rattle.nm_base.specs.declared.event.Event.{Event}
 use Rattle.nm_base.specs.declared.event.Event.TheVariants.{Completion}
 use Rattle.nm_base.specs.declared.key.Place.TheVariants.{Complete}
@@ -12,7 +14,7 @@ use Rattle.nm_model.specs.Lists.{set_at}
 use Rattle.nm_model.specs.Orderly.{IsOrderly}
 use Rattle.nm_model.specs.Network.{IsNet}
 use Rattle.nm_model.specs.Port.{Busy, completed, waiting_of}
-use Rattle.nm_model.specs.Run.{Effect, State, arrived_after, effect, one_list, at_iface, sent_after, turned, turned_by}
+use Rattle.nm_model.specs.Run.{Effect, State, arrived_after, effect, in_record, one_list, out_record, at_iface, sent_after, turned, turned_by}
 use Rattle.nm_model.specs.Tags.{IsUntagged, untagged_busy, untagged_event}
 use Rattle.nm_model.proofs.Keys.{key_at, least_has}
 use Rattle.nm_model.proofs.Untagging.{tagged_first}
@@ -23,18 +25,20 @@ use Rattle.nm_sim.specs.Told.{started_octets}
 use Rattle.nm_sim.specs.declared.told.Started.{Started}
 use Rattle.nm_sim.specs.declared.told.Happened.{Happened}
 use Rattle.nm_measure.specs.declared.tag.Tag.{Tag}
+use Rattle.nm_measure.specs.Courses.{pass_of, passes_in}
 use Rattle.nm_measure.specs.Interfaces.{IsNext}
 use Rattle.nm_measure.specs.Lanes.{lanes_in}
 use Rattle.nm_measure.specs.Ways.{ends_at, ends_in, ends_next, tagged_list, tagged_net}
 use Rattle.nm_measure.proofs.Tagged.{lanes_of, lanes_started, lanes_turned, set_as}
-use Rattle.nm_measure.proofs.Turns.{next_state}
+use Rattle.nm_measure.proofs.Turns.{next_records, next_state}
 use Rattle.nm_measure.proofs.Following.{few_arrived}
 
 -- at the end of a transmission: what waited longest starts, if something did
-pub record CompletionStep (t : TopologyValue) (n i : ℕ) (h : Happened) : Type 0 where
-  pub is : ((h.started ≡ None) × ((k : ℕ) → lanes_in t (tagged_list t n) k ≡ lanes_in t (tagged_list t (suc n)) k))
+pub record CompletionStep (t : TopologyValue) (n now i : ℕ) (h : Happened) : Type 0 where
+  pub is : ((h.started ≡ None) × ((k : ℕ) → lanes_in t (tagged_list t n) k ≡ lanes_in t (tagged_list t (suc n)) k) × (passes_in t n ≡ passes_in t (suc n)))
       ⊎ ((z : Started) × (h.started ≡ Some z) × (z.iface ≡ i) × (tag : Tag) × (waits : List Tag) × ((lanes_in t (tagged_list t n) i).1 ≡ tag ∷ waits)
-      × ((k : ℕ) → set_at (lanes_in t (tagged_list t n)) i ((lanes_in t (tagged_list t n) i).0 ++ tag ∷ [], waits) k ≡ lanes_in t (tagged_list t (suc n)) k))
+      × ((k : ℕ) → set_at (lanes_in t (tagged_list t n)) i ((lanes_in t (tagged_list t n) i).0 ++ tag ∷ [], waits) k ≡ lanes_in t (tagged_list t (suc n)) k)
+      × (passes_in t n ++ (tag, record { iface = i; dir = Out; time = now }) ∷ [] ≡ passes_in t (suc n)))
   pub ends : ends_in t n ≡ ends_in t (suc n)
 
 module _ (t : TopologyValue) (n : ℕ) (kept : IsUntagged (tagged_list t n) (one_list (net_of t) n)) (is_net : IsNet (tagged_net t)) (orderly : IsOrderly (tagged_net t) (λ q. true) (tagged_list t n))
@@ -72,11 +76,20 @@ module _ (t : TopologyValue) (n : ℕ) (kept : IsUntagged (tagged_list t n) (one
       ∙ ap (λ b. started_octets (at_iface i (completed ((net_of t).tx i) next.event.0.time (state.port i).dropped (option_map untagged_busy b)).1)) is
 
   abbrev Step : Type 0
-  Step = ((h.started ≡ None) × ((k : ℕ) → lanes_in t (tagged_list t n) k ≡ lanes_in t (tagged_list t (suc n)) k))
+  Step = ((h.started ≡ None) × ((k : ℕ) → lanes_in t (tagged_list t n) k ≡ lanes_in t (tagged_list t (suc n)) k) × (passes_in t n ≡ passes_in t (suc n)))
       ⊎ ((z : Started) × (h.started ≡ Some z) × (z.iface ≡ i) × (tag : Tag) × (waits : List Tag) × ((lanes_in t (tagged_list t n) i).1 ≡ tag ∷ waits)
-      × ((k : ℕ) → set_at (lanes_in t (tagged_list t n)) i ((lanes_in t (tagged_list t n) i).0 ++ tag ∷ [], waits) k ≡ lanes_in t (tagged_list t (suc n)) k))
+      × ((k : ℕ) → set_at (lanes_in t (tagged_list t n)) i ((lanes_in t (tagged_list t n) i).0 ++ tag ∷ [], waits) k ≡ lanes_in t (tagged_list t (suc n)) k)
+      × (passes_in t n ++ (tag, record { iface = i; dir = Out; time = now }) ∷ [] ≡ passes_in t (suc n)))
 
-  pub completion_step : CompletionStep t n i h
+  passes_are : (o : Option (Busy (Tag × List ℕ))) → (state.port i).busy ≡ o → passes_in t (suc n) ≡ passes_in t n ++ map pass_of (out_record now (with_busy o).transmission)
+  passes_are o is =
+      ap (map pass_of) (next_records (tagged_net t) n (next.event.0, there.0) there.1)
+      ∙ map-append pass_of state.records _
+      ∙ ap (λ f. passes_in t n ++ map pass_of (in_record next.event.0.time (effect (tagged_net t) state.node state.port next.event.0.time next.event.0.number f).came
+      ++ out_record next.event.0.time (effect (tagged_net t) state.node state.port next.event.0.time next.event.0.number f).transmission)) completes.1
+      ∙ (λ j. passes_in t n ++ map pass_of (out_record (next.at_time j) (with_busy (is j)).transmission))
+
+  pub completion_step : CompletionStep t n now i h
   completion_step = record {
     is = go completes.0.waiting (completes.2 ∙ refl);
     ends = sym (append-nil (ends_in t n)) ∙ sym (ap (λ o. ends_in t n ++ ends_next t state o) there.1 ∙ ap (λ f. ends_in t n ++ ends_at t state next.event.0.time f) completes.1);
@@ -92,6 +105,7 @@ module _ (t : TopologyValue) (n : ℕ) (kept : IsUntagged (tagged_list t n) (one
             ∙ lanes_turned (tagged_net t) is_net state.port state.sent state.arrived low i (record { busy = None; dropped = (state.port i).dropped }) k
             ∙ set_as (tagged_net t) is_net state.port state.sent state.arrived low (lanes_in t (tagged_list t n)) i ((lanes_in t (tagged_list t n) i).0, [])
             (ap (λ l. ((lanes_in t (tagged_list t n) i).0, l)) (sym (waits_are (Some (record { completes = completes.0.completes; waiting = [] })) is))) k),
+        sym (passes_are (Some (record { completes = completes.0.completes; waiting = [] })) is ∙ append-nil (passes_in t n)),
       )
       go (x ∷ waits) is = inr (
         record { iface = i; octets = length x.1 },
@@ -102,4 +116,5 @@ module _ (t : TopologyValue) (n : ℕ) (kept : IsUntagged (tagged_list t n) (one
         waits_are (Some (record { completes = completes.0.completes; waiting = x ∷ waits })) is,
         λ k. sym (after (Some (record { completes = completes.0.completes; waiting = x ∷ waits })) is k
             ∙ lanes_started (tagged_net t) is_net state.port state.sent state.arrived low i _ _ x k),
+        sym (passes_are (Some (record { completes = completes.0.completes; waiting = x ∷ waits })) is),
       )

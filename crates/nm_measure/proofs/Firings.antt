@@ -1,5 +1,6 @@
 -- What a source's event does to the tags of packets.
-use Rattle.std.proofs.Common.{◌^◌, zero, ◌==◌, slice_get, ◌≡◌, ◌≢◌, ℕ, suc, ◌+◌, ◌<◌, ◌≤◌, Bool, true, false, cond, List, ◌++◌, length, Option, Some, None, refl, sym, ap, ◌∙◌, subst, arith, ⊎_elim}
+use Rattle.std.proofs.Common.{◌^◌, zero, ◌==◌, slice_get, ◌≡◌, ◌≢◌, ℕ, suc, ◌+◌, ◌<◌, ◌≤◌, Bool, true, false, cond, List, ◌++◌, map, length, Option, Some, None, refl, sym, ap, ◌∙◌, subst, arith, ⊎_elim}
+use Rattle.std.proofs.lemmas.List.{map-append}
 use Rattle.std.proofs.lemmas.Option.{slice_get_cases}
 use Rattle.nm_base.specs.declared.event.Event.{Event}
 use Rattle.nm_base.specs.declared.event.Event.TheVariants.{Delivery}
@@ -15,7 +16,7 @@ use Rattle.nm_model.specs.Orderly.{IsOrderly}
 use Rattle.nm_model.specs.RunLaws.{KeysRise}
 use Rattle.nm_model.specs.Network.{IsNet}
 use Rattle.nm_model.specs.Offers.{offering_in, offering_of}
-use Rattle.nm_model.specs.Run.{Effect, State, arrived_after, effect, one_list, by_source, sent_after, sent_on, turned}
+use Rattle.nm_model.specs.Run.{Effect, State, arrived_after, effect, in_record, one_list, out_record, by_source, sent_after, sent_on, turned}
 use Rattle.nm_model.specs.Tags.{IsUntagged, untagged_event, with_tag}
 use Rattle.nm_model.specs.declared.offering.Offering.{Offering}
 use Rattle.nm_model.specs.declared.offering.Offering.TheVariants as became
@@ -29,6 +30,7 @@ use Rattle.nm_sim.specs.Network.{net_of}
 use Rattle.nm_sim.specs.Part.{PartValue}
 use Rattle.nm_sim.specs.declared.told.Happened.{Happened}
 use Rattle.nm_measure.specs.declared.tag.Tag.{Tag}
+use Rattle.nm_measure.specs.Courses.{pass_of, passes_in}
 use Rattle.nm_measure.specs.Interfaces.{IsNext}
 use Rattle.nm_measure.specs.Lanes.{CanBe, lanes_in, with_offer}
 use Rattle.nm_model.specs.Before.{events_at, is_at, same_place}
@@ -36,7 +38,8 @@ use Rattle.nm_measure.specs.Sent.{AreSent, is_fire, made_by, sent_in}
 use Rattle.nm_measure.specs.Tagged.{SendsByOwn}
 use Rattle.nm_measure.specs.Ways.{WayEnd, dropped_as, drop_at, end_at, unsent_at, ends_at, ends_in, ends_next, made_as, own_tag, time_of, tagged_list, tagged_net, tagging}
 use Rattle.nm_measure.proofs.Tagged.{lanes_of, lanes_offered}
-use Rattle.nm_measure.proofs.Turns.{next_state}
+use Rattle.nm_measure.proofs.Passing.{started_of, started_passes}
+use Rattle.nm_measure.proofs.Turns.{next_records, next_state}
 use Rattle.nm_measure.proofs.Following.{came_with, can_be, few_arrived, offering_kept, sends_there, tag_of}
 
 -- how many packets a source made is how many events it had
@@ -66,8 +69,9 @@ pub record SourceStep (t : TopologyValue) (n now j : ℕ) (h : Happened) : Type 
   pub packet : List ℕ
   pub can : CanBe (length t.ifaces) (lanes_in t (tagged_list t n)) h.offering
   pub lanes : (k : ℕ) → with_offer h.offering (own_tag j ((net_of t).source_node j) (sent_in (net_of t) j n) now) (lanes_in t (tagged_list t n)) k ≡ lanes_in t (tagged_list t (suc n)) k
-  pub ends : ends_in t n ++ made_as (end_at (unsent_at t ((net_of t).source_node j) packet) ((net_of t).source_node j) now (own_tag j ((net_of t).source_node j) (sent_in (net_of t) j n) now, packet) Discarded)
+  pub ends : ends_in t n ++ made_as (end_at (unsent_at t j) ((net_of t).source_node j) now (own_tag j ((net_of t).source_node j) (sent_in (net_of t) j n) now, packet) Discarded)
       (drop_at now (own_tag j ((net_of t).source_node j) (sent_in (net_of t) j n) now, packet)) h.offering ≡ ends_in t (suc n)
+  pub passes : passes_in t n ++ started_passes h.offering (own_tag j ((net_of t).source_node j) (sent_in (net_of t) j n) now) now ≡ passes_in t (suc n)
 
 module _ (t : TopologyValue) (own : SendsByOwn t) (n : ℕ) (kept : IsUntagged (tagged_list t n) (one_list (net_of t) n)) (is_net : IsNet (tagged_net t)) (orderly : IsOrderly (tagged_net t) (λ q. true) (tagged_list t n))
     (rises : KeysRise (net_of t) n) (now j : ℕ) (p : PartValue Held) (h : Happened) (next : IsNext t n now (Fire j) p h) where
@@ -122,6 +126,17 @@ module _ (t : TopologyValue) (own : SendsByOwn t) (n : ℕ) (kept : IsUntagged (
       ∙ (λ i. offering_in (net_of t) (kept.nodes i) (kept.ports i) ((there.2 ∙ ap untagged_event made.1) i))
       ∙ offering_kept (net_of t) (tagging t) state.port made.0.0 r.1
 
+  passes_are : passes_in t n ++ started_passes h.offering made.0.0 now ≡ passes_in t (suc n)
+  passes_are = sym (
+      ap (map pass_of) (next_records (tagged_net t) n (next.event.0, there.0) there.1)
+      ∙ map-append pass_of state.records _
+      ∙ ap (λ f. passes_in t n ++ map pass_of (in_record next.event.0.time (effect (tagged_net t) state.node state.port next.event.0.time next.event.0.number f).came
+      ++ out_record next.event.0.time (effect (tagged_net t) state.node state.port next.event.0.time next.event.0.number f).transmission)) made.1
+      ∙ ap (λ o. passes_in t n ++ map pass_of (in_record next.event.0.time o ++ out_record next.event.0.time sends.transmission))
+      (came_with (tagged_net t) state.port next.event.0.time None r.0 (with_tag made.0.0 r.1) follows)
+      ∙ ap (λ l. passes_in t n ++ l) (started_of (tagged_net t) state.port next.event.0.time None r.0 (with_tag made.0.0 r.1) follows made.0.0 (λ x. tag_of made.0.0 r.1 x))
+      ∙ (λ i. passes_in t n ++ started_passes (sym offer_is i) made.0.0 (next.at_time i)))
+
   pub source_step : SourceStep t n now j h
   source_step = record {
     packet = made.0.1;
@@ -132,8 +147,9 @@ module _ (t : TopologyValue) (own : SendsByOwn t) (n : ℕ) (kept : IsUntagged (
         (λ i. with_offer (offer_is i) (sym tag_is i) (lanes_in t (tagged_list t n)) k)
         ∙ sym (lanes_offered (tagged_net t) is_net state.port state.sent state.arrived low next.event.0.time None r.0 (with_tag made.0.0 r.1) follows made.0.0 (λ x. tag_of made.0.0 r.1 x) k)
         ∙ sym (after k);
-    ends = (λ i. ends_in t n ++ made_as (end_at (unsent_at t ((net_of t).source_node j) made.0.1) ((net_of t).source_node j) (sym next.at_time i) (sym tag_is i, made.0.1) Discarded) (drop_at (sym next.at_time i) (sym tag_is i, made.0.1)) (offer_is i))
+    ends = (λ i. ends_in t n ++ made_as (end_at (unsent_at t j) ((net_of t).source_node j) (sym next.at_time i) (sym tag_is i, made.0.1) Discarded) (drop_at (sym next.at_time i) (sym tag_is i, made.0.1)) (offer_is i))
         ∙ sym (ap (λ o. ends_in t n ++ ends_next t state o) there.1 ∙ ap (λ f. ends_in t n ++ ends_at t state next.event.0.time f) made.1);
+    passes = (λ i. passes_in t n ++ started_passes h.offering (sym tag_is i) now) ∙ passes_are;
   }
 
 -- how many packets a source made, as it is counted

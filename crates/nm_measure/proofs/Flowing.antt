@@ -1,5 +1,5 @@
 -- The numbers of sources after one end more.
-use Rattle.std.proofs.Common.{Result, Ok, Err, OnOk, ◌≡◌, ◌≢◌, ℕ, suc, ◌+◌, ◌-◌, ◌<◌, ◌≤◌, ◌==◌, ◌&&◌, not, Bool, true, false, cond, ltb, List, [], ◌∷◌, ◌++◌, length, map, sum_by, count_by, Some, slice_get, slice_set, replicate, get_or, refl, sym, ap, ◌∙◌, subst, arith, ⊎_elim, length-set, append-nil}
+use Rattle.std.proofs.Common.{Result, Ok, Err, OnOk, ◌≡◌, ◌≢◌, ℕ, suc, ◌+◌, ◌-◌, ◌<◌, ◌≤◌, ◌==◌, ◌&&◌, not, Bool, true, false, cond, ltb, List, [], ◌∷◌, ◌++◌, length, map, sum_by, count_by, Option, None, Some, slice_get, slice_set, replicate, get_or, refl, sym, ap, ◌∙◌, subst, arith, ⊎_elim, length-set, append-nil}
 use Rattle.std.specs.Prelude.{IsSomeAnd}
 use Rattle.std.specs.Option.{option_map}
 use Rattle.std.proofs.lemmas.List.Sums.{fold_push, sum_by_push}
@@ -28,7 +28,11 @@ use Rattle.nm_measure.specs.Delays.{AreDelays}
 use Rattle.nm_measure.specs.Sums.{last_of}
 use Rattle.nm_measure.specs.Flows.{Ends, counts_of, ended_of, sent_numbers}
 use Rattle.nm_measure.specs.Lanes.{one_of}
-use Rattle.nm_measure.specs.Ways.{WayEnd, fate_by, nobodys, own_tag}
+use Rattle.nm_forward.specs.State.{NodeConfiguration, is_own}
+use Rattle.nm_topology.specs.declared.traffic.Source.{Source}
+use Rattle.nm_topology.specs.declared.traffic.Traffic.{Traffic}
+use Rattle.nm_topology.specs.declared.traffic.Traffic.TheVariants.{Cbr, Echo, Raw}
+use Rattle.nm_measure.specs.Ways.{WayEnd, fate_by, nobodys, own_tag, unsent_by, unsent_of}
 use Rattle.nm_measure.specs.Starts.{IsRecent}
 use Rattle.nm_measure.proofs.Lists.{AreTurned, mapped_some, set_other, set_same}
 
@@ -36,10 +40,10 @@ use Rattle.nm_measure.proofs.Lists.{AreTurned, mapped_some, set_other, set_same}
 count_push : {X : Type 0} (p : X → Bool) (xs : List X) (y : X) → count_by p (xs ++ y ∷ []) ≡ count_by p xs + cond (p y) 1 0
 count_push p xs y = sum_by_push (λ x. cond (p x) 1 0) xs y
 
-keep_yes : {X : Type 0} (p : X → Bool) (xs : List X) (y : X) → p y ≡ true → keep_where p (xs ++ y ∷ []) ≡ keep_where p xs ++ y ∷ []
+pub keep_yes : {X : Type 0} (p : X → Bool) (xs : List X) (y : X) → p y ≡ true → keep_where p (xs ++ y ∷ []) ≡ keep_where p xs ++ y ∷ []
 keep_yes p xs y h = kept-append p xs (y ∷ []) ∙ ap (λ b. keep_where p xs ++ cond b (y ∷ []) []) h
 
-keep_no : {X : Type 0} (p : X → Bool) (xs : List X) (y : X) → p y ≡ false → keep_where p (xs ++ y ∷ []) ≡ keep_where p xs
+pub keep_no : {X : Type 0} (p : X → Bool) (xs : List X) (y : X) → p y ≡ false → keep_where p (xs ++ y ∷ []) ≡ keep_where p xs
 keep_no p xs y h = kept-append p xs (y ∷ []) ∙ ap (λ b. keep_where p xs ++ cond b (y ∷ []) []) h ∙ append-nil (keep_where p xs)
 
 -- whose a tag is
@@ -336,9 +340,18 @@ quiet_end e f reason is fits other = ap (λ b. is_reply e.tag.role && b) (ap is_
 pub quiet_because : (e : WayEnd) → is_told e.reason ≡ false → is_answer e ≡ false
 quiet_because e h = ap (λ b. is_reply e.tag.role && b) h ∙ never (is_reply e.tag.role)
 
-pub unsent_told : (b : Bool) → is_told (Counted (cond b count.ToSelf count.NoRoute)) ≡ false
-unsent_told true = refl
-unsent_told false = refl
+self_told : (b : Bool) → is_told (Counted (cond b count.ToSelf count.NoRoute)) ≡ false
+self_told true = refl
+self_told false = refl
+
+pub unsent_told : (table : NodeConfiguration) (s : Option Source) → is_told (Counted (unsent_of table s)) ≡ false
+unsent_told table None = refl
+unsent_told table (Some s) = go s.traffic
+  where
+    go : (x : Traffic) → is_told (Counted (unsent_by table x)) ≡ false
+    go (Cbr c) = self_told (is_own table c.to)
+    go (Echo e) = self_told (is_own table e.to)
+    go (Raw r) = refl
 
 -- why a packet ends, by the counter that rose
 pub reason_fits : (c : Counter) → FitsReason (fate_by c) (Counted c)

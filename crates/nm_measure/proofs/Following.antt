@@ -2,6 +2,7 @@
 use Rattle.std.proofs.Common.{slice_get, append-nil, append_assoc, ◌≡◌, ℕ, suc, ◌+◌, ◌<◌, ◌≤◌, Bool, true, false, cond, List, [], ◌∷◌, ◌++◌, map, length, Option, Some, None, refl, sym, ap, ◌∙◌, subst, arith, ⊎_elim}
 use Rattle.std.specs.Option.{option_map}
 use Rattle.std.proofs.lemmas.Bool.{cases_lt}
+use Rattle.std.proofs.lemmas.List.{map-append}
 use Rattle.nm_base.specs.declared.event.Event.{Event}
 use Rattle.nm_base.specs.declared.event.Event.TheVariants.{Delivery}
 use Rattle.nm_base.specs.declared.event.Origin.{Origin}
@@ -43,6 +44,7 @@ use Rattle.nm_sim.specs.declared.told.Happened.{Happened}
 use Rattle.nm_measure.specs.declared.fates.Fate.{Fate}
 use Rattle.nm_measure.specs.declared.fates.Fate.TheVariants as fate
 use Rattle.nm_measure.specs.declared.tag.Tag.{Tag}
+use Rattle.nm_measure.specs.Courses.{pass_of, passes_in}
 use Rattle.nm_measure.specs.Interfaces.{IsNext}
 use Rattle.nm_measure.specs.Lanes.{CanBe, lanes_in, one_of, with_offer}
 use Rattle.nm_measure.specs.Tagged.{SendsByOwn}
@@ -51,6 +53,7 @@ use Rattle.nm_measure.proofs.Laning.{answer_counts_none}
 use Rattle.nm_measure.proofs.Tagged.{lanes_arrived, lanes_of, lanes_offered}
 use Rattle.nm_topology.specs.PartValues.{IfaceValue}
 use Rattle.nm_measure.proofs.Nodes.{far_is}
+use Rattle.nm_measure.proofs.Passing.{started_of, started_passes}
 use Rattle.nm_measure.proofs.Turns.{effect_at, next_records, next_state}
 
 -- the tag of what is sent
@@ -201,6 +204,7 @@ pub record ArrivalStep (t : TopologyValue) (n now c : ℕ) (h : Happened) : Type
   pub ends : (ends_in t n ++ ended_as (end_at (counter_at t ((net_of t).owner c) packet.1) ((net_of t).owner c) now packet) (outcome_by (fate_at t ((net_of t).owner c) packet.1)))
       ++ dropped_as (drop_at now (answer_tag (fate_at t ((net_of t).owner c) packet.1) packet.0, packet.1)) h.offering
       ≡ ends_in t (suc n)
+  pub passes : passes_in t n ++ (packet.0, record { iface = c; dir = In; time = now }) ∷ started_passes h.offering (answer_tag (fate_at t ((net_of t).owner c) packet.1) packet.0) now ≡ passes_in t (suc n)
 
 module _ (t : TopologyValue) (own : SendsByOwn t) (n : ℕ) (kept : IsUntagged (tagged_list t n) (one_list (net_of t) n)) (is_net : IsNet (tagged_net t)) (orderly : IsOrderly (tagged_net t) (λ q. true) (tagged_list t n))
     (rises : KeysRise (tagged_net t) n) where
@@ -313,6 +317,17 @@ module _ (t : TopologyValue) (own : SendsByOwn t) (n : ℕ) (kept : IsUntagged (
         ∙ append_assoc (ends_in t n) (ended_as (end_at (counter_at t v number.0.1) v next.event.0.time number.0) (outcome_by (fate_at t v number.0.1))) (dropped_as (drop_at next.event.0.time (answer, number.0.1)) (offering_of (tagged_net t) state.port (with_tag answer r.1)))
         ∙ sym (ap (λ o. ends_in t n ++ ends_next t state o) there.1 ∙ ap (λ f. ends_in t n ++ ends_at t state next.event.0.time f) number.1)
 
+    passes_are : passes_in t n ++ (number.0.0, record { iface = c; dir = In; time = now }) ∷ started_passes h.offering answer now ≡ passes_in t (suc n)
+    passes_are = sym (
+        ap (map pass_of) (next_records (tagged_net t) n (next.event.0, there.0) there.1)
+        ∙ map-append pass_of state.records _
+        ∙ ap (λ (e : Effect (Tag × List ℕ) NodeStateValue). passes_in t n ++ map pass_of (in_record next.event.0.time e.came ++ out_record next.event.0.time e.transmission)) does
+        ∙ ap (λ o. passes_in t n ++ map pass_of (in_record next.event.0.time o ++ out_record next.event.0.time sends.transmission))
+        (came_with (tagged_net t) state.port next.event.0.time (Some (c, number.0)) r.0 (with_tag answer r.1) None)
+        ∙ ap (λ l. passes_in t n ++ (number.0.0, record { iface = c; dir = In; time = next.event.0.time }) ∷ l)
+        (started_of (tagged_net t) state.port next.event.0.time (Some (c, number.0)) r.0 (with_tag answer r.1) None answer (λ x. tag_of answer r.1 x))
+        ∙ (λ i. passes_in t n ++ (number.0.0, record { iface = c; dir = In; time = next.at_time i }) ∷ started_passes (sym offer_is i) answer (next.at_time i)))
+
     pub arrival_step : ArrivalStep t n now c h
     arrival_step = record {
       packet = number.0;
@@ -323,4 +338,5 @@ module _ (t : TopologyValue) (own : SendsByOwn t) (n : ℕ) (kept : IsUntagged (
       nothing = none_offered;
       lanes = lanes_are;
       ends = ends_are;
+      passes = passes_are;
     }

@@ -33,6 +33,20 @@ own_set j lanes k x y at =
     let h = sum_by-set (λ (l : Lane). own_among j l.line.items) lanes k y x (slice_get_within lanes k x at) in
     subst (λ z. own_in j (slice_set lanes k y) + own_among j z.line.items ≡ own_in j lanes + own_among j y.line.items) (get_or_from_slice_get lanes k x x at) h
 
+-- what has waited longest, in the one queue of a lane
+middle : {X : Type 0} (xs ys : List X) (y : X) → slice_get (xs ++ y ∷ ys) (length xs) ≡ Some y
+middle [] ys y = refl
+middle (x ∷ xs) ys y = middle xs ys y
+
+pub first_waits : (tags : List Tag × List Tag) (x : Lane) → IsLane tags x → (tag : Tag) (waits : List Tag) → tags.1 ≡ tag ∷ waits → slice_get x.line.items (length x.line.items - x.waiting) ≡ Some tag
+first_waits tags x is tag waits first =
+    let line : x.line.items ≡ tags.0 ++ tag ∷ waits = is.line ∙ ap (λ l. tags.0 ++ l) first in
+    let long = ap length line in
+    let more = length-append tags.0 (tag ∷ waits) in
+    let count = is.waiting ∙ ap length first in
+    let place : length x.line.items - x.waiting ≡ length tags.0 = omega (arith, long, more, count) in
+    (λ i. slice_get (line i) (place i)) ∙ middle tags.0 waits tag
+
 abbrev AreLanes : (ℕ → List Tag × List Tag) → List Lane → Type 0
 AreLanes all lanes = (i : ℕ) (x : Lane) → slice_get lanes i ≡ Some x → IsLane (all i) x
 

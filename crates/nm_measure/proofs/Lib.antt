@@ -2,24 +2,31 @@ mod Added
 mod Advances
 mod Completions
 mod Counting
+mod Coursing
 mod Firings
 mod Flowing
 mod Following
+mod Followings
 mod Laning
 mod Lists
 mod Making
 mod Nodes
+mod Numbers
+mod Passing
 mod Percentiles
 mod Readings
+mod Risings
 mod Rounding
 mod Rows
 mod Turns
 mod Tagged
+mod Tallies
 mod Telling
 mod Turned
 mod Waitings
 mod Transmitting
 mod Seeing
+mod Sources
 mod Watching
 pub mod Starting
 pub mod Between

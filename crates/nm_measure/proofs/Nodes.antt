@@ -25,6 +25,9 @@ pub source_read : (t : TopologyValue) (j k : ℕ) (l : List Source) (d : Source)
 source_read t j k l d same at within =
     source_node_is t j (get_or t.sources j d) (slice_get-get_or t.sources j d within) ∙ (λ i. (get_or (sym same i) (sym at i) d).node)
 
+pub source_there : (t : TopologyValue) (j k : ℕ) (l : List Source) (d : Source) → l ≡ t.sources → k ≡ j → j < length t.sources → d ≡ get_or l k d → slice_get t.sources j ≡ Some d
+source_there t j k l d same at within is = slice_get-get_or t.sources j d within ∙ ap Some ((λ i. get_or (sym same i) (sym at i) d) ∙ sym is)
+
 -- what holds of all interfaces
 pub all_at : {X : Type 0} (P : X → Type 0) (xs : List X) (i : ℕ) (x : X) → slice_get xs i ≡ Some x → All P xs → P x
 all_at P xs i x e h = subst P (get_or_from_slice_get xs i x x e) (All-get_or P xs i x (slice_get_within xs i x e) h)

@@ -1,21 +1,27 @@
 -- Rows of delays: how often each occurs, in rising order.
-use Rattle.std.proofs.Common.{◌≡◌, ⊎_elim, append-nil, append_assoc, ℕ, zero, suc, ◌+◌, ◌*◌, ◌/◌, ◌%◌, ◌<◌, ◌≤◌, min, max, Bool, true, false, cond, eqb, leb, ltb, ne_eqb, List, [], ◌∷◌, ◌++◌, length, get_or, take, map, insert, count_by, refl, sym, ap, ◌∙◌, subst, arith}
+use Rattle.std.proofs.Common.{◌≡◌, ⊎_elim, append-nil, append_assoc, ℕ, zero, suc, ◌+◌, ◌*◌, ◌/◌, ◌%◌, ◌<◌, ◌≤◌, min, max, Bool, true, false, cond, eqb, leb, ltb, ne_eqb, List, [], ◌∷◌, ◌++◌, length, get_or, take, map, count_by, refl, sym, ap, ◌∙◌, subst, arith}
 use Rattle.std.specs.List.Sorted.{IsNonDecreasingBy, IsPartitionPoint}
 use Rattle.std.proofs.Math.Nat.{mul-le-mul_left}
 use Rattle.std.proofs.lemmas.Bool.{cases_lt, le-leb, le-ltb, ltb-false, ltb-true}
 use Rattle.std.proofs.lemmas.List.{get_or_default, length-map, take_all}
-use Rattle.std.proofs.lemmas.List.Sorted.{IsNonDecreasingBy-insert}
 use Rattle.std.proofs.lemmas.List.Sums.{sum_by-cons, sum_by_push}
 use Rattle.nm_measure.specs.declared.spread.Row.{Row}
-use Rattle.nm_measure.specs.Spread.{HaveRows, IsPercentile, IsSpread, different_of, kept, new_after, rank_of, rounded_down, times_of}
+use Rattle.nm_measure.specs.Spread.{DelaysRise, HaveRows, IsPercentile, IsSpread, different_of, kept, new_after, rank_of, rounded_down, times_of}
 
--- a row is put behind those of less delay
-pub inserted_rises : (rows : List Row) (i : ℕ) (row : Row) → IsNonDecreasingBy (λ (r : Row). r.delay) rows → i ≤ length rows
-    → IsPartitionPoint (λ (r : Row). ltb r.delay row.delay ≡ true) (λ (r : Row). ltb r.delay row.delay ≡ false) rows i
-    → IsNonDecreasingBy (λ (r : Row). r.delay) (insert rows i row)
-inserted_rises rows i row rise low h = IsNonDecreasingBy-insert (λ (r : Row). r.delay) rows i row rise low
-    (λ k d l. let m = ltb-true (get_or rows k d).delay row.delay (h.0 k d (omega arith) l) in omega (arith, m))
-    (λ k d l m. ltb-false (get_or rows k d).delay row.delay (h.1 k d l m))
+-- rising delays do not fall
+pub climbs : (rows : List Row) → DelaysRise rows → IsNonDecreasingBy (λ (r : Row). r.delay) rows
+climbs rows rise i j d le lt = ⊎_elim
+    (λ (less : i < j). let up = rise i j d less lt in omega (arith, up))
+    (λ (past : j ≤ i). let same : i ≡ j = omega (arith, le, past) in let e = ap (λ k. (get_or rows k d).delay) same in omega (arith, e))
+    (cases_lt i j)
+
+-- from a place on all delays are greater than one, if none is less and that at the place is another
+pub behind : (rows : List Row) (i delay : ℕ) → IsNonDecreasingBy (λ (r : Row). r.delay) rows → ((k : ℕ) (d : Row) → i ≤ k → k < length rows → delay ≤ (get_or rows k d).delay)
+    → ((d : Row) → i < length rows → (get_or rows i d).delay ≡ delay → ⊥) → (k : ℕ) (d : Row) → i ≤ k → k < length rows → delay < (get_or rows k d).delay
+behind rows i delay rise least apart k d le lt =
+    let here : delay ≤ (get_or rows i d).delay = least i d (omega arith) (omega (arith, le, lt)) in
+    let up = rise i k d le lt in
+    ⊎_elim (λ h. omega (arith, h, up)) (λ h. absurd (apart d (omega (arith, le, lt)) (omega (arith, h, here)))) (cases_lt delay (get_or rows i d).delay)
 
 -- a different delay more
 at_first : (a b : ℕ) → b ≡ a → a + 0 ≡ 0 + b

@@ -92,7 +92,7 @@ module _ (t : TopologyValue) where
           let b = dropped end o in
           let l = length-append (ended_as arrived (outcome_by (fate_at t ((net_of t).owner i) x.1))) (dropped_as end o) in
           omega (arith, a, b, l)
-      one s time (Delivery (Source j) x) = let m = made (end_at (unsent_at t ((net_of t).source_node j) x.1) ((net_of t).source_node j) time x Discarded) (drop_at time x) (offering_in (tagged_net t) s.node s.port (Delivery (Source j) x)) in omega (arith, m)
+      one s time (Delivery (Source j) x) = let m = made (end_at (unsent_at t j) ((net_of t).source_node j) time x Discarded) (drop_at time x) (offering_in (tagged_net t) s.node s.port (Delivery (Source j) x)) in omega (arith, m)
       one s time (Completion i) = omega arith
 
       two : (s : State (Tag × List ℕ) NodeStateValue) (o : Option (Key × Event (Tag × List ℕ))) → length (ends_next t s o) ≤ 2

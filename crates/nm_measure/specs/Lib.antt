@@ -20,3 +20,9 @@ pub mod Tagged
 pub mod Counted
 pub mod Lanes
 pub mod Starts
+pub mod CourseValue
+pub mod Courses
+pub mod CoursesValue
+pub mod Followed
+pub mod Taken
+pub mod Rising

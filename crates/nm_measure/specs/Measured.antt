@@ -1,5 +1,5 @@
 -- A network at a time of its run, with its measurements.
-use Rattle.std.specs.Prelude.{◌≡◌, ◌<◌, ◌≤◌, ℕ, true, List, [], length, map, None}
+use Rattle.std.specs.Prelude.{◌≡◌, ◌<◌, ◌≤◌, ℕ, true, List, [], length, map, Option, None}
 use Rattle.nm_base.specs.declared.limits.TheConstants.{MAX_TIME}
 use Rattle.nm_base.specs.declared.wanted.Wanted.TheVariants.{Nothing}
 use Rattle.nm_events.specs.Held.{Held, pending_of}
@@ -17,6 +17,7 @@ use Rattle.nm_measure.specs.Starts.{AreStarts, start_of}
 use Rattle.nm_measure.specs.declared.flow_counts.FlowCounts.{FlowCounts}
 use Rattle.nm_measure.specs.declared.flow_times.FlowTimes.{FlowTimes}
 use Rattle.nm_measure.specs.declared.lane.Lane.{Lane}
+use Rattle.nm_measure.specs.CoursesValue.{CoursesValue}
 use Rattle.nm_measure.specs.Lanes.{AreWatched, lanes_in}
 use Rattle.nm_measure.specs.Ways.{ends_in, tagged_list}
 use Rattle.nm_measure.specs.declared.seen.Seen.{Seen}
@@ -31,6 +32,8 @@ pub record MeasuredValue : Type 0 where
   pub counts : List FlowCounts
   pub times : List FlowTimes
   pub lanes : List Lane
+  -- the ways of one source's packets, if they are followed
+  pub courses : Option CoursesValue
 
 -- no records are kept
 abbrev pub KeepsNone : PartValue Held → Type 0

@@ -3,7 +3,6 @@ use Rattle.std.specs.Prelude.{◌≡◌, ℕ, ◌-◌, ◌*◌, ◌%◌, ◌^◌
 use Rattle.std.specs.Int.{div_ceil}
 use Rattle.std.specs.Int.Count.{count_leading_zeros}
 use Rattle.nm_base.specs.Count.{saturated}
-use Rattle.std.specs.List.Sorted.{IsNonDecreasingBy}
 use Rattle.nm_measure.specs.declared.spread.Bucket.{Bucket}
 use Rattle.nm_measure.specs.declared.spread.Row.{Row}
 
@@ -58,10 +57,16 @@ pub record IsPercentile (ds : List ℕ) (thousandths p : ℕ) : Type 0 where
   pub enough : rank_of (length ds) thousandths ≤ count_by (λ d. nat_le d p) ds
   pub least : count_by (λ d. nat_lt d p) ds < rank_of (length ds) thousandths
 
--- the rows of these delays, by rising delays
+-- each row's delay is greater than those before it
+abbrev pub DelaysRise : List Row → Type 0
+DelaysRise rows = (i j : ℕ) (r : Row) → i < j → j < length rows
+    → (slice_index_or rows i r).delay < (slice_index_or rows j r).delay
+
+-- the rows of these delays, by rising delays, each for one of them at least
 pub record AreSpreadRows (ds : List ℕ) (is_rounded : Bool) (rows : List Row) : Type 0 where
   pub spread : IsSpread ds rows is_rounded
-  pub rise : IsNonDecreasingBy (λ r. r.delay) rows
+  pub rise : DelaysRise rows
+  pub some : HaveTimes rows
 
 -- a row as it is shown
 abbrev pub bucket_of : (is_rounded : Bool) → Row → Bucket

@@ -2,7 +2,7 @@
 -- whose it is: packets with tags behave as packets without (`tags_change_nothing` of nm_model). A
 -- node that sends a packet on sends it with its tag. The echo reply to a source's packet is the
 -- reply to that one; other packets that nodes make are nobody's.
-use Rattle.std.specs.Prelude.{ℕ, zero, suc, if◌then◌else◌, List, [], ◌∷◌, ◌++◌, length, Option, None, Some}
+use Rattle.std.specs.Prelude.{ℕ, zero, suc, if◌then◌else◌, List, [], ◌∷◌, ◌++◌, length, slice_get, Option, None, Some}
 use Rattle.nm_base.specs.declared.event.Event.{Event}
 use Rattle.nm_base.specs.declared.event.Event.TheVariants.{Delivery, Completion}
 use Rattle.nm_base.specs.declared.event.Origin.{Origin}
@@ -11,8 +11,7 @@ use Rattle.nm_base.specs.declared.key.Key.{Key}
 use Rattle.nm_forward.specs.declared.counter.Counter.{Counter}
 use Rattle.nm_forward.specs.declared.counter.Counter.TheVariants as count
 use Rattle.nm_forward.specs.Row.{arrival_row, row_counter}
-use Rattle.nm_forward.specs.State.{NodeStateValue, is_own, table_of}
-use Rattle.nm_packet.specs.Ipv4.{fields_of}
+use Rattle.nm_forward.specs.State.{NodeConfiguration, NodeStateValue, is_own, table_of}
 use Rattle.nm_model.specs.EventList.{least}
 use Rattle.nm_model.specs.Network.{Net}
 use Rattle.nm_model.specs.Offers.{offering_in}
@@ -22,6 +21,9 @@ use Rattle.nm_model.specs.declared.offering.Offering.{Offering}
 use Rattle.nm_model.specs.declared.offering.Offering.TheVariants as became
 use Rattle.nm_sim.specs.Network.{net_of}
 use Rattle.nm_topology.specs.TopologyValue.{TopologyValue}
+use Rattle.nm_topology.specs.declared.traffic.Source.{Source as TrafficSource}
+use Rattle.nm_topology.specs.declared.traffic.Traffic.{Traffic}
+use Rattle.nm_topology.specs.declared.traffic.Traffic.TheVariants.{Cbr, Echo, Raw}
 use Rattle.nm_measure.specs.declared.fates.Fate.{Fate}
 use Rattle.nm_measure.specs.declared.fates.Fate.TheVariants as fate
 use Rattle.nm_measure.specs.declared.courses.EndPlace.{EndPlace}
@@ -152,6 +154,20 @@ made_as discarded dropped (became.Started i) = []
 made_as discarded dropped (became.Waits i) = []
 made_as discarded dropped (became.Dropped i) = dropped i ∷ []
 
+-- Which counter rises where a node with this table does not send what a source makes: it goes to an
+-- address of the node itself, or no route leads there. What a `raw` source makes is always sent.
+abbrev pub unsent_to : NodeConfiguration → (to : ℕ) → Counter
+unsent_to table to = if is_own table to then count.ToSelf else count.NoRoute
+
+abbrev pub unsent_by : NodeConfiguration → Traffic → Counter
+unsent_by table (Cbr c) = unsent_to table c.to
+unsent_by table (Echo e) = unsent_to table e.to
+unsent_by table (Raw r) = count.NoRoute
+
+abbrev pub unsent_of : NodeConfiguration → Option TrafficSource → Counter
+unsent_of table None = count.NoRoute
+unsent_of table (Some s) = unsent_by table s.traffic
+
 module _ (t : TopologyValue) where
   -- the counter that rises at node v where octets arrive, and what the node does with them
   abbrev pub counter_at : (v : ℕ) → List ℕ → Counter
@@ -160,10 +176,9 @@ module _ (t : TopologyValue) where
   abbrev pub fate_at : (v : ℕ) → List ℕ → Fate
   fate_at v x = fate_by (counter_at v x)
 
-  -- the counter that rises at node v where it does not send what a source makes
-  abbrev pub unsent_at : (v : ℕ) → List ℕ → Counter
-  unsent_at v x =
-      if is_own (table_of t v) (fields_of x).destination then count.ToSelf else count.NoRoute
+  -- the counter that rises at source j's node where that does not send what the source makes
+  abbrev pub unsent_at : (j : ℕ) → Counter
+  unsent_at j = unsent_of (table_of t ((net_of t).source_node j)) (slice_get t.sources j)
 
   -- the tag of what node v sends in reaction to a packet
   abbrev pub sent_tag : (v : ℕ) → Origin → Tag × List ℕ → Tag
@@ -194,7 +209,7 @@ module _ (t : TopologyValue) where
       (offering_in tagged_net s.node s.port (Delivery (Arrival i) x))
   ends_at s time (Delivery (Source j) x) =
       made_as
-      (end_at (unsent_at ((net_of t).source_node j) x.1) ((net_of t).source_node j) time x
+      (end_at (unsent_at j) ((net_of t).source_node j) time x
       ended.Discarded)
       (drop_at time x)
       (offering_in tagged_net s.node s.port (Delivery (Source j) x))

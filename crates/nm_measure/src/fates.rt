@@ -1,13 +1,18 @@
 //! What a node did with a packet that arrived, and why it sent none that a source made.
 
-ghost use Rattle.std.specs.Prelude.{◌≡◌};
-ghost use Rattle.nm_measure.specs.Ways.{fate_by};
+ghost use Rattle.std.specs.Prelude.{◌≡◌, ℕ, ◌==◌, ◌&&◌, List, None, Some, slice_get};
+ghost use Rattle.std.specs.List.{list_any};
+ghost use Rattle.nm_base.specs.declared.event.Origin.TheVariants.{Source as FromSource};
+ghost use Rattle.nm_forward.specs.Reaction.{reaction};
+ghost use Rattle.nm_forward.specs.State.{NodeStateValue, is_own, state_counted, table_of};
+ghost use Rattle.nm_measure.specs.Ways.{fate_by, unsent_by};
 
 use nm_base::NodeNo;
-use nm_events::HeapList;
 use nm_forward::Counter;
-use nm_sim::Part;
-use std::alloc::{AllocError, Global};
+use nm_packet::Address;
+use nm_topology::Topology;
+use nm_topology::parts::Iface;
+use nm_topology::traffic::{Source, Traffic};
 
 /// What a node did with a packet that arrived.
 #[derive(Clone, Copy, Drop)]
@@ -40,32 +45,50 @@ pub(crate) fn fate_of(counter: Counter) -> Fate
     }
 }
 
-/// How often each node refused to send a packet to itself, after the last event.
-#[derive(Drop)]
-pub(crate) struct Refusals {
-    to_self: Vec<u64>,
+/// Whether one of these interfaces is the node's and has the address.
+fn has_address(ifaces: &[Iface], node: NodeNo, address: Address) -> bool
+    ensures { result ≡ list_any (λ i. (i.node == node) && (i.address == address)) ifaces.now }
+{
+    ifaces
+        .iter()
+        .any(|iface| iface.node() == node && iface.address() == address)
 }
 
-impl Refusals {
-    /// None so far, of so many nodes.
-    pub(crate) fn new(alloc: Global, nodes: usize) -> Result<Self, AllocError> {
-        Ok(Refusals {
-            to_self: vec![in alloc; 0; nodes]?,
-        })
+/// Whether the address is one of a node's own.
+fn is_own(topology: &Topology, node: NodeNo, address: Address) -> bool
+    ensures { result ≡ is_own (table_of topology.now node) address }
+{
+    match topology.nodes().get(node.index()) {
+        Some(_) => has_address(topology.ifaces(), node, address),
+        None => false,
     }
+}
 
-    /// Why a node did not send the packet that a source just made.
-    pub(crate) fn reason(&mut self, part: &Part<HeapList>, node: NodeNo) -> Counter {
-        let now = part.counter(node, Counter::ToSelf).unwrap_or(0);
-        let Some(before) = self.to_self.get_mut(node.index()) else {
-            return Counter::NoRoute;
-        };
-        let has_risen = *before != now;
-        *before = now;
-        if has_risen {
-            Counter::ToSelf
-        } else {
-            Counter::NoRoute
-        }
+/// The counter that rises where a source's node does not send what the source makes: that goes to
+/// an address of the node itself, or no route leads there.
+fn unsent_counter(topology: &Topology, source: &Source) -> Counter
+    ensures { result ≡ unsent_by (table_of topology.now source.now.node) source.now.traffic }
+{
+    let to = match &source.traffic {
+        Traffic::Cbr(cbr) => cbr.to,
+        Traffic::Echo(echo) => echo.to,
+        Traffic::Raw(_) => return Counter::NoRoute, // it is always sent
+    };
+    if is_own(topology, source.node, to) {
+        Counter::ToSelf
+    } else {
+        Counter::NoRoute
     }
+}
+
+/// Why a source's node did not send what the source made.
+pub(crate) fn unsent_by(topology: &Topology, source: &Source) -> Counter
+    ensures is { result ≡ unsent_by (table_of topology.now source.now.node) source.now.traffic }
+    ensures counted { (j : ℕ) (state : NodeStateValue) (packet : List ℕ)
+        → slice_get topology.now.sources j ≡ Some source.now
+        → (reaction topology.now source.now.node state (FromSource j) packet).1 ≡ None
+        → (reaction topology.now source.now.node state (FromSource j) packet).0
+        ≡ state_counted result state }
+{
+    unsent_counter(topology, source)
 }

@@ -1,6 +1,8 @@
 //! One direction of a link.
 
 ghost use Rattle.std.specs.Prelude.{◌≡◌, ◌≤◌, ◌<◌, ◌+◌, ◌-◌, ◌∷◌, ◌++◌, OnOk, [], length};
+ghost use Rattle.std.specs.Option.{option_map};
+ghost use Rattle.std.specs.Prelude.{slice_get};
 ghost use Rattle.std.specs.VecDeque.{deque_len};
 ghost use Rattle.nm_measure.specs.Ways.{nobodys};
 
@@ -34,7 +36,10 @@ impl Lane {
     }
 
     /// The packet that has waited longest, if one waits.
-    pub(crate) fn first_waiting(&self) -> Option<&Tag> {
+    pub(crate) fn first_waiting(&self) -> Option<&Tag>
+        ensures { option_map (λ x. x.now) result ≡ slice_get self.now.line.items
+            (length self.now.line.items - self.now.waiting) }
+    {
         self.line.get(self.line.len() - self.waiting)
     }
 

@@ -1,7 +1,7 @@
 //! A network at a time of its run, with its measurements.
 
 ghost use Rattle.std.specs.Prelude.{◌≡◌, ℕ, suc, ◌-◌, ◌<◌, ◌≤◌, ◌^◌, ◌++◌, min, List, None, Option};
-ghost use Rattle.std.specs.Prelude.{Some};
+ghost use Rattle.std.specs.Prelude.{Some, []};
 ghost use Rattle.std.specs.Prelude.{◌+◌, IfOk, IfSome, IsSomeAnd, OnOk, length, map, option_map};
 ghost use Rattle.nm_base.specs.Count.{saturated};
 ghost use Rattle.nm_base.specs.declared.record.Record.{Record};
@@ -12,6 +12,7 @@ ghost use Rattle.nm_measure.specs.Interfaces.{AreSeen, IsNext};
 ghost use Rattle.nm_measure.specs.Counted.{HasArrivals, HasDelivered, HasEnds, HasTotals};
 ghost use Rattle.nm_measure.specs.Counted.{delays_of};
 ghost use Rattle.nm_measure.specs.Delays.{greatest_behind};
+ghost use Rattle.nm_measure.specs.Followed.{IsFollowed, TakesEnded, TakesOpen};
 ghost use Rattle.nm_measure.specs.Starts.{begun_in};
 ghost use Rattle.nm_measure.specs.Measured.{HasStarts, HasWatched};
 ghost use Rattle.nm_measure.specs.Sent.{AreSent, sent_in, sent_later};
@@ -81,6 +82,7 @@ impl Model for Measured {
       counts = m.watched.flows.counts.items;
       times = m.watched.flows.times.items;
       lanes = m.watched.lanes.items;
+      courses = m.watched.courses;
     } };
 }
 
@@ -96,7 +98,10 @@ impl Measured {
         topology: &Topology,
         followed: Option<SourceNo>,
     ) -> Result<Self, AllocError>
-        ensures { IfOk result (IsMeasuredBefore topology.now 0) }
+        ensures before { IfOk result (IsMeasuredBefore topology.now 0) }
+        ensures steps { IfOk result (λ m. m.part.steps ≡ 0) }
+        ensures followed { IfOk result
+            (λ m. IsFollowed topology.now followed 0 [] m.courses) }
     {
         accepted_topologies_are_in_order(topology); // law: `stop` is within its limit
         let traffic = no_traffic(alloc, topology)?;
@@ -128,6 +133,9 @@ impl Measured {
         requires from { (from : ℕ) × (from ≤ until) × IsMeasuredBefore topology.now from self.old }
         ensures before { OnOk result (IsMeasuredBefore topology.now until self.new) }
         ensures recent { OnOk result (HasRecent topology.now self.old.part.steps self.new) }
+        ensures followed { OnOk result ((j : Option ℕ) (taken : List Ended)
+            → IsFollowed topology.now j self.old.part.steps taken self.old.courses
+            → IsFollowed topology.now j self.new.part.steps taken self.new.courses) }
     {
         accepted_topologies_are_in_order(topology); // law: `stop` is within its limit
         self.interfaces.begin_recent();
@@ -184,13 +192,18 @@ impl Measured {
             → AreSent topology.now n self.old.sent
             → IsNext topology.now n now place self.old.part happened
             → HasWatched topology.now n self.old → HasWatched topology.now (suc n) self.new) }
+        ensures followed { OnOk result ((n : ℕ) (j : Option ℕ) (taken : List Ended)
+            → self.old.part.steps ≡ n + 1 → AreSent topology.now n self.old.sent
+            → IsNext topology.now n now place self.old.part happened
+            → HasWatched topology.now n self.old
+            → IsFollowed topology.now j n taken self.old.courses
+            → IsFollowed topology.now j (suc n) taken self.new.courses) }
     {
         self.part.events(); // law: no more than 2^62
         progress.note_records(self.part.made(), RECORDS_OF_AN_EVENT, now);
         self.interfaces
             .see(topology, &self.part, now, &place, &happened);
-        self.watched
-            .see(topology, &self.part, now, &place, &happened)?;
+        self.watched.see(topology, now, &place, &happened)?;
         count(&mut self.traffic, &happened);
         Ok(())
     }
@@ -365,14 +378,17 @@ impl Measured {
 
     /// The first packet of the followed source that ended and was not taken yet.
     pub fn take_ended(&mut self) -> Option<Ended>
-        ensures { self.new ≡ self.old }
+        ensures part { self.new.part ≡ self.old.part }
+        ensures before { (t : TopologyValue) (until : ℕ) → IsMeasuredBefore t until self.old
+            → IsMeasuredBefore t until self.new }
+        ensures first { TakesEnded result self.old.courses self.new.courses }
     {
         self.watched.take_ended()
     }
 
     /// The packet of the followed source with the least number that is under way.
     pub fn take_under_way(&mut self) -> Option<Course>
-        ensures { self.new ≡ self.old }
+        ensures first { TakesOpen result self.old.courses self.new.courses }
     {
         self.watched.take_open()
     }

@@ -3,9 +3,8 @@
 ghost use Rattle.std.specs.Prelude.{◌≡◌, ℕ, ◌≤◌, ◌<◌, ◌+◌, ◌-◌, ◌*◌, ◌^◌, Bool, true, false};
 ghost use Rattle.std.specs.Prelude.{nat_eq, ◌==◌, if◌then◌else◌};
 ghost use Rattle.std.specs.Prelude.{OnOk, OnErr, IfOk, List, [], ◌∷◌, ◌++◌, length, map};
-ghost use Rattle.std.specs.List.Sorted.{IsNonDecreasingBy};
 ghost use Rattle.nm_base.specs.Count.{saturated};
-ghost use Rattle.nm_measure.specs.Spread.{HaveTimes, IsPercentile, IsSpread, different_of, kept};
+ghost use Rattle.nm_measure.specs.Spread.{DelaysRise, HaveTimes, IsPercentile, IsSpread, different_of, kept};
 ghost use Rattle.nm_measure.specs.Spread.{bucket_of, rank_of, rounded_down, times_of, top_of};
 ghost use Rattle.std.specs.Option.{option_map};
 ghost use Rattle.std.specs.Prelude.{Some, slice_get};
@@ -49,7 +48,7 @@ pub(crate) struct Spread {
     count: u64,
     is_rounded: bool,
     ghost all: { times_of (λ _. true) rows.items ≡ count },
-    ghost rise: { IsNonDecreasingBy (λ r. r.delay) rows.items },
+    ghost rise: { DelaysRise rows.items },
     ghost some: { HaveTimes rows.items },
 }
 
@@ -89,12 +88,12 @@ fn greatest_of(rounded: u64) -> u64
 /// Notes that a delay occurred so many times more.
 fn note(rows: &mut Vec<Row>, delay: u64, times: u64) -> Result<(), AllocError>
     requires fits { times_of (λ _. true) rows.old.items + times < 2 ^ 64 }
-    requires rise { IsNonDecreasingBy (λ r. r.delay) rows.old.items }
+    requires rise { DelaysRise rows.old.items }
     requires some { HaveTimes rows.old.items }
     requires times { 1 ≤ times }
     ensures more { OnOk result ((test : ℕ → Bool) → times_of test rows.new.items
         ≡ times_of test rows.old.items + (if test delay then times else 0)) }
-    ensures rise { OnOk result (IsNonDecreasingBy (λ r. r.delay) rows.new.items) }
+    ensures rise { OnOk result (DelaysRise rows.new.items) }
     ensures some { OnOk result (HaveTimes rows.new.items) }
     ensures kinds { OnOk result (length rows.new.items ≡ length rows.old.items
         + (if times_of (λ d. nat_eq d delay) rows.old.items == 0 then 1 else 0)) }
@@ -115,7 +114,7 @@ fn rounded_rows(alloc: Global, rows: &[Row]) -> Result<Vec<Row>, AllocError>
     requires some { HaveTimes rows.now }
     ensures times { IfOk result (λ all. (test : ℕ → Bool)
         → times_of test all.items ≡ times_of (λ d. test (rounded_down d)) rows.now) }
-    ensures rise { IfOk result (λ all. IsNonDecreasingBy (λ r. r.delay) all.items) }
+    ensures rise { IfOk result (λ all. DelaysRise all.items) }
     ensures some { IfOk result (λ all. HaveTimes all.items) }
 {
     let mut all = Vec::new(alloc);
@@ -168,7 +167,8 @@ impl Spread {
     /// How many rows there are: a row for each delay that is kept.
     pub(crate) fn rows(&self) -> usize
         ensures count { result ≡ length self.now.rows.items }
-        ensures rise { IsNonDecreasingBy (λ r. r.delay) self.now.rows.items }
+        ensures rise { DelaysRise self.now.rows.items }
+        ensures some { HaveTimes self.now.rows.items }
     {
         self.rows.len()
     }

@@ -8,10 +8,11 @@ ghost use Rattle.nm_events.specs.Held.{Held};
 ghost use Rattle.nm_sim.specs.Part.{PartValue};
 ghost use Rattle.nm_measure.specs.Interfaces.{IsNext};
 ghost use Rattle.nm_model.specs.Lists.{set_at};
-ghost use Rattle.nm_model.specs.declared.offering.Offering.TheVariants.{Nothing};
+ghost use Rattle.nm_model.specs.declared.offering.Offering.TheVariants.{Nothing, Started};
+ghost use Rattle.nm_model.specs.declared.offering.Offering.TheVariants.{Dropped};
 ghost use Rattle.nm_measure.specs.declared.flow_counts.PacketOutcome.{PacketOutcome};
 ghost use Rattle.nm_measure.specs.declared.flow_counts.PacketOutcome.TheVariants.{Delivered};
-ghost use Rattle.nm_measure.specs.declared.flow_counts.PacketOutcome.TheVariants.{Dropped};
+ghost use Rattle.nm_measure.specs.declared.flow_counts.PacketOutcome.TheVariants as outcome;
 ghost use Rattle.nm_measure.specs.declared.lane.Lane.{Lane};
 ghost use Rattle.nm_measure.specs.declared.tag.Tag.{Tag};
 ghost use Rattle.std.specs.Prelude.{false};
@@ -25,11 +26,14 @@ ghost use Rattle.nm_topology.specs.TopologyValue.{TopologyValue};
 ghost use Rattle.nm_measure.specs.Ways.{WayEnd, answer_tag, dropped_as, ended_as, fate_by};
 ghost use Rattle.nm_measure.specs.Ways.{outcome_by};
 ghost use Rattle.nm_sim.specs.Effects.{IsPlaceIn};
+ghost use Rattle.std.specs.Prelude.{◌-◌};
 ghost use Rattle.nm_measure.specs.Flows.{sent_numbers};
+ghost use Rattle.nm_measure.specs.Followed.{AreRising, GoesOn, IsFollowed, TakesEnded, TakesOpen};
+ghost use Rattle.nm_measure.specs.Followed.{begun, came_to_end, over, passed, went_out};
 ghost use Rattle.nm_measure.specs.Sent.{AreSent, sent_later, with_sent};
 
 use crate::courses::{Course, Courses, End, EndPlace, Ended, Hop, Reason};
-use crate::fates::{Fate, Refusals, fate_of};
+use crate::fates::{Fate, fate_of, unsent_by};
 use crate::flow_counts::{FlowCounts, PacketOutcome};
 use crate::flow_times::FlowTimes;
 use crate::flows::{Arrival, Flows};
@@ -37,16 +41,14 @@ use crate::lane::Lane;
 use crate::tag::Tag;
 use crate::tags::tags_change_no_run;
 use nm_base::{Dir, IfaceNo, NodeNo, Place, SourceNo, Time};
-use nm_events::HeapList;
 use nm_model::Offering;
-use nm_sim::{Arrived, Happened, Part};
+use nm_sim::{Arrived, Happened};
 use nm_topology::Topology;
 use std::alloc::{AllocError, Global};
 
 /// What is seen of the packets of sources.
 #[derive(Drop)]
 pub(crate) struct Watched {
-    refusals: Refusals,
     flows: Flows,
     /// The direction of each interface's link that it sends on.
     lanes: Vec<Lane>,
@@ -75,9 +77,14 @@ fn lanes_of(alloc: Global, topology: &Topology) -> Result<Vec<Lane>, AllocError>
     Ok(all)
 }
 
-/// A packet passes an interface.
-fn hop(iface: IfaceNo, dir: Dir, time: Time) -> Hop {
-    Hop { iface, dir, time }
+/// The ways of the packets of a source, if one is given: none yet.
+fn courses_of(alloc: Global, followed: Option<SourceNo>) -> Option<Courses>
+    ensures { (t : TopologyValue) → IsFollowed t followed 0 [] result }
+{
+    match followed {
+        Some(source) => Some(Courses::new(alloc, source)),
+        None => None,
+    }
 }
 
 /// What is said of a packet that arrived, and why.
@@ -116,6 +123,18 @@ fn answer_to(fate: Fate, tag: Tag) -> Tag
     }
 }
 
+/// What has waited longest in a lane passes its interface, if it is followed.
+fn pass_first(courses: &mut Option<Courses>, lane: &Lane, hop: Hop) -> Result<(), AllocError>
+    ensures { OnOk result ((tag : Tag) → slice_get lane.now.line.items
+        (length lane.now.line.items - lane.now.waiting) ≡ Some tag → AreRising courses.old
+        → courses.new ≡ option_map (passed tag hop) courses.old) }
+{
+    match (courses, lane.first_waiting()) {
+        (Some(courses), Some(tag)) => courses.pass(tag, hop),
+        _ => Ok(()),
+    }
+}
+
 impl Watched {
     /// Nothing was seen yet. If a source is given, the ways of its packets are kept.
     pub(crate) fn new(
@@ -128,16 +147,12 @@ impl Watched {
         ensures watches { IfOk result (WatchesRun topology.now 0) }
         ensures starts { IfOk result
             (λ w. AreStarts topology.now 0 0 (map start_of w.flows.times.items)) }
+        ensures followed { IfOk result (λ w. IsFollowed topology.now followed 0 [] w.courses) }
     {
-        let courses = match followed {
-            Some(source) => Some(Courses::new(alloc, source)),
-            None => None,
-        };
         Ok(Watched {
-            refusals: Refusals::new(alloc, topology.nodes().len())?,
             flows: Flows::new(alloc, topology)?,
             lanes: lanes_of(alloc, topology)?,
-            courses,
+            courses: courses_of(alloc, followed),
         })
     }
 
@@ -149,6 +164,7 @@ impl Watched {
         ensures starts { (t : TopologyValue) (first n : ℕ) → WatchesRun t n self.old
             → AreStarts t first n (map start_of self.old.flows.times.items)
             → AreStarts t n n (map start_of self.new.flows.times.items) }
+        ensures courses { self.new.courses ≡ self.old.courses }
     {
         self.flows.begin_recent();
     }
@@ -157,6 +173,7 @@ impl Watched {
     pub(crate) fn take_ended(&mut self) -> Option<Ended>
         ensures flows { self.new.flows ≡ self.old.flows }
         ensures lanes { self.new.lanes ≡ self.old.lanes }
+        ensures courses { TakesEnded result self.old.courses self.new.courses }
     {
         match &mut self.courses {
             Some(courses) => courses.take_ended(),
@@ -168,6 +185,7 @@ impl Watched {
     pub(crate) fn take_open(&mut self) -> Option<Course>
         ensures flows { self.new.flows ≡ self.old.flows }
         ensures lanes { self.new.lanes ≡ self.old.lanes }
+        ensures courses { TakesOpen result self.old.courses self.new.courses }
     {
         match &mut self.courses {
             Some(courses) => courses.take_open(),
@@ -179,6 +197,8 @@ impl Watched {
     fn begin(&mut self, tag: &Tag) -> Result<(), AllocError>
         ensures flows { self.new.flows ≡ self.old.flows }
         ensures lanes { self.new.lanes ≡ self.old.lanes }
+        ensures courses { OnOk result
+            (self.new.courses ≡ option_map (begun tag.now) self.old.courses) }
     {
         match &mut self.courses {
             Some(courses) => courses.begin(tag),
@@ -190,6 +210,8 @@ impl Watched {
     fn pass(&mut self, tag: &Tag, hop: Hop) -> Result<(), AllocError>
         ensures flows { self.new.flows ≡ self.old.flows }
         ensures lanes { self.new.lanes ≡ self.old.lanes }
+        ensures courses { OnOk result (AreRising self.old.courses
+            → self.new.courses ≡ option_map (passed tag.now hop) self.old.courses) }
     {
         match &mut self.courses {
             Some(courses) => courses.pass(tag, hop),
@@ -201,6 +223,8 @@ impl Watched {
     fn end(&mut self, tag: &Tag, end: End) -> Result<(), AllocError>
         ensures flows { self.new.flows ≡ self.old.flows }
         ensures lanes { self.new.lanes ≡ self.old.lanes }
+        ensures courses { OnOk result (AreRising self.old.courses
+            → self.new.courses ≡ option_map (over tag.now end) self.old.courses) }
     {
         match &mut self.courses {
             Some(courses) => courses.end(tag, end),
@@ -230,7 +254,6 @@ impl Watched {
     pub(crate) fn see(
         &mut self,
         topology: &Topology,
-        part: &Part<HeapList>,
         now: Time,
         place: &Place,
         happened: &Happened,
@@ -246,11 +269,13 @@ impl Watched {
             → IsNext topology.now n now place.now p happened.now
             → AreStarts topology.now first n (map start_of self.old.flows.times.items)
             → AreStarts topology.now first (suc n) (map start_of self.new.flows.times.items)) }
+        ensures followed { OnOk result
+            (GoesOn topology.now now place.now happened.now self.old self.new) }
     {
         match place {
             Place::Complete(iface) => self.see_completion(topology, *iface, now, happened),
             Place::Arrive(iface) => self.see_arrival(topology, *iface, now, happened),
-            Place::Fire(source) => self.see_source(topology, part, *source, now, happened),
+            Place::Fire(source) => self.see_source(topology, *source, now, happened),
         }
     }
 
@@ -267,6 +292,8 @@ impl Watched {
         ensures watches { OnOk result ((n : ℕ) (p : PartValue Held)
             → IsNext topology.now n now (Complete iface) p happened.now
             → WatchesRun topology.now n self.old → WatchesRun topology.now (suc n) self.new) }
+        ensures followed { OnOk result
+            (GoesOn topology.now now (Complete iface) happened.now self.old self.new) }
     {
         tags_change_no_run(topology); // law: tags are those of the one event list
         let Some(started) = &happened.started else {
@@ -275,12 +302,14 @@ impl Watched {
         let Some(lane) = self.lanes.get_mut(started.iface.index()) else {
             return Ok(());
         };
-        let passed = match (&mut self.courses, lane.first_waiting()) {
-            (Some(courses), Some(tag)) => courses.pass(tag, hop(started.iface, Dir::Out, now)),
-            _ => Ok(()),
+        let hop = Hop {
+            iface: started.iface,
+            dir: Dir::Out,
+            time: now,
         };
+        pass_first(&mut self.courses, lane, hop)?;
         lane.send_next();
-        passed
+        Ok(())
     }
 
     /// Sees a packet arrive at an interface.
@@ -299,12 +328,19 @@ impl Watched {
             ≡ sent_numbers self.old.flows.counts.items }
         ensures starts { OnOk result (map start_of self.new.flows.times.items
             ≡ map start_of self.old.flows.times.items) }
+        ensures followed { OnOk result
+            (GoesOn topology.now now (Arrive number) happened.now self.old self.new) }
     {
         tags_change_no_run(topology); // law: tags are those of the one event list
         let iface = topology.iface(number);
         let node = iface.node();
         let tag = self.leave_link(iface.far().iface);
-        self.pass(&tag, hop(number, Dir::In, now))?;
+        let hop = Hop {
+            iface: number,
+            dir: Dir::In,
+            time: now,
+        };
+        self.pass(&tag, hop)?;
         let Some(arrived) = &happened.arrived else {
             return Ok(());
         };
@@ -326,6 +362,7 @@ impl Watched {
     /// The packet that is longest on the link from an interface leaves it.
     fn leave_link(&mut self, from: IfaceNo) -> Tag
         ensures flows { self.new.flows ≡ self.old.flows }
+        ensures courses { self.new.courses ≡ self.old.courses }
         ensures watches { (count : ℕ) (all : ℕ → List Tag × List Tag) (tag : Tag) (on : List Tag)
             (ends : List WayEnd) → Watches count all [] ends self.old → from < count
             → (all from).0 ≡ tag ∷ on → (result ≡ tag)
@@ -356,6 +393,9 @@ impl Watched {
             ≡ sent_numbers self.old.flows.counts.items }
         ensures starts { OnOk result (map start_of self.new.flows.times.items
             ≡ map start_of self.old.flows.times.items) }
+        ensures courses { OnOk result (AreRising self.old.courses → self.new.courses
+            ≡ option_map (came_to_end tag.now (outcome_by fate) reason arrival)
+            self.old.courses) }
     {
         let Some(outcome) = outcome_of(fate) else {
             return Ok(());
@@ -381,7 +421,6 @@ impl Watched {
     fn see_source(
         &mut self,
         topology: &Topology,
-        part: &Part<HeapList>,
         source: SourceNo,
         now: Time,
         happened: &Happened,
@@ -397,6 +436,8 @@ impl Watched {
             → IsNext topology.now n now (Fire source) p happened.now
             → AreStarts topology.now first n (map start_of self.old.flows.times.items)
             → AreStarts topology.now first (suc n) (map start_of self.new.flows.times.items)) }
+        ensures followed { OnOk result
+            (GoesOn topology.now now (Fire source) happened.now self.old self.new) }
     {
         tags_change_no_run(topology); // law: tags are those of the one event list
         let Some(from) = topology.sources().get(source.index()) else {
@@ -408,7 +449,7 @@ impl Watched {
         if let Offering::Nothing = happened.offering {
             let end = End {
                 outcome: PacketOutcome::Discarded,
-                reason: Reason::Counted(self.refusals.reason(part, node)),
+                reason: Reason::Counted(unsent_by(topology, from)),
                 place: EndPlace::Node(node),
                 time: now,
             };
@@ -429,6 +470,8 @@ impl Watched {
             ≡ sent_numbers self.old.flows.counts.items }
         ensures starts { OnOk result (map start_of self.new.flows.times.items
             ≡ map start_of self.old.flows.times.items) }
+        ensures courses { OnOk result (AreRising self.old.courses → self.new.courses
+            ≡ option_map (went_out offering offer.tag offer.now) self.old.courses) }
     {
         match offering {
             Offering::Started(iface) => self.see_start(offer, iface),
@@ -448,8 +491,15 @@ impl Watched {
             (ends : List WayEnd) → Watches count all (offer.tag ∷ []) ends self.old → iface < count
             → (all iface).1 ≡ []
             → Watches count (with_start iface offer.tag all) [] ends self.new) }
+        ensures courses { OnOk result (AreRising self.old.courses → self.new.courses
+            ≡ option_map (went_out (Started iface) offer.tag offer.now) self.old.courses) }
     {
-        self.pass(&offer.tag, hop(iface, Dir::Out, offer.now))?;
+        let hop = Hop {
+            iface,
+            dir: Dir::Out,
+            time: offer.now,
+        };
+        self.pass(&offer.tag, hop)?;
         match self.lanes.get_mut(iface.index()) {
             Some(lane) => lane.send(offer.tag),
             None => Ok(()),
@@ -459,7 +509,7 @@ impl Watched {
     /// Sees a packet dropped at a queue.
     fn see_drop(&mut self, tag: &Tag, iface: IfaceNo, now: Time) -> Result<(), AllocError>
         ensures watches { OnOk result ((count : ℕ) (all : ℕ → List Tag × List Tag)
-            (ends : List WayEnd) (end : WayEnd) → end.tag ≡ tag.now → end.outcome ≡ Dropped
+            (ends : List WayEnd) (end : WayEnd) → end.tag ≡ tag.now → end.outcome ≡ outcome.Dropped
             → end.reason ≡ NoRoom
             → Watches count all (tag.now ∷ []) ends self.old
             → Watches count all [] (ends ++ end ∷ []) self.new) }
@@ -467,6 +517,8 @@ impl Watched {
             ≡ sent_numbers self.old.flows.counts.items }
         ensures starts { OnOk result (map start_of self.new.flows.times.items
             ≡ map start_of self.old.flows.times.items) }
+        ensures courses { OnOk result (AreRising self.old.courses → self.new.courses
+            ≡ option_map (went_out (Dropped iface) tag.now now) self.old.courses) }
     {
         let end = End {
             outcome: PacketOutcome::Dropped,
@@ -489,6 +541,8 @@ impl Watched {
             ≡ sent_numbers self.old.flows.counts.items }
         ensures starts { OnOk result (map start_of self.new.flows.times.items
             ≡ map start_of self.old.flows.times.items) }
+        ensures courses { OnOk result (AreRising self.old.courses
+            → self.new.courses ≡ option_map (over tag.now end) self.old.courses) }
     {
         self.flows.end(tag, end.outcome);
         self.end(tag, end)

@@ -4,20 +4,20 @@ use Rattle.nm_topology.specs.Topology.{topology_of}
 use Rattle.nm_topology.specs.TopologyValue.{TopologyValue}
 use Rattle.nm_command.specs.declared.status.Status.{Status}
 use Rattle.nm_command.specs.declared.status.Status.TheVariants.{Done, Usage}
-use Rattle.nm_measure.specs.Lines.{EndsLine}
+use Rattle.nm_series.specs.Packets.{ArePacketRows}
 use Rattle.nm_offline.specs.Input.{IsRefused}
 use Rattle.nm_offline.specs.Output.{EndsWord, Exchange, FailsOfInput, SaysOfInput}
 
--- the text of the source with this number, which there is, is whole lines
-pub record ArePacketLines (source : ℕ) (text octets : List ℕ) : Type 0 where
+-- the rows of the packets of the source with this number, which there is
+pub record ArePacketsOf (source : ℕ) (text octets : List ℕ) : Type 0 where
   pub network : TopologyValue
   pub read : topology_of text ≡ Ok network
   pub there : source < length network.sources
-  pub lines : EndsLine octets
+  pub rows : ArePacketRows network source octets
 
 -- it is printed once it is made
 abbrev pub SaysPackets : ℕ → List ℕ → Status → List ℕ → Type 0
-SaysPackets source text status octets = (status ≡ Done) × ArePacketLines source text octets
+SaysPackets source text status octets = (status ≡ Done) × ArePacketsOf source text octets
 
 -- why there are none: the text is refused, or its topology has no such source
 abbrev pub HasNoSource : ℕ → List ℕ → Status → Type 0

@@ -1,3 +1,4 @@
 mod RowsMore
 mod FlowRows
 mod BucketRows
+mod PacketRows

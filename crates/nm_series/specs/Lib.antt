@@ -3,3 +3,4 @@ pub mod Steps
 pub mod Series
 pub mod Flows
 pub mod Buckets
+pub mod Packets

@@ -22,7 +22,9 @@ pub(crate) fn end_row(text: &mut Vec<u8>) -> Result<(), AllocError>
 }
 
 /// Appends a text behind others.
-pub(crate) fn push_word(text: &mut Vec<u8>, word: &str) -> Result<(), AllocError> {
+pub(crate) fn push_word(text: &mut Vec<u8>, word: &str) -> Result<(), AllocError>
+    ensures { OnOk result (text.new.items ≡ text.old.items ++ codes "," ++ word.now) }
+{
     push_text(text, b",")?;
     push_text(text, word.as_bytes())
 }

@@ -5,8 +5,8 @@ use Rattle.nm_sim.specs.Network.{net_of}
 use Rattle.nm_measure.proofs.Counting.{none_before}
 use Rattle.nm_measure.proofs.measured.Measured.begin.Goals as goal
 
-pub returns : goal.returns
-returns c = record {
+pub returns-clause-before : goal.returns-clause-before
+returns-clause-before c = record {
   events = 0;
   over = record {
     over = none_before {P = List ℕ} (least (one_list (net_of c.args.topology.now) 0).pending);

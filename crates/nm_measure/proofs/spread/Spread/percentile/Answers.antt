@@ -2,7 +2,7 @@ use Rattle.std.proofs.Common.{◌≡◌, ◌+◌, ◌<◌, ◌≤◌, ℕ, List,
 use Rattle.std.proofs.lemmas.List.Sums.{sum_by_more}
 use Rattle.nm_measure.specs.Spread.{rank_of, times_of}
 use Rattle.nm_measure.specs.declared.spread.Row.{Row}
-use Rattle.nm_measure.proofs.Rows.{all_passed, percentile_at, rank_within, spread_count, sum_reached}
+use Rattle.nm_measure.proofs.Rows.{all_passed, climbs, percentile_at, rank_within, spread_count, sum_reached}
 use Rattle.nm_measure.proofs.spread.Spread.percentile.Goals as goal
 
 pub returns-then-passed-rank-clause-some : goal.returns-then-passed-rank-clause-some
@@ -21,7 +21,7 @@ returns-then-passed-rank-clause-some c ds h some share =
     let reach : c.rank_of-rank.result ≤ times_of (λ d. true) (take (i + 1) rows) =
     sum_reached c.rank_of-rank.result c.loop-row.passed (get_or c.deref-row-items.result.now i none).times _
     (subst (λ n. c.rank_of-rank.result ≤ n) c.saturating_add-passed.ensures c.if-passed-rank.true) next in
-    rw c.loop-row.invariant.all (percentile_at ds rows c.args.self.now.is_rounded c.args.thousandths i none h c.args.self.now.rise low
+    rw c.loop-row.invariant.all (percentile_at ds rows c.args.self.now.is_rounded c.args.thousandths i none h (climbs c.args.self.now.rows.items c.args.self.now.rise) low
     (subst (λ n. times_of (λ d. true) (take i rows) < n) rank few) (subst (λ n. n ≤ times_of (λ d. true) (take (i + 1) rows)) rank reach))
 
 pub returns-clause-some : goal.returns-clause-some

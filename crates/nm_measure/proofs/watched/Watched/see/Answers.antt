@@ -33,3 +33,15 @@ returns-in-Arrive-clause-starts c = on_ok c.see_arrival.result _ _ (λ same firs
 pub returns-in-Fire-clause-starts : goal.returns-in-Fire-clause-starts
 returns-in-Fire-clause-starts c = on_ok c.see_source.result _ _ (λ sees first n p next starts.
     sees first n p (subst (λ q. IsNext c.args.topology.now n c.args.now q p c.args.happened.now) c.in-Fire.is next) starts) c.see_source.ensures.starts
+
+pub returns-in-Complete-clause-followed : goal.returns-in-Complete-clause-followed
+returns-in-Complete-clause-followed c = on_ok c.see_completion.result _ _ (λ goes n p j taken few made next was.
+    goes n p j taken few made (subst (λ q. IsNext c.args.topology.now n c.args.now q p c.args.happened.now) c.in-Complete.is next) was) c.see_completion.ensures.followed
+
+pub returns-in-Arrive-clause-followed : goal.returns-in-Arrive-clause-followed
+returns-in-Arrive-clause-followed c = on_ok c.see_arrival.result _ _ (λ goes n p j taken few made next was.
+    goes n p j taken few made (subst (λ q. IsNext c.args.topology.now n c.args.now q p c.args.happened.now) c.in-Arrive.is next) was) c.see_arrival.ensures.followed
+
+pub returns-in-Fire-clause-followed : goal.returns-in-Fire-clause-followed
+returns-in-Fire-clause-followed c = on_ok c.see_source.result _ _ (λ goes n p j taken few made next was.
+    goes n p j taken few made (subst (λ q. IsNext c.args.topology.now n c.args.now q p c.args.happened.now) c.in-Fire.is next) was) c.see_source.ensures.followed

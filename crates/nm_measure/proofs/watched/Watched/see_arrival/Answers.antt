@@ -4,6 +4,11 @@ use Rattle.nm_model.specs.Lists.{set_at}
 use Rattle.nm_sim.specs.Network.{net_of}
 use Rattle.nm_sim.specs.declared.told.Arrived.{Arrived}
 use Rattle.nm_measure.specs.Lanes.{AreWatched, Watches, lanes_in, one_of, with_offer}
+use Rattle.std.specs.Option.{option_map}
+use Rattle.nm_base.specs.declared.record.Dir.TheVariants.{In}
+use Rattle.nm_measure.specs.declared.courses.Hop.{Hop}
+use Rattle.nm_measure.specs.Followed.{AreRising, came_to_end, passed, went_out}
+use Rattle.nm_measure.proofs.Followings.{arrival_goes}
 use Rattle.nm_measure.specs.Ways.{answer_tag, counter_at, drop_at, dropped_as, end_at, ended_as, ends_in, fate_at, outcome_by, tagged_list}
 use Rattle.nm_measure.proofs.Flowing.{on_ok}
 use Rattle.nm_measure.proofs.Following.{arrival_step, far_end_is, far_end_low}
@@ -62,3 +67,39 @@ returns-clause-watches c =
     subst (λ l. AreWatched count (lanes_in t (tagged_list t (suc n))) [] l new.lanes.items new.flows.counts.items new.flows.times.items) step.ends
     (watched_as count (with_offer h.offering answer popped) (lanes_in t (tagged_list t (suc n))) [] ((ends ++ ended_as how (outcome_by (fate_at t v x.1))) ++ dropped_as dropped h.offering) new.lanes.items new.flows.counts.items new.flows.times.items step.lanes
     (subst (λ g. AreWatched count (with_offer h.offering g popped) [] ((ends ++ ended_as how (outcome_by (fate_at t v x.1))) ++ dropped_as dropped h.offering) new.lanes.items new.flows.counts.items new.flows.times.items) is six))) c.see_offer.ensures.watches
+
+pub returns-in_default-clause-followed : goal.returns-in_default-clause-followed
+returns-in_default-clause-followed c = λ n p j taken few made next was old.
+    let laws = c.tags_change_no_run.ensures in
+    let step = arrival_step c.args.topology.now laws.own n (laws.same n) laws.network (laws.orderly n) (laws.rises n) c.args.now c.args.number p c.args.happened.now next in
+    absurd (not_some step.told.0 (sym c.in_default.is ∙ step.told.1))
+
+pub returns-clause-followed : goal.returns-clause-followed
+returns-clause-followed c =
+    let t = c.args.topology.now in
+    let laws = c.tags_change_no_run.ensures in
+    let count = length t.ifaces in
+    let h = c.args.happened.now in
+    on_ok c.see_offer.result _ _ (λ offers n p j taken few made next was old.
+    let step = arrival_step t laws.own n (laws.same n) laws.network (laws.orderly n) (laws.rises n) c.args.now c.args.number p h next in
+    let x = step.packet in
+    let v = (net_of t).owner c.args.number in
+    let all = lanes_in t (tagged_list t n) in
+    let from : c.far.result.iface ≡ (net_of t).far_end c.args.number = ap (λ f. f.iface) c.far.ensures ∙ far_end_is t c.args.number c.iface-iface.result.now c.iface-iface.ensures in
+    let home : c.node-node.result ≡ v = c.node-node.ensures ∙ sym (owner_is t c.args.number c.iface-iface.result.now c.iface-iface.ensures) in
+    let far = far_end_low t laws.network c.args.number c.requires.there in
+    let low : c.far.result.iface < count = subst (λ k. k < count) (sym from) far in
+    let left = c.leave_link-tag.ensures.watches count all x.0 step.on (ends_in t n) was low (ap (λ k. (all k).0) from ∙ step.first) in
+    let tag = c.leave_link-tag.result in
+    let told : step.told.0 ≡ c.in-Some.arrived = some_inj step.told.0 c.in-Some.arrived (sym step.told.1 ∙ c.in-Some.is) in
+    let said = c.said_of-fate.ensures.said _ (ap (λ (a : Arrived). a.counter) (sym told) ∙ step.told.2) in
+    let fate : c.said_of-fate.result.0 ≡ fate_at t v x.1 = said.0 in
+    let octets : c.from.result ≡ length x.1 = c.from.ensures ∙ ap (λ (a : Arrived). a.octets) (sym told) ∙ step.told.3 in
+    let kept = c.leave_link-tag.ensures.courses in
+    let hop : Hop = record { iface = c.args.number; dir = In; time = c.args.now } in
+    let is : c.answer_to.result ≡ answer_tag (fate_at t v x.1) x.0 = c.answer_to.ensures ∙ (λ q. answer_tag (fate q) (left.0 q)) in
+    arrival_goes t j taken n c.args.now c.args.number p h next step far c.args.self.now.courses c.pass.new.self.courses c.see_end.new.self.courses c.see_offer.new.self.courses
+    (λ r. c.in_ok-pass.ensures.courses (subst AreRising (sym kept) r) ∙ (λ q. option_map (passed (left.0 q) hop) (kept q)))
+    (λ r. c.in_ok-see_end.ensures.courses r ∙ (λ q. option_map (came_to_end (left.0 q) (outcome_by (fate q)) (said.1 q) (record { node = home q; octets = octets q; now = c.args.now })) c.pass.new.self.courses))
+    (λ r. offers r ∙ (λ q. option_map (went_out h.offering (is q) c.args.now) c.see_end.new.self.courses))
+    old) c.see_offer.ensures.courses

@@ -1,20 +1,24 @@
-use Rattle.std.proofs.Common.{◌++◌, ◌∷◌, suc, [], length, map, ◌≡◌, refl, sym, ap, ◌∙◌, subst}
+use Rattle.std.proofs.Common.{◌++◌, ◌∷◌, suc, [], length, map, slice_get, ◌≡◌, refl, sym, ap, ◌∙◌, subst}
 use Rattle.nm_sim.specs.Network.{net_of}
 use Rattle.nm_measure.specs.declared.flow_counts.PacketOutcome.TheVariants.{Discarded}
+use Rattle.std.specs.Option.{option_map}
+use Rattle.nm_measure.specs.declared.courses.EndPlace.TheVariants.{Node}
+use Rattle.nm_measure.specs.declared.courses.Reason.TheVariants.{Counted}
+use Rattle.nm_measure.specs.Followed.{begun, over, went_out}
+use Rattle.nm_measure.proofs.Followings.{loss_goes, offer_goes}
 use Rattle.nm_measure.specs.Flows.{sent_numbers}
 use Rattle.nm_measure.specs.Lanes.{AreWatched, Watches, lanes_in, with_offer}
 use Rattle.nm_measure.specs.Sent.{sent_in}
-use Rattle.nm_measure.specs.Ways.{drop_at, dropped_as, end_at, ends_in, made_as, own_tag, tagged_list, unsent_at}
+use Rattle.nm_measure.specs.Ways.{drop_at, dropped_as, end_at, ends_in, made_as, own_tag, tagged_list, unsent_at, unsent_by, unsent_of}
 use Rattle.nm_measure.proofs.Flowing.{on_ok}
 use Rattle.nm_measure.proofs.Firings.{made_dropped, sent_at, source_step, timed_at}
 use Rattle.nm_measure.proofs.Laning.{to_hand, watched_as}
 use Rattle.nm_base.specs.declared.key.Place.TheVariants.{Fire}
 use Rattle.nm_measure.specs.Starts.{AreStarts, start_of}
 use Rattle.nm_measure.proofs.Flowing.{quiet_because, unsent_told}
-use Rattle.nm_measure.proofs.Nodes.{source_read}
+use Rattle.nm_measure.proofs.Nodes.{source_read, source_there}
 use Rattle.nm_measure.proofs.Starting.{starts_fired}
-use Rattle.nm_forward.specs.State.{is_own, table_of}
-use Rattle.nm_packet.specs.Ipv4.{fields_of}
+use Rattle.nm_forward.specs.State.{table_of}
 use Rattle.nm_measure.proofs.watched.Watched.see_source.Goals as goal
 
 pub returns-in-Nothing-clause-watches : goal.returns-in-Nothing-clause-watches
@@ -44,9 +48,9 @@ returns-in-Nothing-clause-watches c =
     let home = source_read t j c.index.result c.sources.result.now c.in-Some.from.now c.sources.ensures c.index.ensures c.requires.there ∙ ap (λ s. s.node) (sym c.in-Some.ensures.lookup.1) in
     let own = own_tag j v k c.args.now in
     let owned : tag ≡ own = is ∙ ap (λ v. own_tag j v k c.args.now) (sym home) in
-    let discarded = end_at (unsent_at t v step.packet) v c.args.now (own, step.packet) Discarded in
+    let discarded = end_at (unsent_at t j) v c.args.now (own, step.packet) Discarded in
     let dropped = drop_at c.args.now (own, step.packet) in
-    let three = loses count all ends discarded (sym owned) refl (quiet_because discarded (unsent_told (is_own (table_of t v) (fields_of step.packet).destination))) two in
+    let three = loses count all ends discarded (sym owned) refl (quiet_because discarded (unsent_told (table_of t v) (slice_get t.sources j))) two in
     subst (λ l. AreWatched count (lanes_in t (tagged_list t (suc n))) [] l new.lanes.items new.flows.counts.items new.flows.times.items)
     (ap (λ o. ends ++ made_as discarded dropped o) (sym c.in-Nothing.is) ∙ step.ends)
     (watched_as count all (lanes_in t (tagged_list t (suc n))) [] (ends ++ discarded ∷ []) new.lanes.items new.flows.counts.items new.flows.times.items
@@ -79,7 +83,7 @@ returns-clause-watches c =
     let home = source_read t j c.index.result c.sources.result.now c.in-Some.from.now c.sources.ensures c.index.ensures c.requires.there ∙ ap (λ s. s.node) (sym c.in-Some.ensures.lookup.1) in
     let own = own_tag j v k c.args.now in
     let owned : tag ≡ own = is ∙ ap (λ v. own_tag j v k c.args.now) (sym home) in
-    let discarded = end_at (unsent_at t v step.packet) v c.args.now (own, step.packet) Discarded in
+    let discarded = end_at (unsent_at t j) v c.args.now (own, step.packet) Discarded in
     let dropped = drop_at c.args.now (own, step.packet) in
     let other = c.in_default-offering.not-Nothing in
     let three = offers count all ends dropped (λ i. (sym owned, refl, refl)) step.can (λ i none. absurd (other none)) two in
@@ -107,3 +111,47 @@ returns-clause-starts c = on_ok c.see_offer.result _ _ (λ same first n p next s
     let timed = timed_at t laws.own n (laws.same n) laws.network (laws.orderly n) (laws.counts n) c.args.now j p c.args.happened.now next in
     subst (AreStarts t first (suc n)) (sym (same ∙ ap (λ f. map start_of f.times.items) c.begin.ensures.flows ∙ c.send-tag.ensures.starts))
     (starts_fired t first n (map start_of times) starts next.event (Fire j) next.first next.at_place j c.args.now refl timed)) c.see_offer.ensures.starts
+
+pub returns-clause-followed : goal.returns-clause-followed
+returns-clause-followed c =
+    let t = c.args.topology.now in
+    let laws = c.tags_change_no_run.ensures in
+    let w = c.args.self.now in
+    let j = c.args.source in
+    let h = c.args.happened.now in
+    let tag = c.send-tag.result in
+    on_ok c.see_offer.result _ _ (λ offers n p i taken few made next was old.
+    let step = source_step t laws.own n (laws.same n) laws.network (laws.orderly n) (laws.counts n) c.args.now j p h next in
+    let timed = timed_at t laws.own n (laws.same n) laws.network (laws.orderly n) (laws.counts n) c.args.now j p h next in
+    let k = sent_in (net_of t) j n in
+    let at = sent_at t n (sent_numbers w.flows.counts.items) made j c.requires.there few in
+    let v = (net_of t).source_node j in
+    let home = source_read t j c.index.result c.sources.result.now c.in-Some.from.now c.sources.ensures c.index.ensures c.requires.there ∙ ap (λ s. s.node) (sym c.in-Some.ensures.lookup.1) in
+    let owned : tag ≡ own_tag j v k c.args.now = c.send-tag.ensures.tag k at.0 ∙ ap (λ v. own_tag j v k c.args.now) (sym home) in
+    offer_goes t i taken n c.args.now j p h next step timed c.in_default-offering.not-Nothing w.courses c.begin.new.self.courses c.see_offer.new.self.courses
+    (c.in_ok-begin.ensures.courses ∙ ap (λ g. option_map (begun g) w.courses) owned)
+    (λ r. offers r ∙ ap (λ g. option_map (went_out h.offering g c.args.now) c.begin.new.self.courses) owned)
+    old) c.see_offer.ensures.courses
+
+pub returns-in-Nothing-clause-followed : goal.returns-in-Nothing-clause-followed
+returns-in-Nothing-clause-followed c =
+    let t = c.args.topology.now in
+    let laws = c.tags_change_no_run.ensures in
+    let w = c.args.self.now in
+    let j = c.args.source in
+    let h = c.args.happened.now in
+    let tag = c.send-tag.result in
+    on_ok c.see_loss.result _ _ (λ loses n p i taken few made next was old.
+    let step = source_step t laws.own n (laws.same n) laws.network (laws.orderly n) (laws.counts n) c.args.now j p h next in
+    let timed = timed_at t laws.own n (laws.same n) laws.network (laws.orderly n) (laws.counts n) c.args.now j p h next in
+    let k = sent_in (net_of t) j n in
+    let at = sent_at t n (sent_numbers w.flows.counts.items) made j c.requires.there few in
+    let v = (net_of t).source_node j in
+    let home = source_read t j c.index.result c.sources.result.now c.in-Some.from.now c.sources.ensures c.index.ensures c.requires.there ∙ ap (λ s. s.node) (sym c.in-Some.ensures.lookup.1) in
+    let owned : tag ≡ own_tag j v k c.args.now = c.send-tag.ensures.tag k at.0 ∙ ap (λ v. own_tag j v k c.args.now) (sym home) in
+    let there = source_there t j c.index.result c.sources.result.now c.in-Some.from.now c.sources.ensures c.index.ensures c.requires.there c.in-Some.ensures.lookup.1 in
+    let because : Counted c.unsent_by.result ≡ Counted (unsent_at t j) = ap Counted (c.unsent_by.ensures.is ∙ (λ q. unsent_by (table_of t (sym home q)) c.in-Some.from.now.traffic) ∙ ap (unsent_of (table_of t v)) (sym there)) in
+    loss_goes t i taken n c.args.now j p h next step timed c.in-Nothing.is (Counted c.unsent_by.result) because w.courses c.begin.new.self.courses c.see_loss.new.self.courses
+    (c.in_ok-begin.ensures.courses ∙ ap (λ g. option_map (begun g) w.courses) owned)
+    (λ r. loses r ∙ (λ q. option_map (over (owned q) (record { outcome = Discarded; reason = Counted c.unsent_by.result; place = Node (sym home q); time = c.args.now })) c.begin.new.self.courses))
+    old) c.see_loss.ensures.courses

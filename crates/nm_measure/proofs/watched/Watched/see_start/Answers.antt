@@ -1,6 +1,6 @@
 use Rattle.std.proofs.Common.{rules, ◌<◌, [], ◌∷◌, length, slice_set, sym, subst}
 use Rattle.nm_measure.specs.Lanes.{AreWatched, with_start}
-use Rattle.nm_measure.proofs.Flowing.{ok_with}
+use Rattle.nm_measure.proofs.Flowing.{ok_of, ok_with}
 use Rattle.nm_measure.proofs.Laning.{starts_at_once}
 use Rattle.nm_measure.proofs.Lists.{read_at}
 use Rattle.nm_measure.proofs.watched.Watched.see_start.Goals as goal
@@ -17,3 +17,9 @@ returns-in-Some-clause-watches c =
     (subst (λ f. AreWatched count all (c.args.offer.tag ∷ []) ends c.args.self.now.lanes.items f.counts.items f.times.items) (sym c.pass.ensures.flows) was) in
     subst (λ k. AreWatched count (with_start c.args.iface c.args.offer.tag all) [] ends (slice_set w.lanes.items k y) w.flows.counts.items w.flows.times.items) (sym c.index.ensures)
     (starts_at_once count all ends w.lanes.items w.flows.counts.items w.flows.times.items c.args.iface x y at c.args.offer.tag here none line waiting)) c.send.ensures.line c.send.ensures.waiting
+
+pub returns-in-Some-clause-courses : goal.returns-in-Some-clause-courses
+returns-in-Some-clause-courses c = ok_of c.send.result _ c.in_ok-pass.ensures.courses
+
+pub returns-in-None-clause-courses : goal.returns-in-None-clause-courses
+returns-in-None-clause-courses c = c.in_ok-pass.ensures.courses
