@@ -1,5 +1,5 @@
 -- The ways of one source's packets, one step later.
-use Rattle.std.proofs.Common.{length, get_or, ltb, ltb-false, ltb-true, ◌≡◌, ◌≢◌, ℕ, zero, suc, ◌+◌, ◌<◌, ◌≤◌, ◌==◌, ◌&&◌, not, Bool, true, false, cond, List, [], ◌∷◌, ◌++◌, map, Some, slice_get, slice_set, refl, sym, ap, ◌∙◌, subst, arith, ⊎_elim, append_assoc}
+use Rattle.std.proofs.Common.{append-nil, length, get_or, ltb, ltb-false, ltb-true, ◌≡◌, ◌≢◌, ℕ, zero, suc, ◌+◌, ◌<◌, ◌≤◌, ◌==◌, ◌&&◌, not, Bool, true, false, cond, List, [], ◌∷◌, ◌++◌, map, Some, slice_get, slice_set, refl, sym, ap, ◌∙◌, subst, arith, ⊎_elim, append_assoc}
 use Rattle.std.specs.List.Sorted.{IsPartitionPoint}
 use Rattle.std.specs.Prelude.{remove}
 use Rattle.std.proofs.lemmas.Bool.{cases_lt}
@@ -16,10 +16,10 @@ use Rattle.nm_measure.specs.declared.tag.Tag.{Tag}
 use Rattle.nm_measure.specs.Counted.{counts_for}
 use Rattle.nm_measure.specs.CourseValue.{CourseValue}
 use Rattle.nm_measure.specs.Rising.{AllAbove, Rise}
-use Rattle.nm_measure.specs.Courses.{course_in, hops_in, is_packet}
+use Rattle.nm_measure.specs.Courses.{course_in, ended_in, hops_in, is_packet, own_ends}
 use Rattle.nm_measure.specs.CoursesValue.{CoursesValue}
-use Rattle.nm_measure.specs.Followed.{AreCourses, begun, closed, over, passed, with_hop}
-use Rattle.nm_measure.specs.Ways.{time_of}
+use Rattle.nm_measure.specs.Followed.{AreCourses, AreGone, begun, closed, over, passed, with_hop}
+use Rattle.nm_measure.specs.Ways.{WayEnd, time_of}
 use Rattle.nm_measure.proofs.Flowing.{keep_no, keep_yes}
 use Rattle.nm_measure.proofs.Risings.{rise_apart}
 use Rattle.nm_measure.proofs.Numbers.{never, own_none, own_one, packet_none, packet_number, packet_other, packet_own, rise_kept, rise_pushed, times_few, times_gone, times_in, times_left, times_push}
@@ -93,7 +93,20 @@ module _ (j : ℕ) (tag : Tag) where
   gone_some (z ∷ xs) (suc p) x rise at same =
       (λ i. cond (below_is z xs p x rise.0 at same i) (z ∷ gone xs) (gone xs)) ∙ gone_some xs p x rise.1 at same
 
-module _ (t : TopologyValue) (passes : List (Tag × Hop)) (made : ℕ) (taken ways : List Ended) (c : CoursesValue) where
+-- what is gone stays so
+gone_as : (tags new : ℕ → ℕ) (made later : ℕ) → ((k : ℕ) → tags k ≡ 0 → k < made → (new k ≡ 0) × (k < later)) → (ends : List WayEnd) → AreGone tags made ends → AreGone new later ends
+gone_as tags new made later same [] gone = tt
+gone_as tags new made later same (e ∷ ends) gone = let z = same e.tag.number gone.0 gone.1 in (z.0, z.1, gone_as tags new made later same ends gone.2)
+
+gone_push : (tags : ℕ → ℕ) (made : ℕ) (ends : List WayEnd) (e : WayEnd) → tags e.tag.number ≡ 0 → e.tag.number < made → AreGone tags made ends → AreGone tags made (ends ++ e ∷ [])
+gone_push tags made [] e none low gone = (none, low, tt)
+gone_push tags made (x ∷ ends) e none low gone = (gone.0, gone.1, gone_push tags made ends e none low gone.2)
+
+-- how, why, where and when a way ends
+abbrev pub end_of : WayEnd → End
+end_of e = record { outcome = e.outcome; reason = e.reason; place = e.place; time = e.time }
+
+module _ (t : TopologyValue) (passes : List (Tag × Hop)) (made : ℕ) (taken : List Ended) (ends : List WayEnd) (c : CoursesValue) where
   abbrev j : ℕ
   j = c.source
 
@@ -101,7 +114,7 @@ module _ (t : TopologyValue) (passes : List (Tag × Hop)) (made : ℕ) (taken wa
   courses ks = map (course_in t c.source passes) ks
 
   -- by so many tags, said otherwise
-  pub courses_as : (tags new : ℕ → ℕ) → ((k : ℕ) → tags k ≡ new k) → AreCourses t passes tags made taken ways c → AreCourses t passes new made taken ways c
+  pub courses_as : (tags new : ℕ → ℕ) → ((k : ℕ) → tags k ≡ new k) → AreCourses t passes tags made taken ends c → AreCourses t passes new made taken ends c
   courses_as tags new same was = record {
     numbers = was.numbers;
     under_way = was.under_way;
@@ -110,13 +123,14 @@ module _ (t : TopologyValue) (passes : List (Tag × Hop)) (made : ℕ) (taken wa
     few = λ k past. sym (same k) ∙ was.few k past;
     fresh = was.fresh;
     ended = was.ended;
+    gone = gone_as tags new made made (λ k none low. (sym (same k) ∙ none, low)) ends was.gone;
   }
 
   numbers_are : (ks : List ℕ) → numbers_of (courses ks) ≡ ks
   numbers_are [] = refl
   numbers_are (k ∷ ks) = ap (λ l. k ∷ l) (numbers_are ks)
 
-  pub courses_rise : (tags : ℕ → ℕ) → AreCourses t passes tags made taken ways c → Rise (numbers_of c.under_way)
+  pub courses_rise : (tags : ℕ → ℕ) → AreCourses t passes tags made taken ends c → Rise (numbers_of c.under_way)
   courses_rise tags was = subst Rise (sym (ap numbers_of was.under_way ∙ numbers_are was.numbers)) was.rise
 
   module _ (tag : Tag) (hop : Hop) where
@@ -144,9 +158,21 @@ module _ (t : TopologyValue) (passes : List (Tag × Hop)) (made : ℕ) (taken wa
     courses_more [] = refl
     courses_more (k ∷ ks) = (λ i. course_more k i ∷ courses_more ks i)
 
+    -- a packet that is gone does not pass
+    ended_more : (e : WayEnd) → is_packet c.source e.tag.number tag ≡ false → ended_in t c.source passes e ≡ ended_in t c.source later e
+    ended_more e other = (λ i. record { course = as_hops e.tag.number (sym (hops_same e.tag.number other) i); end = end_of e })
+
+    ends_more : (tags : ℕ → ℕ) → ((k : ℕ) → is_packet c.source k tag ≡ true → 1 ≤ tags k) → (es : List WayEnd) → AreGone tags made es → map (ended_in t c.source passes) es ≡ map (ended_in t c.source later) es
+    ends_more tags held [] gone = refl
+    ends_more tags held (e ∷ es) gone = (λ i. ended_more e (other (is_packet c.source e.tag.number tag) refl) i ∷ ends_more tags held es gone.2 i)
+      where
+        other : (b : Bool) → is_packet c.source e.tag.number tag ≡ b → is_packet c.source e.tag.number tag ≡ false
+        other true is = absurd (let some = held e.tag.number is in let none = gone.0 in omega (arith, some, none))
+        other false is = is
+
     -- a packet that is in the network passes an interface
-    pub courses_passed : (tags : ℕ → ℕ) → ((k : ℕ) → is_packet c.source k tag ≡ true → 1 ≤ tags k) → AreCourses t passes tags made taken ways c
-        → AreCourses t later tags made taken ways (passed tag hop c)
+    pub courses_passed : (tags : ℕ → ℕ) → ((k : ℕ) → is_packet c.source k tag ≡ true → 1 ≤ tags k) → AreCourses t passes tags made taken ends c
+        → AreCourses t later tags made taken ends (passed tag hop c)
     courses_passed tags held was = record {
       numbers = was.numbers;
       under_way = ap (map (with_hop c.source tag hop)) was.under_way ∙ courses_more was.numbers;
@@ -154,14 +180,15 @@ module _ (t : TopologyValue) (passes : List (Tag × Hop)) (made : ℕ) (taken wa
       each = was.each;
       few = was.few;
       fresh = λ k past. go k past (is_packet c.source k tag) refl;
-      ended = was.ended;
+      ended = was.ended ∙ ends_more tags held ends was.gone;
+      gone = was.gone;
     }
       where
         go : (k : ℕ) → made ≤ k → (b : Bool) → is_packet c.source k tag ≡ b → hops_in c.source k later ≡ []
         go k past true e = absurd (let a = held k e in let b = was.few k past in omega (arith, a, b))
         go k past false e = hops_same k e ∙ was.fresh k past
 
-  module _ (tag : Tag) (end : End) where
+  module _ (tag : Tag) where
     left_are : (ks : List ℕ) → keep_where (λ (x : CourseValue). not (is_packet c.source x.number tag)) (courses ks) ≡ courses (keep_where (λ k. not (is_packet c.source k tag)) ks)
     left_are [] = refl
     left_are (k ∷ ks) = go (not (is_packet c.source k tag)) (left_are ks)
@@ -180,56 +207,73 @@ module _ (t : TopologyValue) (passes : List (Tag × Hop)) (made : ℕ) (taken wa
         go true rest = ap (λ l. course_in t c.source passes k ∷ l) rest
         go false rest = rest
 
-    -- the way that ends, if it is this source's
-    abbrev pub own_end : List Ended
-    own_end = cond (counts_for c.source tag) (closed end (course_in t c.source passes tag.number) ∷ []) []
+  -- a way ends
+  module _ (e : WayEnd) where
+    abbrev own_end : List WayEnd
+    own_end = own_ends c.source (e ∷ [])
 
-    pub courses_over : (tags left : ℕ → ℕ) → ((k : ℕ) → tags k ≡ cond (is_packet c.source k tag) 1 0 + left k) → AreCourses t passes tags made taken ways c
-        → AreCourses t passes left made taken (ways ++ own_end) (over tag end c)
+    pub courses_over : (tags left : ℕ → ℕ) → ((k : ℕ) → tags k ≡ cond (is_packet c.source k e.tag) 1 0 + left k) → AreCourses t passes tags made taken ends c
+        → AreCourses t passes left made taken (ends ++ own_ends c.source (e ∷ [])) (over e.tag (end_of e) c)
     courses_over tags rest split was = record {
-      numbers = keep_where (λ k. not (is_packet c.source k tag)) was.numbers;
-      under_way = ap (keep_where (λ (x : CourseValue). not (is_packet c.source x.number tag))) was.under_way ∙ left_are was.numbers;
-      rise = rise_kept (λ k. not (is_packet c.source k tag)) was.numbers was.rise;
-      each = λ k. counted k (is_packet c.source k tag) refl;
+      numbers = keep_where (λ k. not (is_packet c.source k e.tag)) was.numbers;
+      under_way = ap (keep_where (λ (x : CourseValue). not (is_packet c.source x.number e.tag))) was.under_way ∙ left_are e.tag was.numbers;
+      rise = rise_kept (λ k. not (is_packet c.source k e.tag)) was.numbers was.rise;
+      each = λ k. counted k (is_packet c.source k e.tag) refl;
       few = λ k past. let a = was.few k past in let b = split k in omega (arith, a, b);
       fresh = was.fresh;
-      ended = sym (append_assoc taken c.ended (map (closed end) (keep_where (λ (x : CourseValue). is_packet c.source x.number tag) c.under_way))) ∙ (λ i. was.ended i ++ closes i);
+      ended = sym (append_assoc taken c.ended (map (closed (end_of e)) (keep_where (λ (x : CourseValue). is_packet c.source x.number e.tag) c.under_way))) ∙ (λ i. was.ended i ++ closes i)
+          ∙ sym (map-append (ended_in t c.source passes) ends own_end);
+      gone = gone_more (counts_for c.source e.tag) refl;
     }
       where
-        counted : (k : ℕ) (b : Bool) → is_packet c.source k tag ≡ b → times_in k (keep_where (λ k. not (is_packet c.source k tag)) was.numbers) ≡ rest k
-        counted k true e =
-            let one : ◌≡◌ {A = ℕ} (cond (is_packet c.source k tag) 1 0) 1 = ap (λ b. cond b 1 0) e in
+        counted : (k : ℕ) (b : Bool) → is_packet c.source k e.tag ≡ b → times_in k (keep_where (λ k. not (is_packet c.source k e.tag)) was.numbers) ≡ rest k
+        counted k true is =
+            let one : ◌≡◌ {A = ℕ} (cond (is_packet c.source k e.tag) 1 0) 1 = ap (λ b. cond b 1 0) is in
             let a = was.each k in
             let b = split k in
             let few = times_few k was.numbers was.rise in
-            let gone = times_gone c.source tag k was.numbers e in
+            let gone = times_gone c.source e.tag k was.numbers is in
             omega (arith, one, a, b, few, gone)
-        counted k false e =
-            let none : ◌≡◌ {A = ℕ} (cond (is_packet c.source k tag) 1 0) 0 = ap (λ b. cond b 1 0) e in
+        counted k false is =
+            let none : ◌≡◌ {A = ℕ} (cond (is_packet c.source k e.tag) 1 0) 0 = ap (λ b. cond b 1 0) is in
             let a = was.each k in
             let b = split k in
-            let same = times_left c.source tag k was.numbers e in
+            let same = times_left c.source e.tag k was.numbers is in
             omega (arith, none, a, b, same)
 
-        found : (b : Bool) → counts_for c.source tag ≡ b → map (closed end) (courses (keep_where (λ k. is_packet c.source k tag) was.numbers)) ≡ own_end
-        found true e =
-            let one : ◌≡◌ {A = ℕ} (cond (is_packet c.source tag.number tag) 1 0) 1 = ap (λ b. cond b 1 0) (packet_own c.source tag e) in
-            let a = was.each tag.number in
-            let b = split tag.number in
-            ap (λ l. map (closed end) (courses l)) (own_one c.source tag e was.numbers was.rise (omega (arith, one, a, b)))
-            ∙ sym (ap (λ b. cond b (closed end (course_in t c.source passes tag.number) ∷ []) []) e)
-        found false e =
-            ap (λ l. map (closed end) (courses l)) (own_none c.source tag e was.numbers)
-            ∙ sym (ap (λ b. cond b (closed end (course_in t c.source passes tag.number) ∷ []) []) e)
+        found : (b : Bool) → counts_for c.source e.tag ≡ b → map (closed (end_of e)) (courses (keep_where (λ k. is_packet c.source k e.tag) was.numbers)) ≡ map (ended_in t c.source passes) own_end
+        found true is =
+            let one : ◌≡◌ {A = ℕ} (cond (is_packet c.source e.tag.number e.tag) 1 0) 1 = ap (λ b. cond b 1 0) (packet_own c.source e.tag is) in
+            let a = was.each e.tag.number in
+            let b = split e.tag.number in
+            ap (λ l. map (closed (end_of e)) (courses l)) (own_one c.source e.tag is was.numbers was.rise (omega (arith, one, a, b)))
+            ∙ sym (ap (λ b. map (ended_in t c.source passes) (cond b (e ∷ []) [])) is)
+        found false is =
+            ap (λ l. map (closed (end_of e)) (courses l)) (own_none c.source e.tag is was.numbers)
+            ∙ sym (ap (λ b. map (ended_in t c.source passes) (cond b (e ∷ []) [])) is)
 
-        closes : map (closed end) (keep_where (λ (x : CourseValue). is_packet c.source x.number tag) c.under_way) ≡ own_end
-        closes = ap (λ l. map (closed end) (keep_where (λ (x : CourseValue). is_packet c.source x.number tag) l)) was.under_way
-            ∙ ap (map (closed end)) (gone_are was.numbers) ∙ found (counts_for c.source tag) refl
+        closes : map (closed (end_of e)) (keep_where (λ (x : CourseValue). is_packet c.source x.number e.tag) c.under_way) ≡ map (ended_in t c.source passes) own_end
+        closes = ap (λ l. map (closed (end_of e)) (keep_where (λ (x : CourseValue). is_packet c.source x.number e.tag) l)) was.under_way
+            ∙ ap (map (closed (end_of e))) (gone_are e.tag was.numbers) ∙ found (counts_for c.source e.tag) refl
+
+        still_gone : AreGone rest made ends
+        still_gone = gone_as tags rest made made (λ k none low. (let b = split k in omega (arith, none, b), low)) ends was.gone
+
+        gone_more : (b : Bool) → counts_for c.source e.tag ≡ b → AreGone rest made (ends ++ cond (counts_for c.source e.tag) (e ∷ []) [])
+        gone_more true is =
+            let itself = packet_own c.source e.tag is in
+            let one : ◌≡◌ {A = ℕ} (cond (is_packet c.source e.tag.number e.tag) 1 0) 1 = ap (λ b. cond b 1 0) itself in
+            let a = was.each e.tag.number in
+            let b = split e.tag.number in
+            let few = times_few e.tag.number was.numbers was.rise in
+            subst (λ b. AreGone rest made (ends ++ cond b (e ∷ []) [])) (sym is)
+            (gone_push rest made ends e (omega (arith, one, a, b, few)) (⊎_elim (λ low. low) (λ past. absurd (let none = was.few e.tag.number past in omega (arith, none, one, b))) (cases_lt e.tag.number made)) still_gone)
+        gone_more false is = subst (λ b. AreGone rest made (ends ++ cond b (e ∷ []) [])) (sym is) (subst (AreGone rest made) (sym (append-nil ends)) still_gone)
 
   -- a source makes a packet
-  module _ (tag : Tag) (tags new : ℕ → ℕ) (more : (k : ℕ) → new k ≡ cond (is_packet c.source k tag) 1 0 + tags k) (was : AreCourses t passes tags made taken ways c) where
+  module _ (tag : Tag) (tags new : ℕ → ℕ) (more : (k : ℕ) → new k ≡ cond (is_packet c.source k tag) 1 0 + tags k) (was : AreCourses t passes tags made taken ends c) where
     pub courses_begun : counts_for c.source tag ≡ true → tag.number ≡ made → tag.at ≡ time_of ((net_of t).source c.source made)
-        → AreCourses t passes new (made + 1) taken ways (begun tag c)
+        → AreCourses t passes new (made + 1) taken ends (begun tag c)
     courses_begun own number at = record {
       numbers = was.numbers ++ tag.number ∷ [];
       under_way = ap (λ b. cond b (c.under_way ++ record { number = tag.number; sent = tag.at; hops = [] } ∷ []) c.under_way) own
@@ -240,6 +284,7 @@ module _ (t : TopologyValue) (passes : List (Tag × Hop)) (made : ℕ) (taken wa
       few = λ k past. none_is k past (is_packet c.source k tag) refl;
       fresh = λ k past. was.fresh k (omega (arith, past));
       ended = was.ended;
+      gone = gone_as tags new made (made + 1) (λ k none low. (others k none low, omega (arith, low))) ends was.gone;
     }
       where
         made_is : (record { number = tag.number; sent = tag.at; hops = [] }) ≡ course_in t c.source passes tag.number
@@ -253,6 +298,12 @@ module _ (t : TopologyValue) (passes : List (Tag × Hop)) (made : ℕ) (taken wa
             let same : ◌≡◌ {A = ℕ} (cond (is_packet c.source k tag) 1 0) (cond (tag.number == k) 1 0) = ap (λ b. cond (b && (tag.number == k)) 1 0) own in
             omega (arith, a, m, p, same)
 
+        others : (k : ℕ) → tags k ≡ 0 → k < made → new k ≡ 0
+        others k none low =
+            let m = more k in
+            let zero : ◌≡◌ {A = ℕ} (cond (is_packet c.source k tag) 1 0) 0 = ap (λ b. cond b 1 0) (packet_other c.source tag tag.number k (packet_own c.source tag own) (λ e. omega (arith, e, number, low))) in
+            omega (arith, m, none, zero)
+
         none_is : (k : ℕ) → made + 1 ≤ k → (b : Bool) → is_packet c.source k tag ≡ b → new k ≡ 0
         none_is k past true e = absurd (let n = packet_number c.source tag k e in omega (arith, n, number, past))
         none_is k past false e =
@@ -262,7 +313,7 @@ module _ (t : TopologyValue) (passes : List (Tag × Hop)) (made : ℕ) (taken wa
             omega (arith, none, m, f)
 
     -- or another does
-    pub courses_kept : counts_for c.source tag ≡ false → AreCourses t passes new made taken ways (begun tag c)
+    pub courses_kept : counts_for c.source tag ≡ false → AreCourses t passes new made taken ends (begun tag c)
     courses_kept other = record {
       numbers = was.numbers;
       under_way = ap (λ b. cond b (c.under_way ++ record { number = tag.number; sent = tag.at; hops = [] } ∷ []) c.under_way) other ∙ was.under_way;
@@ -271,6 +322,7 @@ module _ (t : TopologyValue) (passes : List (Tag × Hop)) (made : ℕ) (taken wa
       few = λ k past. let f = was.few k past in let m = more k in let none : ◌≡◌ {A = ℕ} (cond (is_packet c.source k tag) 1 0) 0 = ap (λ b. cond b 1 0) (packet_none c.source tag other k) in omega (arith, f, m, none);
       fresh = was.fresh;
       ended = was.ended;
+      gone = gone_as tags new made made (λ k none low. (let m = more k in let zero : ◌≡◌ {A = ℕ} (cond (is_packet c.source k tag) 1 0) 0 = ap (λ b. cond b 1 0) (packet_none c.source tag other k) in omega (arith, m, none, zero), low)) ends was.gone;
     }
 
 -- no course has a number, if none at the place has it before which all have a lesser one

@@ -1,13 +1,12 @@
 -- The ways of one source's packets, one event later.
-use Rattle.std.proofs.Common.{◌≡◌, ◌≢◌, ℕ, suc, ◌+◌, ◌<◌, ◌==◌, Bool, true, false, cond, List, [], ◌∷◌, ◌++◌, map, length, Option, Some, None, refl, sym, ap, ◌∙◌, subst, arith, ⊎_elim, append-nil, append_assoc}
+use Rattle.std.proofs.Common.{◌≡◌, ◌≢◌, ℕ, suc, ◌+◌, ◌<◌, ◌==◌, Bool, true, false, cond, List, [], ◌∷◌, ◌++◌, length, Option, Some, None, refl, sym, ap, ◌∙◌, subst, arith, ⊎_elim, append-nil, append_assoc}
 use Rattle.std.specs.Option.{option_map}
-use Rattle.std.proofs.lemmas.List.{map-append}
 use Rattle.nm_base.specs.declared.key.Place.{Place}
 use Rattle.nm_base.specs.declared.key.Place.TheVariants.{Arrive, Complete, Fire}
 use Rattle.nm_base.specs.declared.record.Dir.TheVariants.{In, Out}
 use Rattle.nm_events.specs.Held.{Held}
 use Rattle.nm_model.proofs.ListLemmas.{kept-append, number_apart, number_tied, same_number}
-use Rattle.nm_model.specs.Lists.{keep_where, set_at}
+use Rattle.nm_model.specs.Lists.{set_at}
 use Rattle.nm_model.specs.declared.offering.Offering.{Offering}
 use Rattle.nm_model.specs.declared.offering.Offering.TheVariants.{Nothing, Started, Waits, Dropped}
 use Rattle.nm_sim.specs.Network.{net_of}
@@ -26,21 +25,21 @@ use Rattle.nm_measure.specs.declared.flow_counts.PacketOutcome.TheVariants as ou
 use Rattle.nm_measure.specs.declared.tag.Tag.{Tag}
 use Rattle.nm_forward.specs.declared.counter.Counter.{Counter}
 use Rattle.nm_measure.specs.Counted.{counts_for}
-use Rattle.nm_measure.specs.Courses.{course_in, ended_in, hops_in, is_packet, passes_in, tags_in, ways_in}
+use Rattle.nm_measure.specs.Courses.{is_packet, own_ends, passes_in, tags_in}
 use Rattle.nm_measure.specs.CoursesValue.{CoursesValue}
 use Rattle.nm_measure.specs.Followed.{AreCourses, AreFollowed, AreRising, IsFollowed, begun, came_to_end, over, passed, went_out}
 use Rattle.nm_measure.specs.Interfaces.{IsNext}
 use Rattle.nm_measure.specs.Lanes.{CanBe, lanes_in, with_offer}
 use Rattle.nm_measure.specs.Sent.{is_fire, sent_in}
 use Rattle.nm_measure.specs.Ways.{WayEnd, answer_tag, counter_at, drop_at, dropped_as, end_at, ended_as, ends_in, fate_at, made_as, outcome_by, own_tag, tagged_list, time_of, unsent_at}
-use Rattle.nm_measure.proofs.Coursing.{courses_as, courses_begun, courses_kept, courses_over, courses_passed, courses_rise, hops_same}
+use Rattle.nm_measure.proofs.Coursing.{courses_as, courses_begun, courses_kept, courses_over, courses_passed, courses_rise, end_of}
 use Rattle.nm_measure.proofs.Firings.{SourceStep, made_dropped}
 use Rattle.nm_measure.proofs.Following.{ArrivalStep}
 use Rattle.nm_measure.proofs.Laning.{answer_counts_none}
 use Rattle.nm_measure.proofs.Making.{fires, made_later, rests}
 use Rattle.nm_measure.proofs.Numbers.{packet_none}
-use Rattle.nm_measure.proofs.Passing.{started_passes, ways_next}
-use Rattle.nm_measure.proofs.Tallies.{one_if, tags_as, tags_first, tags_left, tags_next, tags_offered}
+use Rattle.nm_measure.proofs.Passing.{started_passes}
+use Rattle.nm_measure.proofs.Tallies.{dropped_one, one_if, tags_as, tags_first, tags_left, tags_next, tags_offered}
 
 none_of : (b : Bool) → ◌≡◌ {A = ℕ} (cond b 1 0) 0 → b ≡ false
 none_of true h = absurd (omega (arith, h))
@@ -53,99 +52,64 @@ one_none j k tag none = ap (λ b. cond b 1 0) (packet_none j tag none k)
 one_some : (j k : ℕ) (tag : Tag) → is_packet j k tag ≡ true → one_if (is_packet j k) tag ≡ 1
 one_some j k tag is = ap (λ b. cond b 1 0) is
 
--- of one end, those that are a source's
-kept_one : (f : WayEnd → Ended) (b : Bool) (e : WayEnd) → map f (cond b (e ∷ []) []) ≡ cond b (f e ∷ []) []
-kept_one f true e = refl
-kept_one f false e = refl
-
 module _ (t : TopologyValue) (made : ℕ) (taken : List Ended) (c : CoursesValue) where
-  abbrev p : ℕ → Tag → Bool
-  p k = is_packet c.source k
-
-  -- the ways of those ends that are this source's
-  abbrev pub own_ways : List (Tag × Hop) → List WayEnd → List Ended
-  own_ways passes ends = map (ended_in t c.source passes) (keep_where (λ e. counts_for c.source e.tag) ends)
-
   -- the same, said otherwise
-  said : (old new : List (Tag × Hop)) (tags : ℕ → ℕ) (ways later : List Ended) → old ≡ new → ways ≡ later → AreCourses t old tags made taken ways c → AreCourses t new tags made taken later c
-  said old new tags ways later same also = subst (λ (z : List (Tag × Hop) × List Ended). AreCourses t z.0 tags made taken z.1 c) (λ i. (same i, also i))
+  said : (old new : List (Tag × Hop)) (tags : ℕ → ℕ) (ends later : List WayEnd) → old ≡ new → ends ≡ later → AreCourses t old tags made taken ends c → AreCourses t new tags made taken later c
+  said old new tags ends later same also = subst (λ (z : List (Tag × Hop) × List WayEnd). AreCourses t z.0 tags made taken z.1 c) (λ i. (same i, also i))
 
 -- what is sent is offered
-module _ (t : TopologyValue) (passes : List (Tag × Hop)) (made : ℕ) (taken ways : List Ended) (c : CoursesValue) (count : ℕ) (all : ℕ → List Tag × List Tag) (a : Tag) (now : ℕ) (x : List ℕ) where
+module _ (t : TopologyValue) (passes : List (Tag × Hop)) (made : ℕ) (taken : List Ended) (ends : List WayEnd) (c : CoursesValue) (count : ℕ) (all : ℕ → List Tag × List Tag) (a : Tag) (now : ℕ) (x : List ℕ) where
   abbrev held : ℕ → ℕ
   held k = one_if (is_packet c.source k) a + tags_in (is_packet c.source k) count all
 
-  pub courses_offered : (o : Offering) → CanBe count all o → ((k : ℕ) → o ≡ Nothing → one_if (is_packet c.source k) a ≡ 0) → AreCourses t passes held made taken ways c
+  offered_tags : (o : Offering) → CanBe count all o → ((k : ℕ) → o ≡ Nothing → one_if (is_packet c.source k) a ≡ 0) → ((k : ℕ) → dropped_one (is_packet c.source k) o a ≡ 0)
+      → AreCourses t passes held made taken ends c → AreCourses t passes (λ k. tags_in (is_packet c.source k) count (with_offer o a all)) made taken ends c
+  offered_tags o can none kept was = courses_as t passes made taken ends c held _
+      (λ k. let z = tags_offered (is_packet c.source k) count all o a can (none k) in let y = kept k in omega (arith, z, y)) was
+
+  pub courses_offered : (o : Offering) → CanBe count all o → ((k : ℕ) → o ≡ Nothing → one_if (is_packet c.source k) a ≡ 0) → AreCourses t passes held made taken ends c
       → AreCourses t (passes ++ started_passes o a now) (λ k. tags_in (is_packet c.source k) count (with_offer o a all)) made taken
-      (ways ++ own_ways t made taken c (passes ++ started_passes o a now) (dropped_as (drop_at now (a, x)) o)) (went_out o a now c)
-  courses_offered Nothing can none was =
-      said t made taken c passes (passes ++ []) _ ways (ways ++ []) (sym (append-nil passes)) (sym (append-nil ways))
-      (courses_as t passes made taken ways c held _ (λ k. let z = tags_offered (is_packet c.source k) count all Nothing a can (none k) in omega (arith, z)) was)
+      (ends ++ own_ends c.source (dropped_as (drop_at now (a, x)) o)) (went_out o a now c)
+  courses_offered Nothing can none was = said t made taken c passes (passes ++ []) _ ends (ends ++ []) (sym (append-nil passes)) (sym (append-nil ends)) (offered_tags Nothing can none (λ k. refl) was)
   courses_offered (Started i) can none was =
-      said t made taken (passed a (record { iface = i; dir = Out; time = now }) c) (passes ++ (a, record { iface = i; dir = Out; time = now }) ∷ []) _ _ ways (ways ++ []) refl (sym (append-nil ways))
-      (courses_as t (passes ++ (a, record { iface = i; dir = Out; time = now }) ∷ []) made taken ways (passed a (record { iface = i; dir = Out; time = now }) c) held _
+      let hop : Hop = record { iface = i; dir = Out; time = now } in
+      said t made taken (passed a hop c) (passes ++ (a, hop) ∷ []) _ _ ends (ends ++ []) refl (sym (append-nil ends))
+      (courses_as t (passes ++ (a, hop) ∷ []) made taken ends (passed a hop c) held _
       (λ k. let z = tags_offered (is_packet c.source k) count all (Started i) a can (none k) in omega (arith, z))
-      (courses_passed t passes made taken ways c a (record { iface = i; dir = Out; time = now }) held
-      (λ k is. let one = one_some c.source k a is in omega (arith, one)) was))
-  courses_offered (Waits i) can none was =
-      said t made taken c passes (passes ++ []) _ ways (ways ++ []) (sym (append-nil passes)) (sym (append-nil ways))
-      (courses_as t passes made taken ways c held _ (λ k. let z = tags_offered (is_packet c.source k) count all (Waits i) a can (none k) in omega (arith, z)) was)
+      (courses_passed t passes made taken ends c a hop held (λ k is. let one = one_some c.source k a is in omega (arith, one)) was))
+  courses_offered (Waits i) can none was = said t made taken c passes (passes ++ []) _ ends (ends ++ []) (sym (append-nil passes)) (sym (append-nil ends)) (offered_tags (Waits i) can none (λ k. refl) was)
   courses_offered (Dropped i) can none was =
-      said t made taken (went_out (Dropped i) a now c) passes (passes ++ []) _ _ _ (sym (append-nil passes))
-      (ap (λ l. ways ++ l) (
-      sym (kept_one (ended_in t c.source passes) (counts_for c.source a) (drop_at now (a, x) i))
-      ∙ ap (λ q. own_ways t made taken c q (drop_at now (a, x) i ∷ [])) (sym (append-nil passes))))
-      (courses_over t passes made taken ways c a _ held (λ k. tags_in (is_packet c.source k) count all) (λ k. refl) was)
-
--- hops that are not a source's leave its ways as they are
-module _ (t : TopologyValue) (made : ℕ) (taken ways : List Ended) (c : CoursesValue) (passes : List (Tag × Hop)) (a : Tag) (now : ℕ) (other : counts_for c.source a ≡ false) where
-  hops_kept : (o : Offering) (k : ℕ) → hops_in c.source k (passes ++ started_passes o a now) ≡ hops_in c.source k passes
-  hops_kept Nothing k = ap (hops_in c.source k) (append-nil passes)
-  hops_kept (Started i) k = hops_same t passes made taken ways c a (record { iface = i; dir = Out; time = now }) k (packet_none c.source a other k)
-  hops_kept (Waits i) k = ap (hops_in c.source k) (append-nil passes)
-  hops_kept (Dropped i) k = ap (hops_in c.source k) (append-nil passes)
-
-  ended_kept : (o : Offering) (e : WayEnd) → ended_in t c.source passes e ≡ ended_in t c.source (passes ++ started_passes o a now) e
-  ended_kept o e = (λ i. record {
-    course = record { number = e.tag.number; sent = time_of ((net_of t).source c.source e.tag.number); hops = sym (hops_kept o e.tag.number) i };
-    end = record { outcome = e.outcome; reason = e.reason; place = e.place; time = e.time };
-  })
+      said t made taken (went_out (Dropped i) a now c) passes (passes ++ []) _ _ _ (sym (append-nil passes)) refl
+      (courses_over t passes made taken ends c (drop_at now (a, x) i) held (λ k. tags_in (is_packet c.source k) count all) (λ k. refl) was)
 
 -- a packet comes to a node, where its way ends or does not
-module _ (t : TopologyValue) (passes : List (Tag × Hop)) (made : ℕ) (taken ways : List Ended) (c : CoursesValue) (count : ℕ) (all : ℕ → List Tag × List Tag) (x : Tag × List ℕ) (counter : Counter) (v now : ℕ) where
+module _ (t : TopologyValue) (passes : List (Tag × Hop)) (made : ℕ) (taken : List Ended) (ends : List WayEnd) (c : CoursesValue) (count : ℕ) (all : ℕ → List Tag × List Tag) (x : Tag × List ℕ) (counter : Counter) (v now : ℕ) where
   abbrev in_hand : Tag → ℕ → ℕ
   in_hand a k = one_if (is_packet c.source k) a + tags_in (is_packet c.source k) count all
 
   abbrev ended_here : Option PacketOutcome → CoursesValue
   ended_here how = came_to_end x.0 how (Counted counter) (record { node = v; octets = length x.1; now = now }) c
 
-  ends_with : (a : Tag) (off : Offering) (out : PacketOutcome) → counts_for c.source a ≡ false → AreCourses t passes (in_hand x.0) made taken ways c
-      → AreCourses t passes (in_hand a) made taken (ways ++ own_ways t made taken c (passes ++ started_passes off a now) (ended_as (end_at counter v now x) (Some out))) (ended_here (Some out))
-  ends_with a off out other was =
-      said t made taken (ended_here (Some out)) passes passes (in_hand a) _ _ refl
-      (ap (λ l. ways ++ l) (
-      ap (λ e. cond (counts_for c.source x.0) (e ∷ []) []) (ended_kept t made taken ways c passes a now other off (end_at counter v now x out))
-      ∙ sym (kept_one (ended_in t c.source (passes ++ started_passes off a now)) (counts_for c.source x.0) (end_at counter v now x out))))
-      (courses_as t passes made taken _ (ended_here (Some out)) (λ k. tags_in (is_packet c.source k) count all) (in_hand a) (λ k. let none = one_none c.source k a other in omega (arith, none))
-      (courses_over t passes made taken ways c x.0 _ (in_hand x.0) (λ k. tags_in (is_packet c.source k) count all) (λ k. refl) was))
+  ends_with : (a : Tag) (out : PacketOutcome) → counts_for c.source a ≡ false → AreCourses t passes (in_hand x.0) made taken ends c
+      → AreCourses t passes (in_hand a) made taken (ends ++ own_ends c.source (ended_as (end_at counter v now x) (Some out))) (ended_here (Some out))
+  ends_with a out other was =
+      courses_as t passes made taken _ (ended_here (Some out)) (λ k. tags_in (is_packet c.source k) count all) (in_hand a) (λ k. let none = one_none c.source k a other in omega (arith, none))
+      (courses_over t passes made taken ends c (end_at counter v now x out) (in_hand x.0) (λ k. tags_in (is_packet c.source k) count all) (λ k. refl) was)
 
   answer_other : (f : Fate) → f ≢ fate.SentOn → counts_for c.source (answer_tag f x.0) ≡ false
   answer_other f apart = none_of (counts_for c.source (answer_tag f x.0)) (answer_counts_none c.source f x.0 apart)
 
-  pub courses_came : (f : Fate) (off : Offering) → AreCourses t passes (in_hand x.0) made taken ways c
-      → AreCourses t passes (in_hand (answer_tag f x.0)) made taken (ways ++ own_ways t made taken c (passes ++ started_passes off (answer_tag f x.0) now) (ended_as (end_at counter v now x) (outcome_by f))) (ended_here (outcome_by f))
-  courses_came fate.SentOn off was = said t made taken c passes passes _ ways (ways ++ []) refl (sym (append-nil ways)) was
-  courses_came fate.Requested off was = ends_with (answer_tag fate.Requested x.0) off outcome.Delivered (answer_other fate.Requested (λ e. cc)) was
-  courses_came fate.Delivered off was = ends_with (answer_tag fate.Delivered x.0) off outcome.Delivered refl was
-  courses_came fate.Told off was = ends_with (answer_tag fate.Told x.0) off outcome.Delivered refl was
-  courses_came fate.Refused off was = ends_with (answer_tag fate.Refused x.0) off outcome.Refused refl was
-  courses_came fate.Discarded off was = ends_with (answer_tag fate.Discarded x.0) off outcome.Discarded refl was
+  pub courses_came : (f : Fate) → AreCourses t passes (in_hand x.0) made taken ends c
+      → AreCourses t passes (in_hand (answer_tag f x.0)) made taken (ends ++ own_ends c.source (ended_as (end_at counter v now x) (outcome_by f))) (ended_here (outcome_by f))
+  courses_came fate.SentOn was = said t made taken c passes passes _ ends (ends ++ []) refl (sym (append-nil ends)) was
+  courses_came fate.Requested was = ends_with (answer_tag fate.Requested x.0) outcome.Delivered (answer_other fate.Requested (λ e. cc)) was
+  courses_came fate.Delivered was = ends_with (answer_tag fate.Delivered x.0) outcome.Delivered refl was
+  courses_came fate.Told was = ends_with (answer_tag fate.Told x.0) outcome.Delivered refl was
+  courses_came fate.Refused was = ends_with (answer_tag fate.Refused x.0) outcome.Refused refl was
+  courses_came fate.Discarded was = ends_with (answer_tag fate.Discarded x.0) outcome.Discarded refl was
 
--- the ends of an event are those of what came and of what was sent
-own_ways_append : (t : TopologyValue) (made : ℕ) (taken : List Ended) (c : CoursesValue) (passes : List (Tag × Hop)) (a b : List WayEnd) → own_ways t made taken c passes (a ++ b) ≡ own_ways t made taken c passes a ++ own_ways t made taken c passes b
-own_ways_append t made taken c passes a b =
-    ap (map (ended_in t c.source passes)) (kept-append (λ (e : WayEnd). counts_for c.source e.tag) a b)
-    ∙ map-append (ended_in t c.source passes) (keep_where (λ (e : WayEnd). counts_for c.source e.tag) a) (keep_where (λ (e : WayEnd). counts_for c.source e.tag) b)
+own_append : (j : ℕ) (a b : List WayEnd) → own_ends j (a ++ b) ≡ own_ends j a ++ own_ends j b
+own_append j a b = kept-append (λ (e : WayEnd). counts_for j e.tag) a b
 
 -- what a source did not make
 unmade : (t : TopologyValue) (n now : ℕ) (place : Place) (p : PartValue Held) (h : Happened) → IsNext t n now place p h → (j : ℕ) → is_fire j place ≡ false → sent_in (net_of t) j (suc n) ≡ sent_in (net_of t) j n
@@ -154,8 +118,8 @@ unmade t n now place p h next j none =
     let b : ◌≡◌ {A = ℕ} (cond (is_fire j place) 1 0) 0 = ap (λ b. cond b 1 0) none in
     omega (arith, a, b)
 
-made_as_is : (t : TopologyValue) (passes : List (Tag × Hop)) (tags : ℕ → ℕ) (taken ways : List Ended) (c : CoursesValue) (m n : ℕ) → m ≡ n → AreCourses t passes tags m taken ways c → AreCourses t passes tags n taken ways c
-made_as_is t passes tags taken ways c m n same = subst (λ k. AreCourses t passes tags k taken ways c) same
+made_as_is : (t : TopologyValue) (passes : List (Tag × Hop)) (tags : ℕ → ℕ) (taken : List Ended) (ends : List WayEnd) (c : CoursesValue) (m n : ℕ) → m ≡ n → AreCourses t passes tags m taken ends c → AreCourses t passes tags n taken ends c
+made_as_is t passes tags taken ends c m n same = subst (λ k. AreCourses t passes tags k taken ends c) same
 
 module _ (t : TopologyValue) (n now i : ℕ) (p : PartValue Held) (h : Happened) (next : IsNext t n now (Arrive i) p h) (step : ArrivalStep t n now i h) (low : (net_of t).far_end i < length t.ifaces) (taken : List Ended) where
   abbrev v : ℕ
@@ -201,52 +165,48 @@ module _ (t : TopologyValue) (n now i : ℕ) (p : PartValue Held) (h : Happened)
     abbrev hand : Tag → ℕ → ℕ
     hand g k = one_if (is_packet c.source k) g + tags_in (is_packet c.source k) (length t.ifaces) popped
 
-    was_one : AreCourses t passes (hand step.packet.0) made taken (ways_in t c.source n) (one c)
-    was_one = courses_passed t (passes_in t n) made taken (ways_in t c.source n) c step.packet.0 hop (hand step.packet.0)
+    abbrev had : List WayEnd
+    had = own_ends c.source (ends_in t n)
+
+    was_one : AreCourses t passes (hand step.packet.0) made taken had (one c)
+    was_one = courses_passed t (passes_in t n) made taken had c step.packet.0 hop (hand step.packet.0)
         (λ k is. let w = one_some c.source k step.packet.0 is in omega (arith, w))
-        (courses_as t (passes_in t n) made taken (ways_in t c.source n) c (λ k. tags_in (is_packet c.source k) count all) (hand step.packet.0)
+        (courses_as t (passes_in t n) made taken had c (λ k. tags_in (is_packet c.source k) count all) (hand step.packet.0)
         (λ k. tags_left (is_packet c.source k) count ((net_of t).far_end i) all step.packet.0 step.on low step.first) was)
 
-    abbrev ways_two : List Ended
-    ways_two = ways_in t c.source n ++ own_ways t made taken (one c) (passes ++ started_passes h.offering a now) (ended_as (end_at (counter_at t v step.packet.1) v now step.packet) (outcome_by f))
+    abbrev came : List WayEnd
+    came = ended_as (end_at (counter_at t v step.packet.1) v now step.packet) (outcome_by f)
 
-    was_two : AreCourses t passes (hand a) made taken ways_two (two (one c))
-    was_two = courses_came t passes made taken (ways_in t c.source n) (one c) count popped step.packet (counter_at t v step.packet.1) v now f h.offering was_one
+    was_two : AreCourses t passes (hand a) made taken (had ++ own_ends c.source came) (two (one c))
+    was_two = courses_came t passes made taken had (one c) count popped step.packet (counter_at t v step.packet.1) v now f was_one
 
     abbrev sent : List (Tag × Hop)
     sent = passes ++ started_passes h.offering a now
 
-    was_three : AreCourses t sent (λ k. tags_in (is_packet c.source k) count (with_offer h.offering a popped)) made taken
-        (ways_two ++ own_ways t made taken c sent (dropped_as (drop_at now (a, step.packet.1)) h.offering)) (three (two (one c)))
-    was_three = courses_offered t passes made taken ways_two (two (one c)) count popped a now step.packet.1 h.offering step.can
+    abbrev lost : List WayEnd
+    lost = dropped_as (drop_at now (a, step.packet.1)) h.offering
+
+    was_three : AreCourses t sent (λ k. tags_in (is_packet c.source k) count (with_offer h.offering a popped)) made taken ((had ++ own_ends c.source came) ++ own_ends c.source lost) (three (two (one c)))
+    was_three = courses_offered t passes made taken (had ++ own_ends c.source came) (two (one c)) count popped a now step.packet.1 h.offering step.can
         (λ k none. one_none c.source k a (none_of (counts_for c.source a) (step.nothing c.source none))) was_two
 
     passes_are : sent ≡ passes_in t (suc n)
     passes_are = append_assoc (passes_in t n) ((step.packet.0, record { iface = i; dir = In; time = now }) ∷ []) (started_passes h.offering a now) ∙ step.passes
 
-    abbrev came : List WayEnd
-    came = ended_as (end_at (counter_at t v step.packet.1) v now step.packet) (outcome_by f)
-
-    abbrev lost : List WayEnd
-    lost = dropped_as (drop_at now (a, step.packet.1)) h.offering
-
-    ways_are : ways_two ++ own_ways t made taken c sent lost ≡ ways_in t c.source (suc n)
-    ways_are =
-        append_assoc (ways_in t c.source n) (own_ways t made taken c sent came) (own_ways t made taken c sent lost)
-        ∙ ap (λ l. ways_in t c.source n ++ l) (sym (own_ways_append t made taken c sent came lost) ∙ ap (λ q. own_ways t made taken c q (came ++ lost)) passes_are)
-        ∙ ways_next t c.source n (came ++ lost) (sym (append_assoc (ends_in t n) came lost) ∙ step.ends)
+    ends_are : (had ++ own_ends c.source came) ++ own_ends c.source lost ≡ own_ends c.source (ends_in t (suc n))
+    ends_are = ap (λ l. l ++ own_ends c.source lost) (sym (own_append c.source (ends_in t n) came)) ∙ sym (own_append c.source (ends_in t n ++ came) lost) ∙ ap (own_ends c.source) step.ends
 
     pub arrival_followed : AreFollowed t (suc n) taken (Some (three (two (one c))))
-    arrival_followed = made_as_is t (passes_in t (suc n)) _ taken (ways_in t c.source (suc n)) (three (two (one c))) made _ (sym (unmade t n now (Arrive i) p h next c.source refl))
-        (courses_as t (passes_in t (suc n)) made taken (ways_in t c.source (suc n)) (three (two (one c))) _ (λ k. tags_in (is_packet c.source k) count (lanes_in t (tagged_list t (suc n))))
+    arrival_followed = made_as_is t (passes_in t (suc n)) _ taken (own_ends c.source (ends_in t (suc n))) (three (two (one c))) made _ (sym (unmade t n now (Arrive i) p h next c.source refl))
+        (courses_as t (passes_in t (suc n)) made taken (own_ends c.source (ends_in t (suc n))) (three (two (one c))) _ (λ k. tags_in (is_packet c.source k) count (lanes_in t (tagged_list t (suc n))))
         (λ k. tags_as (is_packet c.source k) count (with_offer h.offering a popped) (lanes_in t (tagged_list t (suc n))) step.lanes)
-        (said t made taken (three (two (one c))) sent (passes_in t (suc n)) _ _ _ passes_are ways_are was_three))
+        (said t made taken (three (two (one c))) sent (passes_in t (suc n)) _ _ _ passes_are ends_are was_three))
 
     pub arrival_rises : AreRising (Some c) × AreRising (Some (one c)) × AreRising (Some (two (one c)))
     arrival_rises = (
-      courses_rise t (passes_in t n) made taken (ways_in t c.source n) c _ was,
-      courses_rise t passes made taken (ways_in t c.source n) (one c) _ was_one,
-      courses_rise t passes made taken ways_two (two (one c)) _ was_two,
+      courses_rise t (passes_in t n) made taken had c _ was,
+      courses_rise t passes made taken had (one c) _ was_one,
+      courses_rise t passes made taken (had ++ own_ends c.source came) (two (one c)) _ was_two,
     )
 
 -- a source makes a packet
@@ -264,18 +224,18 @@ module _ (t : TopologyValue) (n now i : ℕ) (p : PartValue Held) (h : Happened)
     abbrev now_held : ℕ → ℕ
     now_held k = one_if (is_packet c.source k) own + tags_in (is_packet c.source k) (length t.ifaces) here
 
-    was_begun : AreCourses t (passes_in t n) now_held sent_after taken (ways_in t c.source n) (begun own c)
+    was_begun : AreCourses t (passes_in t n) now_held sent_after taken (own_ends c.source (ends_in t n)) (begun own c)
     was_begun = ⊎_elim
         (λ (eq : i ≡ c.source).
-        made_as_is t (passes_in t n) now_held taken (ways_in t c.source n) (begun own c) (sent_in (net_of t) c.source n + 1) sent_after
+        made_as_is t (passes_in t n) now_held taken (own_ends c.source (ends_in t n)) (begun own c) (sent_in (net_of t) c.source n + 1) sent_after
         (let l = later in let one = fires i c.source eq in omega (arith, l, one))
-        (courses_begun t (passes_in t n) (sent_in (net_of t) c.source n) taken (ways_in t c.source n) c own _ now_held (λ k. refl) was
+        (courses_begun t (passes_in t n) (sent_in (net_of t) c.source n) taken (own_ends c.source (ends_in t n)) c own _ now_held (λ k. refl) was
         (ap (λ k. i == k) (sym eq) ∙ number_tied i) (ap (λ k. sent_in (net_of t) k n) eq)
         (timed ∙ ap (λ k. time_of ((net_of t).source k (sent_in (net_of t) k n))) eq)))
         (λ apart.
-        made_as_is t (passes_in t n) now_held taken (ways_in t c.source n) (begun own c) (sent_in (net_of t) c.source n) sent_after
+        made_as_is t (passes_in t n) now_held taken (own_ends c.source (ends_in t n)) (begun own c) (sent_in (net_of t) c.source n) sent_after
         (let l = later in let none = rests i c.source (λ e. apart (sym e)) in omega (arith, l, none))
-        (courses_kept t (passes_in t n) (sent_in (net_of t) c.source n) taken (ways_in t c.source n) c own _ now_held (λ k. refl) was
+        (courses_kept t (passes_in t n) (sent_in (net_of t) c.source n) taken (own_ends c.source (ends_in t n)) c own _ now_held (λ k. refl) was
         (number_apart i c.source apart)))
         (same_number i c.source)
       where
@@ -284,65 +244,60 @@ module _ (t : TopologyValue) (n now i : ℕ) (p : PartValue Held) (h : Happened)
 
     pub source_rises : AreRising (Some c) × AreRising (Some (begun own c))
     source_rises = (
-      courses_rise t (passes_in t n) (sent_in (net_of t) c.source n) taken (ways_in t c.source n) c _ was,
-      courses_rise t (passes_in t n) sent_after taken (ways_in t c.source n) (begun own c) _ was_begun,
+      courses_rise t (passes_in t n) (sent_in (net_of t) c.source n) taken (own_ends c.source (ends_in t n)) c _ was,
+      courses_rise t (passes_in t n) sent_after taken (own_ends c.source (ends_in t n)) (begun own c) _ was_begun,
     )
 
     -- its node sends it, or does not
     pub offer_followed : h.offering ≢ Nothing → AreFollowed t (suc n) taken (Some (went_out h.offering own now (begun own c)))
     offer_followed other =
-        courses_as t (passes_in t (suc n)) sent_after taken (ways_in t c.source (suc n)) (went_out h.offering own now (begun own c)) _ (λ k. tags_in (is_packet c.source k) (length t.ifaces) (lanes_in t (tagged_list t (suc n))))
+        courses_as t (passes_in t (suc n)) sent_after taken (own_ends c.source (ends_in t (suc n))) (went_out h.offering own now (begun own c)) _ (λ k. tags_in (is_packet c.source k) (length t.ifaces) (lanes_in t (tagged_list t (suc n))))
         (λ k. tags_as (is_packet c.source k) (length t.ifaces) (with_offer h.offering own here) (lanes_in t (tagged_list t (suc n))) step.lanes)
         (said t sent_after taken (went_out h.offering own now (begun own c)) _ (passes_in t (suc n)) _ _ _ step.passes
-        (ap (λ q. ways_in t c.source n ++ own_ways t sent_after taken c q (dropped_as (drop_at now (own, step.packet)) h.offering)) step.passes
-        ∙ ways_next t c.source n (dropped_as (drop_at now (own, step.packet)) h.offering)
-        (ap (λ l. ends_in t n ++ l) (sym (made_dropped (end_at (unsent_at t i) ((net_of t).source_node i) now (own, step.packet) outcome.Discarded) (drop_at now (own, step.packet)) h.offering other)) ∙ step.ends))
-        (courses_offered t (passes_in t n) sent_after taken (ways_in t c.source n) (begun own c) (length t.ifaces) here own now step.packet h.offering step.can (λ k none. absurd (other none)) was_begun))
+        (sym (own_append c.source (ends_in t n) (dropped_as (drop_at now (own, step.packet)) h.offering))
+        ∙ ap (λ l. own_ends c.source (ends_in t n ++ l)) (sym (made_dropped (end_at (unsent_at t i) ((net_of t).source_node i) now (own, step.packet) outcome.Discarded) (drop_at now (own, step.packet)) h.offering other))
+        ∙ ap (own_ends c.source) step.ends)
+        (courses_offered t (passes_in t n) sent_after taken (own_ends c.source (ends_in t n)) (begun own c) (length t.ifaces) here own now step.packet h.offering step.can (λ k none. absurd (other none)) was_begun))
 
     pub loss_followed : h.offering ≡ Nothing → (reason : Reason) → reason ≡ Counted (unsent_at t i)
         → AreFollowed t (suc n) taken (Some (over own (record { outcome = outcome.Discarded; reason = reason; place = Node ((net_of t).source_node i); time = now }) (begun own c)))
     loss_followed none reason because =
-        courses_as t (passes_in t (suc n)) sent_after taken (ways_in t c.source (suc n)) _ (λ k. tags_in (is_packet c.source k) (length t.ifaces) here) (λ k. tags_in (is_packet c.source k) (length t.ifaces) (lanes_in t (tagged_list t (suc n))))
+        subst (λ r. AreFollowed t (suc n) taken (Some (over own (record { outcome = outcome.Discarded; reason = r; place = Node ((net_of t).source_node i); time = now }) (begun own c)))) (sym because)
+        (courses_as t (passes_in t (suc n)) sent_after taken (own_ends c.source (ends_in t (suc n))) (over own (end_of discarded) (begun own c)) (λ k. tags_in (is_packet c.source k) (length t.ifaces) here) (λ k. tags_in (is_packet c.source k) (length t.ifaces) (lanes_in t (tagged_list t (suc n))))
         (λ k. tags_as (is_packet c.source k) (length t.ifaces) here (lanes_in t (tagged_list t (suc n))) (λ l. ap (λ o. with_offer o own here l) (sym none) ∙ step.lanes l))
-        (said t sent_after taken _ (passes_in t n) (passes_in t (suc n)) _ _ _ passes_same
-        (ap (λ l. ways_in t c.source n ++ l) (
-        (λ q. cond (counts_for c.source own) (record { course = course_in t c.source (passes_same q) own.number; end = record { outcome = outcome.Discarded; reason = because q; place = Node ((net_of t).source_node i); time = now } } ∷ []) [])
-        ∙ sym (kept_one (ended_in t c.source (passes_in t (suc n))) (counts_for c.source own) discarded))
-        ∙ ways_next t c.source n (discarded ∷ [])
-        (ap (λ o. ends_in t n ++ made_as discarded (drop_at now (own, step.packet)) o) (sym none) ∙ step.ends))
-        (courses_over t (passes_in t n) sent_after taken (ways_in t c.source n) (begun own c) own _ now_held (λ k. tags_in (is_packet c.source k) (length t.ifaces) here) (λ k. refl) was_begun))
+        (said t sent_after taken (over own (end_of discarded) (begun own c)) (passes_in t n) (passes_in t (suc n)) _ _ _
+        (sym (append-nil (passes_in t n)) ∙ ap (λ o. passes_in t n ++ started_passes o own now) (sym none) ∙ step.passes)
+        (sym (own_append c.source (ends_in t n) (discarded ∷ [])) ∙ ap (λ o. own_ends c.source (ends_in t n ++ made_as discarded (drop_at now (own, step.packet)) o)) (sym none) ∙ ap (own_ends c.source) step.ends)
+        (courses_over t (passes_in t n) sent_after taken (own_ends c.source (ends_in t n)) (begun own c) discarded now_held (λ k. tags_in (is_packet c.source k) (length t.ifaces) here) (λ k. refl) was_begun)))
       where
         discarded : WayEnd
         discarded = end_at (unsent_at t i) ((net_of t).source_node i) now (own, step.packet) outcome.Discarded
 
-        passes_same : passes_in t n ≡ passes_in t (suc n)
-        passes_same = sym (append-nil (passes_in t n)) ∙ ap (λ o. passes_in t n ++ started_passes o own now) (sym none) ∙ step.passes
-
 -- a transmission ends
 module _ (t : TopologyValue) (n now i : ℕ) (p : PartValue Held) (h : Happened) (next : IsNext t n now (Complete i) p h) (low : i < length t.ifaces) (taken : List Ended) (c : CoursesValue) (was : AreFollowed t n taken (Some c)) where
-  abbrev had : ℕ → ℕ
-  had k = tags_in (is_packet c.source k) (length t.ifaces) (lanes_in t (tagged_list t n))
+  abbrev tags_before : ℕ → ℕ
+  tags_before k = tags_in (is_packet c.source k) (length t.ifaces) (lanes_in t (tagged_list t n))
 
-  abbrev has : ℕ → ℕ
-  has k = tags_in (is_packet c.source k) (length t.ifaces) (lanes_in t (tagged_list t (suc n)))
+  abbrev tags_after : ℕ → ℕ
+  tags_after k = tags_in (is_packet c.source k) (length t.ifaces) (lanes_in t (tagged_list t (suc n)))
 
   made_same : sent_in (net_of t) c.source n ≡ sent_in (net_of t) c.source (suc n)
   made_same = sym (unmade t n now (Complete i) p h next c.source refl)
 
-  ways_same : ends_in t n ≡ ends_in t (suc n) → ways_in t c.source n ≡ ways_in t c.source (suc n)
-  ways_same same = sym (append-nil (ways_in t c.source n)) ∙ ways_next t c.source n [] (append-nil (ends_in t n) ∙ same)
+  ends_same : ends_in t n ≡ ends_in t (suc n) → own_ends c.source (ends_in t n) ≡ own_ends c.source (ends_in t (suc n))
+  ends_same same = ap (own_ends c.source) same
 
   pub completion_rises : AreRising (Some c)
-  completion_rises = courses_rise t (passes_in t n) (sent_in (net_of t) c.source n) taken (ways_in t c.source n) c _ was
+  completion_rises = courses_rise t (passes_in t n) (sent_in (net_of t) c.source n) taken (own_ends c.source (ends_in t n)) c _ was
 
   -- and nothing else happens
   pub quiet_followed : ends_in t n ≡ ends_in t (suc n) → ((k : ℕ) → lanes_in t (tagged_list t n) k ≡ lanes_in t (tagged_list t (suc n)) k) → passes_in t n ≡ passes_in t (suc n)
       → AreFollowed t (suc n) taken (Some c)
   quiet_followed ends lanes went =
-      made_as_is t (passes_in t (suc n)) has taken (ways_in t c.source (suc n)) c _ _ made_same
-      (courses_as t (passes_in t (suc n)) (sent_in (net_of t) c.source n) taken (ways_in t c.source (suc n)) c had has
+      made_as_is t (passes_in t (suc n)) tags_after taken (own_ends c.source (ends_in t (suc n))) c _ _ made_same
+      (courses_as t (passes_in t (suc n)) (sent_in (net_of t) c.source n) taken (own_ends c.source (ends_in t (suc n))) c tags_before tags_after
       (λ k. tags_as (is_packet c.source k) (length t.ifaces) (lanes_in t (tagged_list t n)) (lanes_in t (tagged_list t (suc n))) lanes)
-      (said t (sent_in (net_of t) c.source n) taken c (passes_in t n) (passes_in t (suc n)) had _ _ went (ways_same ends) was))
+      (said t (sent_in (net_of t) c.source n) taken c (passes_in t n) (passes_in t (suc n)) tags_before _ _ went (ends_same ends) was))
 
   -- what waited longest starts
   pub start_followed : ends_in t n ≡ ends_in t (suc n) → (tag : Tag) (waits : List Tag) → (lanes_in t (tagged_list t n) i).1 ≡ tag ∷ waits
@@ -352,11 +307,11 @@ module _ (t : TopologyValue) (n now i : ℕ) (p : PartValue Held) (h : Happened)
   start_followed ends tag waits first lanes went =
       let hop : Hop = record { iface = i; dir = Out; time = now } in
       let moved = λ (k : ℕ). tags_next (is_packet c.source k) (length t.ifaces) i (lanes_in t (tagged_list t n)) tag waits low first in
-      made_as_is t (passes_in t (suc n)) has taken (ways_in t c.source (suc n)) (passed tag hop c) _ _ made_same
-      (courses_as t (passes_in t (suc n)) (sent_in (net_of t) c.source n) taken (ways_in t c.source (suc n)) (passed tag hop c) had has
+      made_as_is t (passes_in t (suc n)) tags_after taken (own_ends c.source (ends_in t (suc n))) (passed tag hop c) _ _ made_same
+      (courses_as t (passes_in t (suc n)) (sent_in (net_of t) c.source n) taken (own_ends c.source (ends_in t (suc n))) (passed tag hop c) tags_before tags_after
       (λ k. sym (moved k).0 ∙ tags_as (is_packet c.source k) (length t.ifaces) _ (lanes_in t (tagged_list t (suc n))) lanes)
-      (said t (sent_in (net_of t) c.source n) taken (passed tag hop c) _ (passes_in t (suc n)) had _ _ went (ways_same ends)
-      (courses_passed t (passes_in t n) (sent_in (net_of t) c.source n) taken (ways_in t c.source n) c tag hop had
+      (said t (sent_in (net_of t) c.source n) taken (passed tag hop c) _ (passes_in t (suc n)) tags_before _ _ went (ends_same ends)
+      (courses_passed t (passes_in t n) (sent_in (net_of t) c.source n) taken (own_ends c.source (ends_in t n)) c tag hop tags_before
       (λ k is. let one = one_some c.source k tag is in let few = (moved k).1 in omega (arith, one, few)) was)))
 
 -- nothing was sent yet
@@ -369,6 +324,7 @@ followed_first t c under_way ended = record {
   few = λ k past. tags_first (is_packet c.source k) (length t.ifaces);
   fresh = λ k past. refl;
   ended = ended;
+  gone = tt;
 }
 
 -- the same where no source may be followed

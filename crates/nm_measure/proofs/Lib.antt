@@ -12,6 +12,7 @@ mod Lists
 mod Making
 mod Nodes
 mod Numbers
+mod Passages
 mod Passing
 mod Percentiles
 mod Readings

@@ -1,21 +1,15 @@
 -- Which packets pass an interface in an event.
-use Rattle.std.proofs.Common.{◌≡◌, ℕ, suc, Bool, true, false, cond, List, [], ◌∷◌, ◌++◌, map, Option, Some, None, refl, ap}
-use Rattle.std.proofs.lemmas.List.{append_cancel_left}
+use Rattle.std.proofs.Common.{◌≡◌, ℕ, Bool, true, false, cond, List, [], ◌∷◌, map, Option, Some, None, refl, ap}
 use Rattle.nm_base.specs.declared.record.Dir.TheVariants.{Out}
-use Rattle.nm_model.specs.EventList.{least}
-use Rattle.nm_model.specs.Lists.{keep_where}
 use Rattle.nm_model.specs.Network.{Net}
 use Rattle.nm_model.specs.Offers.{offering_at, offering_of}
 use Rattle.nm_model.specs.Port.{Busy, Port, offered}
 use Rattle.nm_model.specs.Run.{at_iface, out_record, sent_on, turned_by}
 use Rattle.nm_model.specs.declared.offering.Offering.{Offering}
 use Rattle.nm_model.specs.declared.offering.Offering.TheVariants.{Nothing, Started, Waits, Dropped}
-use Rattle.nm_topology.specs.TopologyValue.{TopologyValue}
 use Rattle.nm_measure.specs.declared.courses.Hop.{Hop}
 use Rattle.nm_measure.specs.declared.tag.Tag.{Tag}
-use Rattle.nm_measure.specs.Counted.{counts_for}
-use Rattle.nm_measure.specs.Courses.{ended_in, pass_of, passes_in, ways_in}
-use Rattle.nm_measure.specs.Ways.{WayEnd, ends_in, ends_next, tagged_list}
+use Rattle.nm_measure.specs.Courses.{pass_of}
 
 -- what is sent passes the interface if its transmission starts
 abbrev pub started_passes : Offering → Tag → (now : ℕ) → List (Tag × Hop)
@@ -38,10 +32,3 @@ started_of net ports time came n (Some s) follows tag is = go (ports s.0).busy
         ≡ started_passes (offering_at (net.room s.0) s.0 s.1 o) tag time
     go None = ap (λ (g : Tag). (g, record { iface = s.0; dir = Out; time = time }) ∷ []) (is s refl)
     go (Some b) = room (net.room s.0 b.waiting s.1) _ _
-
--- the ways that end in it
-pub ways_next : (t : TopologyValue) (j n : ℕ) (ends : List WayEnd) → ends_in t n ++ ends ≡ ends_in t (suc n)
-    → ways_in t j n ++ map (ended_in t j (passes_in t (suc n))) (keep_where (λ e. counts_for j e.tag) ends) ≡ ways_in t j (suc n)
-ways_next t j n ends is =
-    ap (λ l. ways_in t j n ++ map (ended_in t j (passes_in t (suc n))) (keep_where (λ (e : WayEnd). counts_for j e.tag) l))
-    (append_cancel_left (ends_in t n) ends (ends_next t (tagged_list t n) (least (tagged_list t n).pending)) is)

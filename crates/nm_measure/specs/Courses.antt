@@ -1,8 +1,7 @@
 -- The ways of a source's packets. The hops of a packet are the records of the run over packets with
 -- tags whose packet has its tag.
-use Rattle.std.specs.Prelude.{◌≡◌, ℕ, zero, suc, ◌+◌, ◌==◌, ◌&&◌, Bool, List, [], ◌++◌, map, length, count_by}
+use Rattle.std.specs.Prelude.{◌≡◌, ℕ, zero, suc, ◌+◌, ◌==◌, ◌&&◌, Bool, List, map, length, count_by}
 use Rattle.nm_base.specs.declared.record.Record.{Record}
-use Rattle.nm_model.specs.EventList.{least}
 use Rattle.nm_model.specs.Lists.{keep_where}
 use Rattle.nm_sim.specs.Network.{net_of}
 use Rattle.nm_topology.specs.TopologyValue.{TopologyValue}
@@ -13,7 +12,7 @@ use Rattle.nm_measure.specs.declared.tag.Tag.{Tag}
 use Rattle.nm_measure.specs.Counted.{counts_for}
 use Rattle.nm_measure.specs.Lanes.{lanes_in}
 use Rattle.nm_measure.specs.Rising.{Rise}
-use Rattle.nm_measure.specs.Ways.{WayEnd, ends_next, tagged_list, time_of}
+use Rattle.nm_measure.specs.Ways.{WayEnd, ends_in, tagged_list, time_of}
 
 -- packet k of source j
 abbrev pub is_packet : (j k : ℕ) → Tag → Bool
@@ -46,15 +45,13 @@ ended_in t j passes e = record {
   end = record { outcome = e.outcome; reason = e.reason; place = e.place; time = e.time };
 }
 
--- the ways of source j's packets that ended in the first n events, in the order of their ends, each
--- up to the event in which it ended
+-- the ends of source j's packets in the first n events, and their ways, both in the order of these
+-- ends
+abbrev pub own_ends : ℕ → List WayEnd → List WayEnd
+own_ends j ends = keep_where (λ e. counts_for j e.tag) ends
+
 abbrev pub ways_in : TopologyValue → (j n : ℕ) → List Ended
-ways_in t j zero = []
-ways_in t j (suc n) =
-    ways_in t j n
-    ++ map (ended_in t j (passes_in t (suc n)))
-    (keep_where (λ e. counts_for j e.tag)
-    (ends_next t (tagged_list t n) (least (tagged_list t n).pending)))
+ways_in t j n = map (ended_in t j (passes_in t n)) (own_ends j (ends_in t n))
 
 -- how many tags on the links and in the queues of so many interfaces pass a test
 abbrev pub tags_in : (Tag → Bool) → (count : ℕ) → (ℕ → List Tag × List Tag) → ℕ

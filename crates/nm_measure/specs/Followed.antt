@@ -12,7 +12,7 @@ use Rattle.nm_sim.specs.Part.{PartValue}
 use Rattle.nm_sim.specs.declared.told.Happened.{Happened}
 use Rattle.nm_topology.specs.TopologyValue.{TopologyValue}
 use Rattle.nm_measure.specs.CourseValue.{CourseValue}
-use Rattle.nm_measure.specs.Courses.{course_in, hops_in, is_packet, passes_in, tags_in, ways_in}
+use Rattle.nm_measure.specs.Courses.{course_in, ended_in, hops_in, is_packet, own_ends, passes_in, tags_in}
 use Rattle.nm_measure.specs.CoursesValue.{CoursesValue}
 use Rattle.nm_measure.specs.declared.courses.End.{End}
 use Rattle.nm_measure.specs.declared.courses.EndPlace.TheVariants.{Iface, Node}
@@ -32,7 +32,7 @@ use Rattle.nm_measure.specs.Lanes.{WatchesRun, lanes_in}
 use Rattle.nm_measure.specs.Rising.{Rise}
 use Rattle.nm_measure.specs.Sent.{AreSent, sent_in}
 use Rattle.nm_measure.specs.Taken.{IsFirstOf}
-use Rattle.nm_measure.specs.Ways.{tagged_list}
+use Rattle.nm_measure.specs.Ways.{WayEnd, ends_in, tagged_list}
 
 -- a packet is made
 abbrev pub begun : Tag → CoursesValue → CoursesValue
@@ -101,17 +101,24 @@ offered_to (Dropped i) tag now c = over tag (record {
 abbrev pub went_out : Offering → Tag → (now : ℕ) → CoursesValue → CoursesValue
 went_out offering tag now c = becoming c (offered_to offering tag now c)
 
--- The ways of source j's packets after these hops, with so many tags of each packet in the network,
--- of as many packets as were made; `taken` were taken of those that ended.
+-- no tag of these packets, which were made, is in the network
+abbrev pub AreGone : (tags : ℕ → ℕ) → (made : ℕ) → List WayEnd → Type 0
+AreGone tags made [] = Unit {0}
+AreGone tags made (e ∷ ends) =
+    (tags e.tag.number ≡ 0) × (e.tag.number < made) × AreGone tags made ends
+
+-- The ways of source j's packets after these hops and ends, with so many tags of each packet in the
+-- network, of as many packets as were made; `taken` were taken of those that ended.
 pub record AreCourses (t : TopologyValue) (passes : List (Tag × Hop)) (tags : ℕ → ℕ) (made : ℕ)
-    (taken ways : List Ended) (c : CoursesValue) : Type 0 where
+    (taken : List Ended) (ends : List WayEnd) (c : CoursesValue) : Type 0 where
   pub numbers : List ℕ
   pub under_way : c.under_way ≡ map (course_in t c.source passes) numbers
   pub rise : Rise numbers
   pub each : (k : ℕ) → count_by (λ m. m == k) numbers ≡ tags k
   pub few : (k : ℕ) → made ≤ k → tags k ≡ 0
   pub fresh : (k : ℕ) → made ≤ k → hops_in c.source k passes ≡ []
-  pub ended : taken ++ c.ended ≡ ways
+  pub ended : taken ++ c.ended ≡ map (ended_in t c.source passes) ends
+  pub gone : AreGone tags made ends
 
 -- after n events of the one event list
 abbrev pub AreFollowed : TopologyValue → ℕ → List Ended → Option CoursesValue → Type 0
@@ -119,7 +126,7 @@ AreFollowed t n taken None = Unit {0}
 AreFollowed t n taken (Some c) =
     AreCourses t (passes_in t n)
     (λ k. tags_in (is_packet c.source k) (length t.ifaces) (lanes_in t (tagged_list t n)))
-    (sent_in (net_of t) c.source n) taken (ways_in t c.source n) c
+    (sent_in (net_of t) c.source n) taken (own_ends c.source (ends_in t n)) c
 
 -- their numbers rise
 abbrev pub AreRising : Option CoursesValue → Type 0

@@ -25,6 +25,7 @@ mod tags;
 pub mod totals;
 pub mod usage;
 mod watched;
+pub mod ways;
 
 pub use amounts::{Amount, IfaceTraffic};
 pub use courses::{Course, Ended, Hop};
