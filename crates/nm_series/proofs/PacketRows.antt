@@ -22,24 +22,23 @@ left_is : (c d : CoursesValue) → d.source ≡ c.source → d.under_way ≡ c.u
 left_is c d source under_way = (λ i. record { source = sym source i; under_way = sym under_way i; ended = d.ended })
 
 module _ (t : TopologyValue) where
-  further_more : (hops : List Hop) (n : ℕ) (d : Hop) → n < length hops → further_words t (take (n + 1) hops) ≡ further_words t (take n hops) ++ codes " " ++ hop_words t (get_or hops n d)
+  regrouped : (a f c g : List ℕ) → a ++ ((f ++ c) ++ g) ≡ ((a ++ f) ++ c) ++ g
+  regrouped a f c g = simp append_assoc
+
+  further_more : (hops : List Hop) (n : ℕ) (d : Hop) → n < length hops → further_words t (take (n + 1) hops) ≡ (further_words t (take n hops) ++ codes " ") ++ hop_words t (get_or hops n d)
   further_more [] n d low = absurd (omega (arith, low))
-  further_more (h ∷ hops) zero d low = ap (λ l. codes " " ++ l) (append-nil (hop_words t h))
+  further_more (h ∷ hops) zero d low = append-nil (codes " " ++ hop_words t h)
   further_more (h ∷ hops) (suc n) d low =
       let e : suc n + 1 ≡ suc (n + 1) = omega arith in
-      let tail = further_words t (take n hops) in
-      let next = codes " " ++ hop_words t (get_or hops n d) in
       ap (λ k. further_words t (take k (h ∷ hops))) e
-      ∙ ap (λ l. codes " " ++ hop_words t h ++ l) (further_more hops n d (omega (arith, low)))
-      ∙ ap (λ l. codes " " ++ l) (sym (append_assoc (hop_words t h) tail next))
-      ∙ sym (append_assoc (codes " ") (hop_words t h ++ tail) next)
+      ∙ ap (λ l. (codes " " ++ hop_words t h) ++ l) (further_more hops n d (omega (arith, low)))
+      ∙ regrouped (codes " " ++ hop_words t h) (further_words t (take n hops)) (codes " ") (hop_words t (get_or hops n d))
 
   pub further_next : (hops : List Hop) (n : ℕ) (d : Hop) → n < length hops → (initial mid spaced new : List ℕ) → mid ≡ initial ++ further_words t (take n hops) → spaced ≡ mid ++ codes " "
       → new ≡ spaced ++ hop_words t (get_or hops n d) → new ≡ initial ++ further_words t (take (n + 1) hops)
   further_next hops n d low initial mid spaced new so_far space more =
       more ∙ ap (λ l. l ++ hop_words t (get_or hops n d)) (space ∙ ap (λ l. l ++ codes " ") so_far)
-      ∙ append_assoc (initial ++ further_words t (take n hops)) (codes " ") (hop_words t (get_or hops n d))
-      ∙ append_assoc initial (further_words t (take n hops)) (codes " " ++ hop_words t (get_or hops n d))
+      ∙ sym (regrouped initial (further_words t (take n hops)) (codes " ") (hop_words t (get_or hops n d)))
       ∙ ap (λ l. initial ++ l) (sym (further_more hops n d low))
 
   rows_push : (ended : List Ended) (e : Ended) → ended_rows t (ended ++ e ∷ []) ≡ ended_rows t ended ++ ended_row t e
@@ -60,6 +59,7 @@ module _ (t : TopologyValue) where
         each = has.1.1.each;
         few = has.1.1.few;
         fresh = has.1.1.fresh;
+        gone = has.1.1.gone;
         ended = append_assoc has.0 (e ∷ []) takes.0.ended ∙ ap (λ l. has.0 ++ l) (sym takes.4) ∙ has.1.1.ended;
       },
     ),
@@ -79,6 +79,7 @@ module _ (t : TopologyValue) where
         each = has.1.1.each;
         few = has.1.1.few;
         fresh = has.1.1.fresh;
+        gone = has.1.1.gone;
         ended = ap (λ l. ways_in t j n ++ l) takes.4.1 ∙ append-nil (ways_in t j n) ∙ sym same;
       },
     ),

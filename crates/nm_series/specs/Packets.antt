@@ -11,6 +11,7 @@ use Rattle.nm_measure.specs.CourseValue.{CourseValue}
 use Rattle.nm_measure.specs.Courses.{AreUnderWay, course_in, passes_in, ways_in}
 use Rattle.nm_measure.specs.Followed.{IsFollowed}
 use Rattle.nm_measure.specs.CoursesValue.{CoursesValue}
+use Rattle.nm_measure.specs.declared.courses.End.{End}
 use Rattle.nm_measure.specs.declared.courses.EndPlace.{EndPlace}
 use Rattle.nm_measure.specs.declared.courses.EndPlace.TheVariants.{Iface, Node}
 use Rattle.nm_measure.specs.declared.courses.Ended.{Ended}
@@ -65,12 +66,17 @@ module _ (t : TopologyValue) where
   way_words [] = []
   way_words (h ∷ hops) = hop_words h ++ further_words hops
 
-  -- which packet it is, when it was made, how, why, where and when it ended, and its way
+  -- how, why, where and when it ended
+  abbrev pub end_words : End → List ℕ
+  end_words e =
+      codes "," ++ outcome_word e.outcome ++ codes "," ++ reason_word e.reason
+      ++ codes "," ++ place_word e.place ++ cell e.time
+
+  -- which packet it is, when it was made, how it ended, and its way
   abbrev pub ended_row : Ended → List ℕ
   ended_row e =
-      decimal e.course.number ++ cell e.course.sent ++ codes "," ++ outcome_word e.end.outcome
-      ++ codes "," ++ reason_word e.end.reason ++ codes "," ++ place_word e.end.place
-      ++ cell e.end.time ++ codes "," ++ way_words e.course.hops ++ codes "\n"
+      decimal e.course.number ++ cell e.course.sent ++ end_words e.end
+      ++ codes "," ++ way_words e.course.hops ++ codes "\n"
 
   abbrev pub under_way_row : CourseValue → List ℕ
   under_way_row x =

@@ -5,8 +5,8 @@ ghost use Rattle.std.specs.Prelude.{decimal, slice_get};
 ghost use Rattle.nm_measure.specs.CoursesValue.{CoursesValue};
 ghost use Rattle.nm_measure.specs.Followed.{IsFollowed};
 ghost use Rattle.nm_measure.specs.Measured.{IsMeasuredBefore};
-ghost use Rattle.nm_series.specs.Packets.{ArePacketRows, HasAllRows, HasRows, dir_word, ended_row};
-ghost use Rattle.nm_series.specs.Packets.{further_words};
+ghost use Rattle.nm_series.specs.Packets.{ArePacketRows, HasAllRows, HasRows, dir_word, end_words};
+ghost use Rattle.nm_series.specs.Packets.{ended_row, further_words};
 ghost use Rattle.nm_series.specs.Packets.{hop_words, iface_word, node_word, outcome_word};
 ghost use Rattle.nm_series.specs.Packets.{packet_columns, place_word, reason_word};
 ghost use Rattle.nm_series.specs.Packets.{under_way_row, under_way_rows, way_words};
@@ -15,7 +15,7 @@ ghost use Rattle.nm_series.specs.Rows.{cell};
 use crate::cells::{end_row, push_cell, push_word};
 use crate::steps::end_of;
 use nm_base::{Dir, IfaceNo, NodeNo, SourceNo, Time, push_number, push_text};
-use nm_measure::courses::{EndPlace, Ended, Reason};
+use nm_measure::courses::{End, EndPlace, Ended, Reason};
 use nm_measure::{Course, Hop, Measured, PacketOutcome};
 use nm_progress::Progress;
 use nm_topology::Topology;
@@ -133,15 +133,22 @@ fn push_start(text: &mut Vec<u8>, course: &Course) -> Result<(), AllocError>
     push_cell(text, course.sent.nanoseconds())
 }
 
+/// Appends how, why, where and when a packet ended.
+fn push_end(text: &mut Vec<u8>, topology: &Topology, end: &End) -> Result<(), AllocError>
+    ensures { OnOk result (text.new.items ≡ text.old.items ++ end_words topology.now end.now) }
+{
+    push_word(text, outcome_word(end.outcome))?;
+    push_word(text, reason_word(end.reason))?;
+    push_word(text, place_word(topology, end.place))?;
+    push_cell(text, end.time.nanoseconds())
+}
+
 /// Appends the row of a packet that ended.
 fn push_ended(text: &mut Vec<u8>, topology: &Topology, ended: &Ended) -> Result<(), AllocError>
     ensures { OnOk result (text.new.items ≡ text.old.items ++ ended_row topology.now ended.now) }
 {
     push_start(text, &ended.course)?;
-    push_word(text, outcome_word(ended.end.outcome))?;
-    push_word(text, reason_word(ended.end.reason))?;
-    push_word(text, place_word(topology, ended.end.place))?;
-    push_cell(text, ended.end.time.nanoseconds())?;
+    push_end(text, topology, &ended.end)?;
     push_way(text, topology, ended.course.hops.as_slice())
 }
 

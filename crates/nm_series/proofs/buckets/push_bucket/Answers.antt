@@ -1,4 +1,4 @@
-use Rattle.std.proofs.Common.{◌++◌, ap, ◌∙◌, codes, decimal, append_assoc}
+use Rattle.std.proofs.Common.{◌++◌, ap, ◌∙◌, codes, append_assoc}
 use Rattle.nm_series.specs.Rows.{cell}
 use Rattle.nm_series.proofs.RowsMore.{on_ok}
 use Rattle.nm_series.proofs.buckets.push_bucket.Goals as goal

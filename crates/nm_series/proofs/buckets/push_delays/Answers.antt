@@ -1,4 +1,4 @@
-use Rattle.std.proofs.Common.{◌≡◌, ◌<◌, ◌≤◌, ◌++◌, length, rules, sym, ap, ◌∙◌, arith, append-nil}
+use Rattle.std.proofs.Common.{◌<◌, ◌≤◌, ◌++◌, length, rules, sym, ap, ◌∙◌, arith, append-nil}
 use Rattle.std.proofs.lemmas.List.{take_all}
 use Rattle.nm_series.specs.Buckets.{bucket_rows}
 use Rattle.nm_series.proofs.BucketRows.{row_next}

@@ -1,4 +1,4 @@
-use Rattle.std.proofs.Common.{◌≡◌, ◌≤◌, ℕ, List}
+use Rattle.std.proofs.Common.{◌≤◌, ℕ, List}
 use Rattle.nm_measure.specs.Measured.{IsMeasuredBefore}
 use Rattle.nm_series.specs.Packets.{HasRows}
 use Rattle.nm_series.proofs.packets.push_run.Given as goal
