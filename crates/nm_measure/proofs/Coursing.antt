@@ -18,7 +18,7 @@ use Rattle.nm_measure.specs.CourseValue.{CourseValue}
 use Rattle.nm_measure.specs.Rising.{AllAbove, Rise}
 use Rattle.nm_measure.specs.Courses.{course_in, ended_in, hops_in, is_packet, own_ends}
 use Rattle.nm_measure.specs.CoursesValue.{CoursesValue}
-use Rattle.nm_measure.specs.Followed.{AreCourses, AreGone, begun, closed, over, passed, with_hop}
+use Rattle.nm_measure.specs.Followed.{AreCourses, AreGone, begun, closed, over, gone_past, with_hop}
 use Rattle.nm_measure.specs.Ways.{WayEnd, time_of}
 use Rattle.nm_measure.proofs.Flowing.{keep_no, keep_yes}
 use Rattle.nm_measure.proofs.Risings.{rise_apart}
@@ -172,7 +172,7 @@ module _ (t : TopologyValue) (passes : List (Tag × Hop)) (made : ℕ) (taken : 
 
     -- a packet that is in the network passes an interface
     pub courses_passed : (tags : ℕ → ℕ) → ((k : ℕ) → is_packet c.source k tag ≡ true → 1 ≤ tags k) → AreCourses t passes tags made taken ends c
-        → AreCourses t later tags made taken ends (passed tag hop c)
+        → AreCourses t later tags made taken ends (gone_past tag hop c)
     courses_passed tags held was = record {
       numbers = was.numbers;
       under_way = ap (map (with_hop c.source tag hop)) was.under_way ∙ courses_more was.numbers;

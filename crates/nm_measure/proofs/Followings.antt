@@ -27,7 +27,7 @@ use Rattle.nm_forward.specs.declared.counter.Counter.{Counter}
 use Rattle.nm_measure.specs.Counted.{counts_for}
 use Rattle.nm_measure.specs.Courses.{is_packet, own_ends, passes_in, tags_in}
 use Rattle.nm_measure.specs.CoursesValue.{CoursesValue}
-use Rattle.nm_measure.specs.Followed.{AreCourses, AreFollowed, AreRising, IsFollowed, begun, came_to_end, over, passed, went_out}
+use Rattle.nm_measure.specs.Followed.{AreCourses, AreFollowed, IsFollowed, NumbersRise, begun, came_to_end, over, gone_past, went_out}
 use Rattle.nm_measure.specs.Interfaces.{IsNext}
 use Rattle.nm_measure.specs.Lanes.{CanBe, lanes_in, with_offer}
 use Rattle.nm_measure.specs.Sent.{is_fire, sent_in}
@@ -73,8 +73,8 @@ module _ (t : TopologyValue) (passes : List (Tag × Hop)) (made : ℕ) (taken : 
   courses_offered Nothing can none was = said t made taken c passes (passes ++ []) _ ends (ends ++ []) (sym (append-nil passes)) (sym (append-nil ends)) (offered_tags Nothing can none (λ k. refl) was)
   courses_offered (Started i) can none was =
       let hop : Hop = record { iface = i; dir = Out; time = now } in
-      said t made taken (passed a hop c) (passes ++ (a, hop) ∷ []) _ _ ends (ends ++ []) refl (sym (append-nil ends))
-      (courses_as t (passes ++ (a, hop) ∷ []) made taken ends (passed a hop c) held _
+      said t made taken (gone_past a hop c) (passes ++ (a, hop) ∷ []) _ _ ends (ends ++ []) refl (sym (append-nil ends))
+      (courses_as t (passes ++ (a, hop) ∷ []) made taken ends (gone_past a hop c) held _
       (λ k. let z = tags_offered (is_packet c.source k) count all (Started i) a can (none k) in omega (arith, z))
       (courses_passed t passes made taken ends c a hop held (λ k is. let one = one_some c.source k a is in omega (arith, one)) was))
   courses_offered (Waits i) can none was = said t made taken c passes (passes ++ []) _ ends (ends ++ []) (sym (append-nil passes)) (sym (append-nil ends)) (offered_tags (Waits i) can none (λ k. refl) was)
@@ -144,7 +144,7 @@ module _ (t : TopologyValue) (n now i : ℕ) (p : PartValue Held) (h : Happened)
   hop = record { iface = i; dir = In; time = now }
 
   abbrev pub one : CoursesValue → CoursesValue
-  one c = passed step.packet.0 (record { iface = i; dir = In; time = now }) c
+  one c = gone_past step.packet.0 (record { iface = i; dir = In; time = now }) c
 
   abbrev pub two : CoursesValue → CoursesValue
   two c = came_to_end step.packet.0 (outcome_by f) (Counted (counter_at t ((net_of t).owner i) step.packet.1)) (record { node = (net_of t).owner i; octets = length step.packet.1; now = now }) c
@@ -202,7 +202,7 @@ module _ (t : TopologyValue) (n now i : ℕ) (p : PartValue Held) (h : Happened)
         (λ k. tags_as (is_packet c.source k) count (with_offer h.offering a popped) (lanes_in t (tagged_list t (suc n))) step.lanes)
         (said t made taken (three (two (one c))) sent (passes_in t (suc n)) _ _ _ passes_are ends_are was_three))
 
-    pub arrival_rises : AreRising (Some c) × AreRising (Some (one c)) × AreRising (Some (two (one c)))
+    pub arrival_rises : NumbersRise (Some c) × NumbersRise (Some (one c)) × NumbersRise (Some (two (one c)))
     arrival_rises = (
       courses_rise t (passes_in t n) made taken had c _ was,
       courses_rise t passes made taken had (one c) _ was_one,
@@ -242,7 +242,7 @@ module _ (t : TopologyValue) (n now i : ℕ) (p : PartValue Held) (h : Happened)
         later : sent_in (net_of t) c.source (suc n) ≡ sent_in (net_of t) c.source n + cond (is_fire c.source (Fire i)) 1 0
         later = made_later t n next.event (Fire i) next.first next.at_place c.source
 
-    pub source_rises : AreRising (Some c) × AreRising (Some (begun own c))
+    pub source_rises : NumbersRise (Some c) × NumbersRise (Some (begun own c))
     source_rises = (
       courses_rise t (passes_in t n) (sent_in (net_of t) c.source n) taken (own_ends c.source (ends_in t n)) c _ was,
       courses_rise t (passes_in t n) sent_after taken (own_ends c.source (ends_in t n)) (begun own c) _ was_begun,
@@ -287,7 +287,7 @@ module _ (t : TopologyValue) (n now i : ℕ) (p : PartValue Held) (h : Happened)
   ends_same : ends_in t n ≡ ends_in t (suc n) → own_ends c.source (ends_in t n) ≡ own_ends c.source (ends_in t (suc n))
   ends_same same = ap (own_ends c.source) same
 
-  pub completion_rises : AreRising (Some c)
+  pub completion_rises : NumbersRise (Some c)
   completion_rises = courses_rise t (passes_in t n) (sent_in (net_of t) c.source n) taken (own_ends c.source (ends_in t n)) c _ was
 
   -- and nothing else happens
@@ -303,14 +303,14 @@ module _ (t : TopologyValue) (n now i : ℕ) (p : PartValue Held) (h : Happened)
   pub start_followed : ends_in t n ≡ ends_in t (suc n) → (tag : Tag) (waits : List Tag) → (lanes_in t (tagged_list t n) i).1 ≡ tag ∷ waits
       → ((k : ℕ) → set_at (lanes_in t (tagged_list t n)) i ((lanes_in t (tagged_list t n) i).0 ++ tag ∷ [], waits) k ≡ lanes_in t (tagged_list t (suc n)) k)
       → passes_in t n ++ (tag, record { iface = i; dir = Out; time = now }) ∷ [] ≡ passes_in t (suc n)
-      → AreFollowed t (suc n) taken (Some (passed tag (record { iface = i; dir = Out; time = now }) c))
+      → AreFollowed t (suc n) taken (Some (gone_past tag (record { iface = i; dir = Out; time = now }) c))
   start_followed ends tag waits first lanes went =
       let hop : Hop = record { iface = i; dir = Out; time = now } in
       let moved = λ (k : ℕ). tags_next (is_packet c.source k) (length t.ifaces) i (lanes_in t (tagged_list t n)) tag waits low first in
-      made_as_is t (passes_in t (suc n)) tags_after taken (own_ends c.source (ends_in t (suc n))) (passed tag hop c) _ _ made_same
-      (courses_as t (passes_in t (suc n)) (sent_in (net_of t) c.source n) taken (own_ends c.source (ends_in t (suc n))) (passed tag hop c) tags_before tags_after
+      made_as_is t (passes_in t (suc n)) tags_after taken (own_ends c.source (ends_in t (suc n))) (gone_past tag hop c) _ _ made_same
+      (courses_as t (passes_in t (suc n)) (sent_in (net_of t) c.source n) taken (own_ends c.source (ends_in t (suc n))) (gone_past tag hop c) tags_before tags_after
       (λ k. sym (moved k).0 ∙ tags_as (is_packet c.source k) (length t.ifaces) _ (lanes_in t (tagged_list t (suc n))) lanes)
-      (said t (sent_in (net_of t) c.source n) taken (passed tag hop c) _ (passes_in t (suc n)) tags_before _ _ went (ends_same ends)
+      (said t (sent_in (net_of t) c.source n) taken (gone_past tag hop c) _ (passes_in t (suc n)) tags_before _ _ went (ends_same ends)
       (courses_passed t (passes_in t n) (sent_in (net_of t) c.source n) taken (own_ends c.source (ends_in t n)) c tag hop tags_before
       (λ k is. let one = one_some c.source k tag is in let few = (moved k).1 in omega (arith, one, few)) was)))
 
@@ -341,43 +341,43 @@ module _ (t : TopologyValue) (j : Option ℕ) (taken : List Ended) where
     pub start_goes : (next : IsNext t n now (Complete i) p h) → i < length t.ifaces → ends_in t n ≡ ends_in t (suc n) → (tag : Tag) (waits : List Tag) → (lanes_in t (tagged_list t n) i).1 ≡ tag ∷ waits
         → ((k : ℕ) → set_at (lanes_in t (tagged_list t n)) i ((lanes_in t (tagged_list t n) i).0 ++ tag ∷ [], waits) k ≡ lanes_in t (tagged_list t (suc n)) k)
         → passes_in t n ++ (tag, record { iface = i; dir = Out; time = now }) ∷ [] ≡ passes_in t (suc n)
-        → (o new : Option CoursesValue) → (AreRising o → new ≡ option_map (passed tag (record { iface = i; dir = Out; time = now })) o) → IsFollowed t j n taken o → IsFollowed t j (suc n) taken new
+        → (o new : Option CoursesValue) → (NumbersRise o → new ≡ option_map (gone_past tag (record { iface = i; dir = Out; time = now })) o) → IsFollowed t j n taken o → IsFollowed t j (suc n) taken new
     start_goes next low ends tag waits first lanes went None new is was = none_goes n (suc n) new (is tt) was
     start_goes next low ends tag waits first lanes went (Some c) new is was =
         subst (IsFollowed t j (suc n) taken) (sym (is (completion_rises t n now i p h next low taken c was.1)))
         (was.0, start_followed t n now i p h next low taken c was.1 ends tag waits first lanes went)
 
     module _ (next : IsNext t n now (Arrive i) p h) (step : ArrivalStep t n now i h) (low : (net_of t).far_end i < length t.ifaces) where
-      pub arrival_goes : (o o1 o2 o3 : Option CoursesValue) → (AreRising o → o1 ≡ option_map (one t n now i p h next step low taken) o) → (AreRising o1 → o2 ≡ option_map (two t n now i p h next step low taken) o1)
-          → (AreRising o2 → o3 ≡ option_map (three t n now i p h next step low taken) o2) → IsFollowed t j n taken o → IsFollowed t j (suc n) taken o3
+      pub arrival_goes : (o o1 o2 o3 : Option CoursesValue) → (NumbersRise o → o1 ≡ option_map (one t n now i p h next step low taken) o) → (NumbersRise o1 → o2 ≡ option_map (two t n now i p h next step low taken) o1)
+          → (NumbersRise o2 → o3 ≡ option_map (three t n now i p h next step low taken) o2) → IsFollowed t j n taken o → IsFollowed t j (suc n) taken o3
       arrival_goes None o1 o2 o3 a b c was =
           let n1 = a tt in
-          let n2 = b (subst AreRising (sym n1) tt) ∙ ap (option_map (two t n now i p h next step low taken)) n1 in
-          none_goes n (suc n) o3 (c (subst AreRising (sym n2) tt) ∙ ap (option_map (three t n now i p h next step low taken)) n2) was
+          let n2 = b (subst NumbersRise (sym n1) tt) ∙ ap (option_map (two t n now i p h next step low taken)) n1 in
+          none_goes n (suc n) o3 (c (subst NumbersRise (sym n2) tt) ∙ ap (option_map (three t n now i p h next step low taken)) n2) was
       arrival_goes (Some x) o1 o2 o3 a b c was =
           let r = arrival_rises t n now i p h next step low taken x was.1 in
           let n1 = a r.0 in
-          let n2 = b (subst AreRising (sym n1) r.1) ∙ ap (option_map (two t n now i p h next step low taken)) n1 in
-          let n3 = c (subst AreRising (sym n2) r.2) ∙ ap (option_map (three t n now i p h next step low taken)) n2 in
+          let n2 = b (subst NumbersRise (sym n1) r.1) ∙ ap (option_map (two t n now i p h next step low taken)) n1 in
+          let n3 = c (subst NumbersRise (sym n2) r.2) ∙ ap (option_map (three t n now i p h next step low taken)) n2 in
           subst (IsFollowed t j (suc n) taken) (sym n3) (was.0, arrival_followed t n now i p h next step low taken x was.1)
 
     module _ (next : IsNext t n now (Fire i) p h) (step : SourceStep t n now i h) (timed : now ≡ time_of ((net_of t).source i (sent_in (net_of t) i n))) where
       abbrev pub made_tag : Tag
       made_tag = own_tag i ((net_of t).source_node i) (sent_in (net_of t) i n) now
 
-      pub offer_goes : h.offering ≢ Nothing → (o o1 o2 : Option CoursesValue) → o1 ≡ option_map (begun made_tag) o → (AreRising o1 → o2 ≡ option_map (went_out h.offering made_tag now) o1)
+      pub offer_goes : h.offering ≢ Nothing → (o o1 o2 : Option CoursesValue) → o1 ≡ option_map (begun made_tag) o → (NumbersRise o1 → o2 ≡ option_map (went_out h.offering made_tag now) o1)
           → IsFollowed t j n taken o → IsFollowed t j (suc n) taken o2
-      offer_goes other None o1 o2 a b was = none_goes n (suc n) o2 (b (subst AreRising (sym a) tt) ∙ ap (option_map (went_out h.offering made_tag now)) a) was
+      offer_goes other None o1 o2 a b was = none_goes n (suc n) o2 (b (subst NumbersRise (sym a) tt) ∙ ap (option_map (went_out h.offering made_tag now)) a) was
       offer_goes other (Some x) o1 o2 a b was =
           let r = source_rises t n now i p h next step timed taken x was.1 in
-          let n2 = b (subst AreRising (sym a) r.1) ∙ ap (option_map (went_out h.offering made_tag now)) a in
+          let n2 = b (subst NumbersRise (sym a) r.1) ∙ ap (option_map (went_out h.offering made_tag now)) a in
           subst (IsFollowed t j (suc n) taken) (sym n2) (was.0, offer_followed t n now i p h next step timed taken x was.1 other)
 
       pub loss_goes : h.offering ≡ Nothing → (reason : Reason) → reason ≡ Counted (unsent_at t i) → (o o1 o2 : Option CoursesValue) → o1 ≡ option_map (begun made_tag) o
-          → (AreRising o1 → o2 ≡ option_map (over made_tag (record { outcome = outcome.Discarded; reason = reason; place = Node ((net_of t).source_node i); time = now })) o1)
+          → (NumbersRise o1 → o2 ≡ option_map (over made_tag (record { outcome = outcome.Discarded; reason = reason; place = Node ((net_of t).source_node i); time = now })) o1)
           → IsFollowed t j n taken o → IsFollowed t j (suc n) taken o2
-      loss_goes none reason because None o1 o2 a b was = none_goes n (suc n) o2 (b (subst AreRising (sym a) tt) ∙ ap (option_map (over made_tag (record { outcome = outcome.Discarded; reason = reason; place = Node ((net_of t).source_node i); time = now }))) a) was
+      loss_goes none reason because None o1 o2 a b was = none_goes n (suc n) o2 (b (subst NumbersRise (sym a) tt) ∙ ap (option_map (over made_tag (record { outcome = outcome.Discarded; reason = reason; place = Node ((net_of t).source_node i); time = now }))) a) was
       loss_goes none reason because (Some x) o1 o2 a b was =
           let r = source_rises t n now i p h next step timed taken x was.1 in
-          let n2 = b (subst AreRising (sym a) r.1) ∙ ap (option_map (over made_tag (record { outcome = outcome.Discarded; reason = reason; place = Node ((net_of t).source_node i); time = now }))) a in
+          let n2 = b (subst NumbersRise (sym a) r.1) ∙ ap (option_map (over made_tag (record { outcome = outcome.Discarded; reason = reason; place = Node ((net_of t).source_node i); time = now }))) a in
           subst (IsFollowed t j (suc n) taken) (sym n2) (was.0, loss_followed t n now i p h next step timed taken x was.1 none reason because)

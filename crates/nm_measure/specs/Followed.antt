@@ -51,8 +51,8 @@ with_hop j tag hop x =
     then record { number = x.number; sent = x.sent; hops = x.hops ++ hop ∷ [] }
     else x
 
-abbrev pub passed : Tag → Hop → CoursesValue → CoursesValue
-passed tag hop c = record {
+abbrev pub gone_past : Tag → Hop → CoursesValue → CoursesValue
+gone_past tag hop c = record {
   source = c.source;
   under_way = map (with_hop c.source tag hop) c.under_way;
   ended = c.ended;
@@ -87,11 +87,11 @@ abbrev pub came_to_end : Tag → Option PacketOutcome → Reason → Arrival →
 came_to_end tag how reason arrival c = becoming c (came_by tag how reason arrival c)
 
 -- it was offered to an interface
-abbrev pub offered_to : Offering → Tag → (now : ℕ) → CoursesValue → CoursesValue
-offered_to Nothing tag now c = c
-offered_to (Started i) tag now c = passed tag (record { iface = i; dir = Out; time = now }) c
-offered_to (Waits i) tag now c = c
-offered_to (Dropped i) tag now c = over tag (record {
+abbrev pub went_by : Offering → Tag → (now : ℕ) → CoursesValue → CoursesValue
+went_by Nothing tag now c = c
+went_by (Started i) tag now c = gone_past tag (record { iface = i; dir = Out; time = now }) c
+went_by (Waits i) tag now c = c
+went_by (Dropped i) tag now c = over tag (record {
   outcome = outcome.Dropped;
   reason = NoRoom;
   place = Iface i;
@@ -99,7 +99,7 @@ offered_to (Dropped i) tag now c = over tag (record {
 }) c
 
 abbrev pub went_out : Offering → Tag → (now : ℕ) → CoursesValue → CoursesValue
-went_out offering tag now c = becoming c (offered_to offering tag now c)
+went_out offering tag now c = becoming c (went_by offering tag now c)
 
 -- no tag of these packets, which were made, is in the network
 abbrev pub AreGone : (tags : ℕ → ℕ) → (made : ℕ) → List WayEnd → Type 0
@@ -129,17 +129,17 @@ AreFollowed t n taken (Some c) =
     (sent_in (net_of t) c.source n) taken (own_ends c.source (ends_in t n)) c
 
 -- their numbers rise
-abbrev pub AreRising : Option CoursesValue → Type 0
-AreRising None = Unit {0}
-AreRising (Some c) = Rise (map (λ x. x.number) c.under_way)
+abbrev pub NumbersRise : Option CoursesValue → Type 0
+NumbersRise None = Unit {0}
+NumbersRise (Some c) = Rise (map (λ x. x.number) c.under_way)
 
 -- of this source, if of any
 abbrev pub IsFollowed : TopologyValue → Option ℕ → ℕ → List Ended → Option CoursesValue → Type 0
 IsFollowed t j n taken o = (option_map (λ c. c.source) o ≡ j) × AreFollowed t n taken o
 
 -- what is seen in an event makes them those of one event more
-abbrev pub GoesOn : TopologyValue → (now : ℕ) → Place → Happened → (old new : Watched) → Type 0
-GoesOn t now place h old new = (n : ℕ) (p : PartValue Held) (j : Option ℕ) (taken : List Ended)
+abbrev pub FollowsOn : TopologyValue → (now : ℕ) → Place → Happened → (old new : Watched) → Type 0
+FollowsOn t now place h old new = (n : ℕ) (p : PartValue Held) (j : Option ℕ) (taken : List Ended)
     → n + 1 < 2 ^ 64 → AreSent t n (sent_numbers old.flows.counts.items) → IsNext t n now place p h
     → WatchesRun t n old → IsFollowed t j n taken old.courses
     → IsFollowed t j (suc n) taken new.courses

@@ -5,7 +5,7 @@ ghost use Rattle.std.specs.Prelude.{Some, ltb, slice_get};
 ghost use Rattle.nm_measure.specs.CourseValue.{CourseValue};
 ghost use Rattle.nm_measure.specs.Counted.{counts_for};
 ghost use Rattle.nm_measure.specs.Courses.{is_packet};
-ghost use Rattle.nm_measure.specs.Followed.{begun, over, passed};
+ghost use Rattle.nm_measure.specs.Followed.{begun, gone_past, over};
 ghost use Rattle.nm_measure.specs.Rising.{Rise};
 ghost use Rattle.nm_measure.specs.Taken.{IsFirstOf};
 
@@ -177,7 +177,7 @@ impl Courses {
     /// If memory was refused.
     pub(crate) fn pass(&mut self, tag: &Tag, hop: Hop) -> Result<(), AllocError>
         ensures { OnOk result (Rise (map (λ x. x.number) self.old.under_way)
-            → self.new ≡ passed tag.now hop self.old) }
+            → self.new ≡ gone_past tag.now hop self.old) }
     {
         let Some(place) = self.place(tag) else {
             return Ok(());

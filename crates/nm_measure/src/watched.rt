@@ -28,8 +28,8 @@ ghost use Rattle.nm_measure.specs.Ways.{outcome_by};
 ghost use Rattle.nm_sim.specs.Effects.{IsPlaceIn};
 ghost use Rattle.std.specs.Prelude.{◌-◌};
 ghost use Rattle.nm_measure.specs.Flows.{sent_numbers};
-ghost use Rattle.nm_measure.specs.Followed.{AreRising, GoesOn, IsFollowed, TakesEnded, TakesOpen};
-ghost use Rattle.nm_measure.specs.Followed.{begun, came_to_end, over, passed, went_out};
+ghost use Rattle.nm_measure.specs.Followed.{NumbersRise, FollowsOn, IsFollowed, TakesEnded, TakesOpen};
+ghost use Rattle.nm_measure.specs.Followed.{begun, came_to_end, gone_past, over, went_out};
 ghost use Rattle.nm_measure.specs.Sent.{AreSent, sent_later, with_sent};
 
 use crate::courses::{Course, Courses, End, EndPlace, Ended, Hop, Reason};
@@ -126,8 +126,8 @@ fn answer_to(fate: Fate, tag: Tag) -> Tag
 /// What has waited longest in a lane passes its interface, if it is followed.
 fn pass_first(courses: &mut Option<Courses>, lane: &Lane, hop: Hop) -> Result<(), AllocError>
     ensures { OnOk result ((tag : Tag) → slice_get lane.now.line.items
-        (length lane.now.line.items - lane.now.waiting) ≡ Some tag → AreRising courses.old
-        → courses.new ≡ option_map (passed tag hop) courses.old) }
+        (length lane.now.line.items - lane.now.waiting) ≡ Some tag → NumbersRise courses.old
+        → courses.new ≡ option_map (gone_past tag hop) courses.old) }
 {
     match (courses, lane.first_waiting()) {
         (Some(courses), Some(tag)) => courses.pass(tag, hop),
@@ -210,8 +210,8 @@ impl Watched {
     fn pass(&mut self, tag: &Tag, hop: Hop) -> Result<(), AllocError>
         ensures flows { self.new.flows ≡ self.old.flows }
         ensures lanes { self.new.lanes ≡ self.old.lanes }
-        ensures courses { OnOk result (AreRising self.old.courses
-            → self.new.courses ≡ option_map (passed tag.now hop) self.old.courses) }
+        ensures courses { OnOk result (NumbersRise self.old.courses
+            → self.new.courses ≡ option_map (gone_past tag.now hop) self.old.courses) }
     {
         match &mut self.courses {
             Some(courses) => courses.pass(tag, hop),
@@ -223,7 +223,7 @@ impl Watched {
     fn end(&mut self, tag: &Tag, end: End) -> Result<(), AllocError>
         ensures flows { self.new.flows ≡ self.old.flows }
         ensures lanes { self.new.lanes ≡ self.old.lanes }
-        ensures courses { OnOk result (AreRising self.old.courses
+        ensures courses { OnOk result (NumbersRise self.old.courses
             → self.new.courses ≡ option_map (over tag.now end) self.old.courses) }
     {
         match &mut self.courses {
@@ -270,7 +270,7 @@ impl Watched {
             → AreStarts topology.now first n (map start_of self.old.flows.times.items)
             → AreStarts topology.now first (suc n) (map start_of self.new.flows.times.items)) }
         ensures followed { OnOk result
-            (GoesOn topology.now now place.now happened.now self.old self.new) }
+            (FollowsOn topology.now now place.now happened.now self.old self.new) }
     {
         match place {
             Place::Complete(iface) => self.see_completion(topology, *iface, now, happened),
@@ -293,7 +293,7 @@ impl Watched {
             → IsNext topology.now n now (Complete iface) p happened.now
             → WatchesRun topology.now n self.old → WatchesRun topology.now (suc n) self.new) }
         ensures followed { OnOk result
-            (GoesOn topology.now now (Complete iface) happened.now self.old self.new) }
+            (FollowsOn topology.now now (Complete iface) happened.now self.old self.new) }
     {
         tags_change_no_run(topology); // law: tags are those of the one event list
         let Some(started) = &happened.started else {
@@ -329,7 +329,7 @@ impl Watched {
         ensures starts { OnOk result (map start_of self.new.flows.times.items
             ≡ map start_of self.old.flows.times.items) }
         ensures followed { OnOk result
-            (GoesOn topology.now now (Arrive number) happened.now self.old self.new) }
+            (FollowsOn topology.now now (Arrive number) happened.now self.old self.new) }
     {
         tags_change_no_run(topology); // law: tags are those of the one event list
         let iface = topology.iface(number);
@@ -393,7 +393,7 @@ impl Watched {
             ≡ sent_numbers self.old.flows.counts.items }
         ensures starts { OnOk result (map start_of self.new.flows.times.items
             ≡ map start_of self.old.flows.times.items) }
-        ensures courses { OnOk result (AreRising self.old.courses → self.new.courses
+        ensures courses { OnOk result (NumbersRise self.old.courses → self.new.courses
             ≡ option_map (came_to_end tag.now (outcome_by fate) reason arrival)
             self.old.courses) }
     {
@@ -437,7 +437,7 @@ impl Watched {
             → AreStarts topology.now first n (map start_of self.old.flows.times.items)
             → AreStarts topology.now first (suc n) (map start_of self.new.flows.times.items)) }
         ensures followed { OnOk result
-            (GoesOn topology.now now (Fire source) happened.now self.old self.new) }
+            (FollowsOn topology.now now (Fire source) happened.now self.old self.new) }
     {
         tags_change_no_run(topology); // law: tags are those of the one event list
         let Some(from) = topology.sources().get(source.index()) else {
@@ -470,7 +470,7 @@ impl Watched {
             ≡ sent_numbers self.old.flows.counts.items }
         ensures starts { OnOk result (map start_of self.new.flows.times.items
             ≡ map start_of self.old.flows.times.items) }
-        ensures courses { OnOk result (AreRising self.old.courses → self.new.courses
+        ensures courses { OnOk result (NumbersRise self.old.courses → self.new.courses
             ≡ option_map (went_out offering offer.tag offer.now) self.old.courses) }
     {
         match offering {
@@ -491,7 +491,7 @@ impl Watched {
             (ends : List WayEnd) → Watches count all (offer.tag ∷ []) ends self.old → iface < count
             → (all iface).1 ≡ []
             → Watches count (with_start iface offer.tag all) [] ends self.new) }
-        ensures courses { OnOk result (AreRising self.old.courses → self.new.courses
+        ensures courses { OnOk result (NumbersRise self.old.courses → self.new.courses
             ≡ option_map (went_out (Started iface) offer.tag offer.now) self.old.courses) }
     {
         let hop = Hop {
@@ -517,7 +517,7 @@ impl Watched {
             ≡ sent_numbers self.old.flows.counts.items }
         ensures starts { OnOk result (map start_of self.new.flows.times.items
             ≡ map start_of self.old.flows.times.items) }
-        ensures courses { OnOk result (AreRising self.old.courses → self.new.courses
+        ensures courses { OnOk result (NumbersRise self.old.courses → self.new.courses
             ≡ option_map (went_out (Dropped iface) tag.now now) self.old.courses) }
     {
         let end = End {
@@ -541,7 +541,7 @@ impl Watched {
             ≡ sent_numbers self.old.flows.counts.items }
         ensures starts { OnOk result (map start_of self.new.flows.times.items
             ≡ map start_of self.old.flows.times.items) }
-        ensures courses { OnOk result (AreRising self.old.courses
+        ensures courses { OnOk result (NumbersRise self.old.courses
             → self.new.courses ≡ option_map (over tag.now end) self.old.courses) }
     {
         self.flows.end(tag, end.outcome);

@@ -7,7 +7,7 @@ use Rattle.nm_measure.specs.Lanes.{AreWatched, Watches, lanes_in, one_of, with_o
 use Rattle.std.specs.Option.{option_map}
 use Rattle.nm_base.specs.declared.record.Dir.TheVariants.{In}
 use Rattle.nm_measure.specs.declared.courses.Hop.{Hop}
-use Rattle.nm_measure.specs.Followed.{AreRising, came_to_end, passed, went_out}
+use Rattle.nm_measure.specs.Followed.{NumbersRise, came_to_end, gone_past, went_out}
 use Rattle.nm_measure.proofs.Followings.{arrival_goes}
 use Rattle.nm_measure.specs.Ways.{answer_tag, counter_at, drop_at, dropped_as, end_at, ended_as, ends_in, fate_at, outcome_by, tagged_list}
 use Rattle.nm_measure.proofs.Flowing.{on_ok}
@@ -99,7 +99,7 @@ returns-clause-followed c =
     let hop : Hop = record { iface = c.args.number; dir = In; time = c.args.now } in
     let is : c.answer_to.result ≡ answer_tag (fate_at t v x.1) x.0 = c.answer_to.ensures ∙ (λ q. answer_tag (fate q) (left.0 q)) in
     arrival_goes t j taken n c.args.now c.args.number p h next step far c.args.self.now.courses c.pass.new.self.courses c.see_end.new.self.courses c.see_offer.new.self.courses
-    (λ r. c.in_ok-pass.ensures.courses (subst AreRising (sym kept) r) ∙ (λ q. option_map (passed (left.0 q) hop) (kept q)))
+    (λ r. c.in_ok-pass.ensures.courses (subst NumbersRise (sym kept) r) ∙ (λ q. option_map (gone_past (left.0 q) hop) (kept q)))
     (λ r. c.in_ok-see_end.ensures.courses r ∙ (λ q. option_map (came_to_end (left.0 q) (outcome_by (fate q)) (said.1 q) (record { node = home q; octets = octets q; now = c.args.now })) c.pass.new.self.courses))
     (λ r. offers r ∙ (λ q. option_map (went_out h.offering (is q) c.args.now) c.see_end.new.self.courses))
     old) c.see_offer.ensures.courses

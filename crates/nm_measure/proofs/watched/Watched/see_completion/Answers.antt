@@ -6,7 +6,7 @@ use Rattle.nm_measure.specs.Lanes.{AreWatched, lanes_in}
 use Rattle.nm_measure.specs.Ways.{ends_in, tagged_list}
 use Rattle.std.specs.Option.{option_map}
 use Rattle.nm_base.specs.declared.record.Dir.TheVariants.{Out}
-use Rattle.nm_measure.specs.Followed.{passed}
+use Rattle.nm_measure.specs.Followed.{gone_past}
 use Rattle.nm_measure.proofs.Followings.{quiet_goes, start_goes}
 use Rattle.nm_measure.proofs.Completions.{completion_step}
 use Rattle.nm_measure.proofs.Laning.{first_waits, next_starts, watched_as}
@@ -103,6 +103,6 @@ returns-clause-followed c = λ n p j taken few made next was old.
     let lane = was.each c.args.iface x (read_at w.lanes.items c.args.iface c.index.result x at there c.in-Some-get_mut.ensures.value) in
     start_goes t j taken n c.args.now c.args.iface p c.args.happened.now next c.requires.there step.ends some.3 some.4 some.5 some.6 some.7 w.courses c.pass_first.new.courses
     (λ rising. c.in_ok-pass_first.ensures some.3 (first_waits (lanes_in t (tagged_list t n) c.args.iface) x lane some.3 some.4 some.5) rising
-    ∙ ap (λ i. option_map (passed some.3 (record { iface = i; dir = Out; time = c.args.now })) w.courses) is)
+    ∙ ap (λ i. option_map (gone_past some.3 (record { iface = i; dir = Out; time = c.args.now })) w.courses) is)
     old)
     step.is
