@@ -9,6 +9,7 @@ use Rattle.nm_base.specs.declared.key.Key.{Key}
 use Rattle.nm_base.specs.declared.key.Place.TheVariants.{Complete}
 use Rattle.nm_base.specs.declared.record.Dir.TheVariants.{Out}
 use Rattle.nm_base.specs.declared.record.Record.{Record}
+use Rattle.nm_base.specs.Count.{saturated}
 use Rattle.nm_base.specs.Event.{event_place}
 use Rattle.nm_model.specs.EventList.{least}
 use Rattle.nm_model.specs.Network.{IsNet, Net, node_of}
@@ -16,23 +17,40 @@ use Rattle.nm_model.specs.Orderly.{IsOrderly}
 use Rattle.nm_base.specs.declared.event.Origin.{Origin}
 use Rattle.nm_model.specs.Offers.{offering_at, offering_in, offering_of}
 use Rattle.nm_model.specs.declared.offering.Offering.TheVariants.{Waits, Dropped}
-use Rattle.nm_measure.specs.Interfaces.{offered_at}
-use Rattle.nm_model.specs.Port.{Busy, Port, completed, offered}
+use Rattle.nm_measure.specs.Interfaces.{queued_at, waits_at}
+use Rattle.nm_model.specs.Port.{Busy, Port, completed, next_transmitting, offered}
 use Rattle.nm_model.specs.Run.{Effect, apply, at_iface, by_source, effect, in_record, one_list, out_record, sent_on, step_at, turned}
 use Rattle.nm_model.specs.RunLaws.{KeysRise}
 use Rattle.nm_model.specs.Trace.{passed}
 use Rattle.nm_model.proofs.Keys.{key_at, least_has, up_to_time}
-use Rattle.nm_model.proofs.ListLemmas.{not_some, number_apart, number_tied, option_cases, same_number, set_there, some_inj}
+use Rattle.nm_model.proofs.ListLemmas.{not_some, number_apart, number_tied, option_cases, same_number, set_here, set_there, some_inj}
 use Rattle.nm_model.proofs.Traces.{passed-append}
-use Rattle.nm_measure.specs.Queues.{time_after}
+use Rattle.nm_measure.specs.Queues.{in_octets, in_packets, time_after}
 
-offered_is : {P : Type 0} (room : List P → P → Bool) (i : ℕ) (x : P) (b : Option (Busy P)) → offered_at (offering_at room i x b) ≡ Some i
-offered_is room i x None = refl
-offered_is room i x (Some b) = go (room b.waiting x)
+-- a packet that starts at once leaves the queue as it is
+offered_stays : (room : List (List ℕ) → List ℕ → Bool) (tx : List ℕ → ℕ) (time i : ℕ) (x : List ℕ) (dropped : ℕ) (b : Option (Busy (List ℕ))) → queued_at (offering_at room i x b) ≢ Some i
+    → waits_at (offered room tx time x dropped b).0 ≡ waits_at (record { busy = b; dropped = dropped })
+offered_stays room tx time i x dropped None other = refl
+offered_stays room tx time i x dropped (Some b) other = absurd (other (go (room b.waiting x)))
   where
-    go : (q : Bool) → offered_at (cond q (Waits i) (Dropped i)) ≡ Some i
+    go : (q : Bool) → queued_at (cond q (Waits i) (Dropped i)) ≡ Some i
     go true = refl
     go false = refl
+
+-- so does a completion behind which none starts
+next_stays : (tx : List ℕ → ℕ) (time dropped : ℕ) (waiting : List (List ℕ)) → (next_transmitting tx time dropped waiting).1 ≡ None
+    → waits_at (next_transmitting tx time dropped waiting).0 ≡ record { packets = in_packets waiting; octets = in_octets waiting; dropped = saturated dropped }
+next_stays tx time dropped [] none = refl
+next_stays tx time dropped (x ∷ waiting) none = absurd (not_some x (sym none))
+
+completed_stays : (tx : List ℕ → ℕ) (time dropped : ℕ) (b : Option (Busy (List ℕ))) → (completed tx time dropped b).1 ≡ None
+    → waits_at (completed tx time dropped b).0 ≡ waits_at (record { busy = b; dropped = dropped })
+completed_stays tx time dropped None none = refl
+completed_stays tx time dropped (Some b) none = next_stays tx time dropped b.waiting none
+
+at_none : {P : Type 0} (i : ℕ) (o : Option P) → at_iface i o ≡ None → o ≡ None
+at_none i None h = refl
+at_none i (Some x) h = absurd (not_some (i, x) (sym h))
 
 at_is : {P : Type 0} (i : ℕ) (o : Option P) (a : ℕ × P) → at_iface i o ≡ Some a → i ≡ a.0
 at_is i None a h = absurd (not_some a h)
@@ -82,21 +100,14 @@ module _ {P N : Type 0} (net : Net P N) where
         let r = completed (net.tx i) time (ports i).dropped (ports i).busy in
         ((i, r.0), refl, at_is i r.1 a h)
 
-    -- and the one to which a packet is offered
-    pub delivery_turns : (o : Origin) (x : P) (w : ℕ × Port P) → (effect net nodes ports time number (Delivery o x)).turn ≡ Some w → offered_at (offering_in net nodes ports (Delivery o x)) ≡ Some w.0
-    delivery_turns (Arrival i) x w h =
-        let r = net.react (net.owner i) (nodes (net.owner i)) (Arrival i) x in
-        let z = sent_turns ports time (Some (i, x)) r.0 r.1 None w h in
-        ap (λ s. offered_at (offering_of net ports s)) z.1 ∙ offered_is (net.room z.0.0) z.0.0 z.0.1 (ports z.0.0).busy ∙ ap Some z.2
-    delivery_turns (Source j) x w h =
-        let r = net.react (net.source_node j) (nodes (net.source_node j)) (Source j) x in
-        let z = sent_turns ports time None r.0 r.1 (by_source j (net.source j (suc number))) w h in
-        ap (λ s. offered_at (offering_of net ports s)) z.1 ∙ offered_is (net.room z.0.0) z.0.0 z.0.1 (ports z.0.0).busy ∙ ap Some z.2
-
   -- of two ports with a turn one is as before
   turned_same : (ports : ℕ → Port P) (o : Option (ℕ × Port P)) (i : ℕ) → ((w : ℕ × Port P) → o ≡ Some w → i ≢ w.0) → turned ports o i ≡ ports i
   turned_same ports None i h = refl
   turned_same ports (Some w) i h = set_there ports w.0 w.1 i (h w refl)
+
+  -- and the one with a turn is that of the turn
+  turned_here : (ports : ℕ → Port P) (w : ℕ × Port P) → turned ports (Some w) w.0 ≡ w.1
+  turned_here ports w = set_here ports w.0 w.1
 
   module _ (n : ℕ) (e : Key × Event P) (first : least (one_list net n).pending ≡ Some e) where
     abbrev pub effect_at : Effect P N
@@ -163,6 +174,54 @@ module _ {P N : Type 0} (net : Net P N) where
     completion_is orderly a at =
         let there = least_has (one_list net n).pending e first in
         (orderly.completion a e.0.time e.0.number e.1 (subst (λ k. get (one_list net n).pending k ≡ Some e.1) (key_at e.0 (Complete a) at) there)).1
+
+-- the queues that an event leaves as they are
+module _ {N : Type 0} (net : Net (List ℕ) N) where
+  module _ (ports : ℕ → Port (List ℕ)) (time : ℕ) where
+    -- one at which what is sent neither waits nor is dropped
+    sent_stays : (came : Option (ℕ × List ℕ)) (n : N) (sent : Option (ℕ × List ℕ)) (follows : Option (ℕ × ℕ × List ℕ)) (i : ℕ) → queued_at (offering_of net ports sent) ≢ Some i
+        → waits_at (turned ports (sent_on net ports time came n sent follows).turn i) ≡ waits_at (ports i)
+    sent_stays came n None follows i other = refl
+    sent_stays came n (Some s) follows i other = ⊎_elim
+        (λ same. ap (λ j. waits_at (turned ports (Some (s.0, port)) j)) same ∙ ap waits_at (turned_here net ports (s.0, port))
+        ∙ offered_stays (net.room s.0) (net.tx s.0) time s.0 s.1 (ports s.0).dropped (ports s.0).busy (λ e. other (e ∙ ap Some (sym same))) ∙ ap (λ j. waits_at (ports j)) (sym same))
+        (λ apart. ap waits_at (turned_same net ports (Some (s.0, port)) i (λ w h e. apart (e ∙ ap (λ (y : ℕ × Port (List ℕ)). y.0) (sym (some_inj (s.0, port) w h))))))
+        (same_number i s.0)
+      where
+        port : Port (List ℕ)
+        port = (offered (net.room s.0) (net.tx s.0) time s.1 (ports s.0).dropped (ports s.0).busy).0
+
+    -- one that completes, if nothing starts
+    completion_stays : (nodes : ℕ → N) (number a : ℕ) → (effect net nodes ports time number (Completion a)).transmission ≡ None
+        → waits_at (turned ports (effect net nodes ports time number (Completion a)).turn a) ≡ waits_at (ports a)
+    completion_stays nodes number a none =
+        let r = completed (net.tx a) time (ports a).dropped (ports a).busy in
+        ap waits_at (turned_here net ports (a, r.0)) ∙ completed_stays (net.tx a) time (ports a).dropped (ports a).busy (at_none a r.1 none)
+
+    delivery_stays : (nodes : ℕ → N) (number : ℕ) (o : Origin) (x : List ℕ) (i : ℕ) → queued_at (offering_in net nodes ports (Delivery o x)) ≢ Some i
+        → waits_at (turned ports (effect net nodes ports time number (Delivery o x)).turn i) ≡ waits_at (ports i)
+    delivery_stays nodes number (Arrival k) x i other =
+        let r = net.react (net.owner k) (nodes (net.owner k)) (Arrival k) x in
+        sent_stays (Some (k, x)) r.0 r.1 None i other
+    delivery_stays nodes number (Source j) x i other =
+        let r = net.react (net.source_node j) (nodes (net.source_node j)) (Source j) x in
+        sent_stays None r.0 r.1 (by_source j (net.source j (suc number))) i other
+
+  module _ (n : ℕ) (e : Key × Event (List ℕ)) (first : least (one_list net n).pending ≡ Some e) where
+    -- the queue after an event, by its effect
+    pub queue_next : (i : ℕ) → waits_at ((one_list net (suc n)).port i) ≡ waits_at (turned (one_list net n).port (effect_at net n e first).turn i)
+    queue_next i = ap (λ s. waits_at (s.port i)) (next_state net n e first)
+
+    pub queue_completed : (a : ℕ) → e.1 ≡ Completion a → (effect_at net n e first).transmission ≡ None → waits_at ((one_list net (suc n)).port a) ≡ waits_at ((one_list net n).port a)
+    queue_completed a is none = queue_next a ∙ ap (λ f. waits_at (turned (one_list net n).port (effect net (one_list net n).node (one_list net n).port e.0.time e.0.number f).turn a)) is
+        ∙ completion_stays (one_list net n).port e.0.time (one_list net n).node e.0.number a
+        (ap (λ f. (effect net (one_list net n).node (one_list net n).port e.0.time e.0.number f).transmission) (sym is) ∙ none)
+
+    pub queue_delivered : (o : Origin) (x : List ℕ) → e.1 ≡ Delivery o x → (i : ℕ) → queued_at (offering_in net (one_list net n).node (one_list net n).port e.1) ≢ Some i
+        → waits_at ((one_list net (suc n)).port i) ≡ waits_at ((one_list net n).port i)
+    queue_delivered o x is i other = queue_next i ∙ ap (λ f. waits_at (turned (one_list net n).port (effect net (one_list net n).node (one_list net n).port e.0.time e.0.number f).turn i)) is
+        ∙ delivery_stays (one_list net n).port e.0.time (one_list net n).node e.0.number o x i
+        (λ h. other (ap (λ f. queued_at (offering_in net (one_list net n).node (one_list net n).port f)) is ∙ h))
 
 -- there is one event of a number, and what it starts is what that starts
 pub event_only : {P N : Type 0} (net : Net P N) (n : ℕ) (e f : Key × Event P) → least (one_list net n).pending ≡ Some e → least (one_list net n).pending ≡ Some f

@@ -1,5 +1,6 @@
 -- What is seen of all interfaces of a network, event by event.
 use Rattle.std.specs.Prelude.{◌≡◌, ◌≢◌, ℕ, suc, ◌+◌, ◌<◌, ◌≤◌, min, List, length, slice_get, Option, Some, None}
+use Rattle.std.specs.Option.{option_map}
 use Rattle.nm_base.specs.Count.{saturated}
 use Rattle.nm_base.specs.declared.event.Event.{Event}
 use Rattle.nm_base.specs.declared.key.Key.{Key}
@@ -33,12 +34,12 @@ pub record AreSeen (t : TopologyValue) (first n : ℕ) (all : List Seen) : Type 
   pub each : (i : ℕ) (x : Seen) → slice_get all i ≡ Some x
       → IsSeen (net_of t) i first n t.stop x × (x.usage.rate ≡ (far_of t i).rate)
 
--- the interface to which a packet was offered
-abbrev pub offered_at : Offering → Option ℕ
-offered_at became.Nothing = None
-offered_at (became.Started i) = Some i
-offered_at (became.Waits i) = Some i
-offered_at (became.Dropped i) = Some i
+-- the interface at which a packet waits behind others, or was dropped
+abbrev pub queued_at : Offering → Option ℕ
+queued_at became.Nothing = None
+queued_at (became.Started i) = None
+queued_at (became.Waits i) = Some i
+queued_at (became.Dropped i) = Some i
 
 -- what waits at a port, and how many were dropped there
 abbrev pub waits_at : Port (List ℕ) → Waits
@@ -75,11 +76,12 @@ StartsNone t n = (e : Key × Event (List ℕ)) → least (one_list (net_of t) n)
     → (effect (net_of t) (one_list (net_of t) n).node (one_list (net_of t) n).port e.0.time
     e.0.number e.1).transmission ≡ None
 
--- the interface whose queue an event at this place may change, by what became of what was sent
-abbrev pub queue_turned : Place → Offering → Option ℕ
-queue_turned (Complete i) offering = Some i
-queue_turned (Arrive i) offering = offered_at offering
-queue_turned (Fire j) offering = offered_at offering
+-- The interface whose queue an event at this place may change, by what happened. A packet that
+-- starts at once finds an empty queue and leaves one; so does a completion behind which none starts.
+abbrev pub queue_turned : Place → Happened → Option ℕ
+queue_turned (Complete i) what = option_map (λ s. s.iface) what.started
+queue_turned (Arrive i) what = queued_at what.offering
+queue_turned (Fire j) what = queued_at what.offering
 
 -- event n leaves all queues but this one as they are
 abbrev pub IsTurn : TopologyValue → ℕ → Option ℕ → Type 0
@@ -98,9 +100,9 @@ pub record OneChanges (k : ℕ) (Changes : Seen → Seen → Type 0) (old new : 
 abbrev pub HasQueue : (now : ℕ) → Waits → Seen → Seen → Type 0
 HasQueue now waits x y = (y.queue ≡ queue_later x.queue waits now) × (y.usage ≡ x.usage)
 
--- a transmission of so many octets started, `left` before `stop`, and the queue is this from now on
-pub record HasStarted (octets now left : ℕ) (waits : Waits) (x y : Seen) : Type 0 where
-  pub queue : y.queue ≡ queue_later x.queue waits now
+-- a transmission of so many octets started, `left` before `stop`, and nothing else changed
+pub record HasStarted (octets now left : ℕ) (x y : Seen) : Type 0 where
+  pub queue : y.queue ≡ x.queue
   pub rate : y.usage.rate ≡ x.usage.rate
   pub busy : y.usage.busy
       ≡ saturated (x.usage.busy + min (transmission_time x.usage.rate octets) left)

@@ -10,7 +10,7 @@ ghost use Rattle.std.specs.Prelude.{List};
 ghost use Rattle.nm_sim.specs.Effects.{IsPlaceIn};
 ghost use Rattle.nm_sim.specs.Part.{Represents};
 ghost use Rattle.nm_measure.specs.Interfaces.{AreSeen, HasQueue, HasStarted, IsNext, OneChanges};
-ghost use Rattle.nm_measure.specs.Interfaces.{offered_at, queue_in, queue_turned};
+ghost use Rattle.nm_measure.specs.Interfaces.{queue_in, queue_turned, queued_at};
 
 use crate::queue::{Queue, Waits};
 use crate::seen::Seen;
@@ -62,23 +62,24 @@ fn queue_of(part: &Part<HeapList>, iface: IfaceNo) -> Waits
     }
 }
 
-/// The interface to which a packet was offered.
-fn offered_at(offering: Offering) -> Option<IfaceNo>
-    ensures { result ≡ offered_at offering }
+/// The interface at which a packet that was offered waits behind others, or was dropped.
+fn queued_at(offering: Offering) -> Option<IfaceNo>
+    ensures { result ≡ queued_at offering }
 {
     match offering {
-        Offering::Nothing => None,
-        Offering::Started(iface) | Offering::Waits(iface) | Offering::Dropped(iface) => Some(iface),
+        Offering::Nothing | Offering::Started(_) => None,
+        Offering::Waits(iface) | Offering::Dropped(iface) => Some(iface),
     }
 }
 
-/// The interface whose queue an event at this place may have changed.
-fn queue_turned(place: &Place, offering: Offering) -> Option<IfaceNo>
-    ensures { result ≡ queue_turned place.now offering }
+/// The interface whose queue an event at this place may have changed. A packet that starts at once
+/// finds an empty queue and leaves one; so does a completion behind which none starts.
+fn queue_turned(place: &Place, happened: &Happened) -> Option<IfaceNo>
+    ensures { result ≡ queue_turned place.now happened.now }
 {
     match place {
-        Place::Complete(iface) => Some(*iface),
-        Place::Arrive(_) | Place::Fire(_) => offered_at(offering),
+        Place::Complete(_) => Some(happened.started.as_ref()?.iface),
+        Place::Arrive(_) | Place::Fire(_) => queued_at(happened.offering),
     }
 }
 
@@ -133,20 +134,15 @@ impl Interfaces {
         }
     }
 
-    /// A transmission started now, `left` nanoseconds before `stop`. Notes the queue, as the part
-    /// now has it.
-    fn start(&mut self, part: &Part<HeapList>, started: &Started, now: Time, left: u64)
-        ensures { (t : TopologyValue) (s : State (List ℕ) NodeStateValue)
-            → Represents pending_of t None part.now s → length self.old.all.items ≡ length t.ifaces
-            → OneChanges started.now.iface
-            (HasStarted (max 1 started.now.octets) now left (queue_in started.now.iface s))
+    /// A transmission started now, `left` nanoseconds before `stop`.
+    fn start(&mut self, started: &Started, now: Time, left: u64)
+        ensures { OneChanges started.now.iface (HasStarted (max 1 started.now.octets) now left)
             self.old.all.items self.new.all.items }
     {
-        let waits = queue_of(part, started.iface);
         let octets = usize::from(started.octets).max(1);
         let place = started.iface.index();
         if place < self.all.len() {
-            self.all[place].start(octets, now, left, waits);
+            self.all[place].start(octets, now, left);
         }
     }
 
@@ -168,9 +164,9 @@ impl Interfaces {
         keys_rise::<Packet, NodeState>(); // law: times of events rise
         what_starts_arrives::<Packet, NodeState>(); // law: transmissions do not overlap
         if let Some(started) = &happened.started {
-            return self.start(part, started, now, time_left(topology, now));
+            self.start(started, now, time_left(topology, now));
         }
-        if let Some(iface) = queue_turned(place, happened.offering) {
+        if let Some(iface) = queue_turned(place, happened) {
             self.change(part, iface, now);
         }
     }

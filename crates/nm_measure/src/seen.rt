@@ -24,12 +24,10 @@ impl Seen {
     }
 
     /// The transmission of a packet of so many octets starts now, `left` nanoseconds before `stop`.
-    /// Notes what waits from now on, and how many were dropped.
-    pub(crate) fn start(&mut self, octets: usize, now: Time, left: u64, waits: Waits)
+    pub(crate) fn start(&mut self, octets: usize, now: Time, left: u64)
         requires { octets ≤ MAX_PACKET_OCTETS }
-        ensures { HasStarted octets now left waits self.old self.new }
+        ensures { HasStarted octets now left self.old self.new }
     {
         self.usage.start(octets, now, left);
-        self.queue.change(waits, now);
     }
 }
