@@ -29,12 +29,12 @@ impl Entry {
         requires { self.now.time ≡ other.now.time }
         ensures { result ≡ by_key self.now other.now }
     {
-        if self.rank < other.rank {
-            Ordering::Less
-        } else if other.rank < self.rank {
-            Ordering::Greater
-        } else {
+        if self.rank == other.rank {
             self.number.cmp(&other.number)
+        } else if self.rank < other.rank {
+            Ordering::Less
+        } else {
+            Ordering::Greater
         }
     }
 }
@@ -75,12 +75,14 @@ impl Ord for Entry {
     #[inline(always)]
     #[tactic(auto, using(crate::proofs::Times::earlier, crate::proofs::Times::later))]
     fn cmp(&self, other: &Entry) -> Ordering {
-        if self.time < other.time {
-            Ordering::Less
-        } else if other.time < self.time {
-            Ordering::Greater
-        } else {
+        // Which of two events comes first no processor foresees, but mostly their times differ. So
+        // the only jump here is that for equal times.
+        if self.time == other.time {
             self.cmp_at_one_time(other)
+        } else if self.time < other.time {
+            Ordering::Less
+        } else {
+            Ordering::Greater
         }
     }
 }

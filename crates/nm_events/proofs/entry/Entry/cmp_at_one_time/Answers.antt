@@ -7,16 +7,16 @@ pub returns-then-self-other : goal.returns-then-self-other
 returns-then-self-other c =
     let a = c.args.self.now in
     let b = c.args.other.now in
-    before_at (entry_key a) (entry_key b) c.requires a.indexed b.indexed (omega (arith, a.ranked, b.ranked, c.if-self-other.true))
+    c.cmp.ensures ∙ there_at (entry_key a) (entry_key b) c.requires a.indexed b.indexed (omega (arith, a.ranked, b.ranked, c.if-self-other.true))
 
-pub returns-then-other-self : goal.returns-then-other-self
-returns-then-other-self c =
+pub returns-then-self-other-2 : goal.returns-then-self-other-2
+returns-then-self-other-2 c =
     let a = c.args.self.now in
     let b = c.args.other.now in
-    behind_at (entry_key a) (entry_key b) c.requires a.indexed b.indexed (omega (arith, a.ranked, b.ranked, c.if-other-self.true))
+    before_at (entry_key a) (entry_key b) c.requires a.indexed b.indexed (omega (arith, a.ranked, b.ranked, c.if-self-other-2.true))
 
-pub returns-else-other-self : goal.returns-else-other-self
-returns-else-other-self c =
+pub returns-else-self-other-2 : goal.returns-else-self-other-2
+returns-else-self-other-2 c =
     let a = c.args.self.now in
     let b = c.args.other.now in
-    c.cmp.ensures ∙ there_at (entry_key a) (entry_key b) c.requires a.indexed b.indexed (omega (arith, a.ranked, b.ranked, c.if-self-other.false, c.if-other-self.false))
+    behind_at (entry_key a) (entry_key b) c.requires a.indexed b.indexed (omega (arith, a.ranked, b.ranked, c.if-self-other.false, c.if-self-other-2.false))
