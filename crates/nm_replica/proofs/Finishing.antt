@@ -1,6 +1,6 @@
 -- Of each of some replicas a book was seen to be done.
 use Rattle.std.proofs.Common.{◌≡◌, ◌≢◌, ◌⊎◌, inl, inr, ℕ, ◌+◌, ◌<◌, ◌≤◌, Bool, true, false, nat_lt, ◌&&◌, ◌||◌, ◌==◌, List, map, length, slice_index_or, slice_set, refl, sym, ◌∙◌, ap, subst, arith, ⊎_elim}
-use Rattle.std.proofs.lemmas.Bool.{and_parts, cases_lt}
+use Rattle.std.proofs.lemmas.Bool.{and_parts, cases_lt, true≢false}
 use Rattle.std.proofs.lemmas.Bool.Decides.{nat_tests}
 use Rattle.std.proofs.lemmas.Grind.{get_or-set_at}
 use Rattle.std.proofs.lemmas.List.{get_or-set_other, length-map, map-set}
@@ -10,11 +10,12 @@ use Rattle.nm_book.specs.Book.{BookValue, replica_of, state_of}
 use Rattle.nm_shared.specs.Counted.{Meets, PassCounts}
 use Rattle.nm_shared.specs.Home.{Home, home_of}
 use Rattle.nm_policy.specs.Contacts.{ContactsValue}
-use Rattle.nm_policy.specs.Stays.{leaves, stayed}
+use Rattle.nm_policy.specs.Stays.{stayed}
 use Rattle.nm_policy.specs.declared.staying.Stay.{Stay}
 use Rattle.nm_replica.specs.Recording.{WasEmptied}
 use Rattle.nm_replica.specs.Served.{AllWereFinished, HasStayed, WasFinished, WasSeen, WereFinished, is_handed_out}
 use Rattle.nm_replica.specs.Finished.{IsDone}
+use Rattle.nm_replica.specs.Staying.{HasOneLeft, MayEnd, stay_after}
 use Rattle.nm_replica.specs.declared.acts.Standing.{Standing}
 
 -- one replica more
@@ -67,10 +68,28 @@ was_last exact own c is_last home is last =
 pub all_finished : (exact : Bool) (replicas : ℕ) (counted : List ℕ) → 0 < replicas → WereFinished exact replicas counted → AllWereFinished replicas
 all_finished exact replicas counted some all = (some, λ n low. let is = all n low in (is.0, is.2))
 
--- a replica that stayed, and may leave
-pub has_stayed : (ran_out : Bool) (contacts : ContactsValue) (old mid new : Stay) (may : Bool) → mid ≡ old → new ≡ stayed ran_out contacts mid → may ≡ leaves contacts new → may ≡ true
-    → HasStayed ran_out contacts old new
-has_stayed ran_out contacts old mid new may same stays is left = (stays ∙ ap (stayed ran_out contacts) same, sym is ∙ left)
+-- a replica that may end has stayed and leaves, or all are done
+pub has_left : (is_done ran_out : Bool) (contacts : ContactsValue) (old mid new : Stay) (replicas : ℕ) → mid ≡ old → new ≡ stay_after is_done ran_out contacts mid
+    → MayEnd is_done contacts new replicas → HasStayed ran_out contacts old new ⊎ AllWereFinished replicas
+has_left is_done ran_out contacts old mid new replicas same stays may =
+    ⊎_elim (λ left. inl (stays ∙ ap (λ (b : Bool). stay_after b ran_out contacts mid) may.0 ∙ ap (stayed ran_out contacts) same, left)) (λ all. inr all) may.1
+
+-- a replica that is done, and whose book has a record left that it does not keep
+pub one_left : (exact : Bool) (own : Home) (keeps is_last : Bool) (s : Standing) → WasSeen exact own s → s.is_done ≡ true
+    → (s.is_done && (keeps || is_last || (s.handed == s.records))) ≡ false → HasOneLeft exact own keeps
+one_left exact own true is_last s seen done isnt = absurd (true≢false (sym (ap (λ (b : Bool). b && (true || is_last || (s.handed == s.records))) done) ∙ isnt))
+one_left exact own false true s seen done isnt = absurd (true≢false (sym (ap (λ (b : Bool). b && (false || true || (s.handed == s.records))) done) ∙ isnt))
+one_left exact own false false s seen done isnt =
+    let apart : (s.handed == s.records) ≡ false = sym (ap (λ (b : Bool). b && (false || false || (s.handed == s.records))) done) ∙ isnt in
+    let b = seen.0 in
+    let all = length (state_of b).records in (
+      refl,
+      (
+        b,
+        seen.1,
+        ap (λ (d : Bool). d && (b.handed == all)) (sym seen.2 ∙ done) ∙ ap (λ (n : ℕ). n == all) (sym seen.3) ∙ ap (λ (n : ℕ). s.handed == n) (sym seen.4) ∙ apart,
+      ),
+    )
 
 -- no record is left to hand out, where the book keeps them, had none left, or has handed all out since
 pub emptied_if : (exact : Bool) (own : Home) (keeps : Bool) (s : Standing) → WasSeen exact own s → (left : Bool) → left ≡ nat_lt s.handed s.records

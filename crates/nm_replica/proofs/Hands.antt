@@ -1,17 +1,17 @@
 -- Peers that are called one after another, and connections that are let go so.
-use Rattle.std.proofs.Common.{add-one, ◌≡◌, ◌≢◌, ℕ, suc, ◌+◌, ◌<◌, ◌≤◌, ◌&&◌, Bool, true, false, length, List, Option, None, refl, ◌∙◌, ap, arith, below_more, ⊎_elim, inl, inr}
+use Rattle.std.proofs.Common.{add-one, ◌≡◌, ◌≢◌, ℕ, suc, ◌+◌, ◌<◌, ◌≤◌, ◌&&◌, Bool, true, false, length, List, Option, None, refl, sym, subst, ◌∙◌, ap, arith, below_more, if◌then◌else◌, ⊎_elim, inl, inr}
 use Rattle.std.specs.Prelude.{nat_lt, slice_index_or}
-use Rattle.std.proofs.lemmas.Bool.{cases_lt}
+use Rattle.std.proofs.lemmas.Bool.{cases_eq, cases_lt}
 use Rattle.std.proofs.lemmas.Bool.Decides.{nat_tests}
 use Rattle.std.proofs.lemmas.List.{get_or_past}
-use Rattle.slab.specs.Slab.{Slab}
+use Rattle.slab.specs.Slab.{Slab, Updates, get}
 use Rattle.nm_frames.specs.Session.{SessionValue}
 use Rattle.nm_policy.specs.Contact.{is_stale}
 use Rattle.nm_policy.specs.Contacts.{ContactsValue, contact_at, is_slot}
 use Rattle.nm_policy.specs.Decisions.{is_due_at}
 use Rattle.nm_policy.specs.Peers.{is_due, new_peer}
 use Rattle.nm_policy.proofs.Changes.{as_long, as_many, gone, kept, no_more, others}
-use Rattle.nm_replica.specs.Connections.{Admits, CallsSome, Dials, Keeps, LetGoStale, LetsGo, MakesRoom}
+use Rattle.nm_replica.specs.Connections.{Admits, AsksFor, CallsSome, Dials, Keeps, LetGoStale, LetsGo, MakesRoom}
 use Rattle.nm_replica.specs.declared.connection.Connection.{Connection}
 
 -- nobody below this number is to be called
@@ -75,3 +75,47 @@ one_more_gone first old new key so_far stale went = (suc so_far.0, (old, so_far.
 -- one more was kept or not, once there was room
 pub one_more_admitted : (n : ℕ) (first old roomy new : ContactsValue) → Admits n first old → MakesRoom old roomy → Keeps roomy new → Admits (n + 1) first new
 one_more_admitted n first old roomy new so_far room keeps = rw add-one (old, so_far, (roomy, room, keeps))
+
+-- of the connections with a key below this one those are taken out that were stale; all others are as they were
+module _ {W : Type 0} (first : ContactsValue) (before : Slab (Connection W)) where
+  abbrev pub slot_after : ℕ → Option (Connection W)
+  slot_after key = if is_slot is_stale (contact_at first.connections key) then None else get before key
+
+  pub record AreTakenOut (s : ContactsValue) (slab : Slab (Connection W)) (n : ℕ) : Type 0 where
+    pub below : (key : ℕ) → key < n → get slab key ≡ slot_after key
+    pub rest : (key : ℕ) → n ≤ key → get slab key ≡ get before key
+    pub known : (key : ℕ) → n ≤ key → contact_at s.connections key ≡ contact_at first.connections key
+
+  pub one_taken_out : (s t : ContactsValue) (slab new : Slab (Connection W)) (n : ℕ) → AreTakenOut s slab n → is_slot is_stale (contact_at s.connections n) ≡ true → LetsGo n s t
+      → Updates slab new n None → AreTakenOut t new (n + 1)
+  one_taken_out s t slab new n out stale went up =
+      let was : is_slot is_stale (contact_at first.connections n) ≡ true = ap (is_slot is_stale) (sym (out.known n (omega arith))) ∙ stale in
+      let here : get new n ≡ slot_after n = up.changed ∙ sym (ap {A = Bool} (λ b. if b then None else get before n) was) in
+      record {
+        below = λ key low. below_more (λ k. get new k ≡ slot_after k) n
+            (λ k l. let ne : k ≢ n = λ e. absurd (omega (arith, l, e)) in up.others k ne ∙ out.below k l) here key low;
+        rest = λ key high. let ne : key ≢ n = λ e. absurd (omega (arith, high, e)) in up.others key ne ∙ out.rest key (omega (arith, high));
+        known = λ key high. let ne : key ≢ n = λ e. absurd (omega (arith, high, e)) in kept s t n went.0 went.1 key ne ∙ out.known key (omega (arith, high));
+      }
+
+  pub one_left_in : (s : ContactsValue) (slab : Slab (Connection W)) (n : ℕ) → AreTakenOut s slab n → is_slot is_stale (contact_at s.connections n) ≡ false → AreTakenOut s slab (n + 1)
+  one_left_in s slab n out fresh =
+      let was : is_slot is_stale (contact_at first.connections n) ≡ false = ap (is_slot is_stale) (sym (out.known n (omega arith))) ∙ fresh in
+      let here : get slab n ≡ slot_after n = out.rest n (omega arith) ∙ sym (ap {A = Bool} (λ b. if b then None else get before n) was) in
+      record {
+        below = λ key low. below_more (λ k. get slab k ≡ slot_after k) n out.below here key low;
+        rest = λ key high. out.rest key (omega (arith, high));
+        known = λ key high. out.known key (omega (arith, high));
+      }
+
+  -- all keys were looked at
+  pub all_taken_out : (s : ContactsValue) (slab : Slab (Connection W)) (n : ℕ) → length first.connections ≤ n → AreTakenOut s slab n → (key : ℕ) → get slab key ≡ slot_after key
+  all_taken_out s slab n over out key =
+      ⊎_elim (λ low. out.below key low)
+      (λ high. let past : is_slot is_stale (contact_at first.connections key) ≡ false = ap (is_slot is_stale) (get_or_past first.connections key None (omega (arith, over, high))) in
+      out.rest key high ∙ sym (ap {A = Bool} (λ b. if b then None else get before key) past))
+      (cases_lt key n)
+
+-- how often a transport was asked, if nothing else asks it
+pub asks_between : (n most a b a' b' : ℕ) → AsksFor n most a b → a ≡ a' → b' ≡ b → AsksFor n most a' b'
+asks_between n most a b a' b' asks same last = subst (λ (x : ℕ). AsksFor n most a' x) (sym last) (subst (λ (x : ℕ). AsksFor n most x b) same asks)

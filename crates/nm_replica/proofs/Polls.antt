@@ -1,5 +1,5 @@
 -- What polls come to, and why serving ends by them.
-use Rattle.std.proofs.Common.{◌≡◌, ◌≤◌, ◌+◌, inl, ℕ, Bool, true, false, if◌then◌else◌, Option, Some, None, refl, subst, arith}
+use Rattle.std.proofs.Common.{◌≡◌, ◌≤◌, ◌+◌, inl, ℕ, Bool, true, false, if◌then◌else◌, Option, Some, None, ap, refl, subst, arith}
 use Rattle.std.proofs.lemmas.Bool.Decides.{nat_tests}
 use Rattle.std.specs.Prelude.{nat_le}
 use Rattle.nm_base.specs.Count.{saturated}
@@ -9,7 +9,7 @@ use Rattle.nm_transport.specs.Transport.{elapsed_after}
 use Rattle.nm_replica.specs.Served.{EndsWith, PolledOnce, WasFinished}
 use Rattle.nm_replica.specs.declared.served.Served.{Served}
 use Rattle.nm_replica.specs.declared.serving.Polled.{Polled}
-use Rattle.nm_replica.specs.declared.served.Served.TheVariants.{Ended, Stalled}
+use Rattle.nm_replica.specs.declared.served.Served.TheVariants.{Ended, File, Memory, Net, Stalled}
 
 -- there are no more idle periods in a row than waits that ran out
 pub idles_wait : (idle : ℕ) (was_active ran_out : Bool) (start before after : ℕ) → start + idle ≤ before
@@ -43,3 +43,19 @@ polled_once Happened limit polls idle idle' before after end p a b c d = (p, a, 
 -- what moved in two rounds of turns
 pub saturated_twice : (m h s : ℕ) → saturated (saturated (m + h) + s) ≡ saturated (m + saturated (h + s))
 saturated_twice m h s = omega arith
+
+-- a replica that ends as stalled tells how many polls were made
+abbrev polls_in : Served → ℕ
+polls_in Ended = 0
+polls_in Net = 0
+polls_in Memory = 0
+polls_in (File iface written) = 0
+polls_in (Stalled polls) = polls
+
+pub stalled_polls : (is_done : Bool) (idle limit polls told : ℕ) → ending_of is_done idle limit polls ≡ Some (Stalled told) → polls ≡ told
+stalled_polls true idle limit polls told e = let same : Ended ≡ Stalled told = cc in absurd cc
+stalled_polls false idle limit polls told e = by_test (nat_le limit idle) e
+  where
+    by_test : (b : Bool) → (if b then Some (Stalled polls) else None) ≡ Some (Stalled told) → polls ≡ told
+    by_test true f = let same : Stalled polls ≡ Stalled told = cc in ap polls_in same
+    by_test false f = let none : None ≡ Some (Stalled told) = f in absurd cc

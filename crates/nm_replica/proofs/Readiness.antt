@@ -5,7 +5,7 @@ use Rattle.std.specs.Option.{option_map}
 use Rattle.std.proofs.lemmas.Bool.{cases_eq, cases_lt}
 use Rattle.std.proofs.lemmas.List.{get_or_past}
 use Rattle.slab.specs.Slab.{Slab, Updates, get}
-use Rattle.nm_replica.specs.Connections.{AreAllReady, IsNoneReady, is_ready, reported_connection}
+use Rattle.nm_replica.specs.Connections.{AreAllReady, IsNoneReady, KeepsUnreported, is_ready, reported_connection}
 use Rattle.nm_replica.specs.declared.connection.Connection.{Connection}
 
 module _ {W : Type 0} where
@@ -50,3 +50,13 @@ module _ {W : Type 0} where
   pub none_ready : (slab : Slab (Connection W)) (n : ℕ) → length slab.slots ≤ n → ((k : ℕ) → k < n → is_ready (get slab k) ≡ false) → IsNoneReady slab
   none_ready slab n past below k =
       ⊎_elim (λ low. below k low) (λ high. ap is_ready (get_or_past slab.slots k None (omega (arith, past, high)))) (cases_lt k n)
+
+  -- no connection but those of one more report is looked at
+  pub unreported_more : (reported : ℕ → Option ℕ) (n key : ℕ) (first old new : Slab (Connection W)) (slot : Option (Connection W)) → KeepsUnreported reported n first old
+      → Some key ≡ reported n → Updates old new key slot → KeepsUnreported reported (n + 1) first new
+  unreported_more reported n key first old new slot so_far is updates other none =
+      let ne : other ≢ key = λ e. none n (omega arith) (sym is ∙ ap (λ (k : ℕ). Some k) (sym e)) in
+      updates.others other ne ∙ so_far other (λ k low. none k (omega (arith, low)))
+
+  pub unreported_fewer : (reported : ℕ → Option ℕ) (n most : ℕ) (first new : Slab (Connection W)) → n ≤ most → KeepsUnreported reported n first new → KeepsUnreported reported most first new
+  unreported_fewer reported n most first new few so_far key none = so_far key (λ k low. none k (omega (arith, few, low)))

@@ -1,7 +1,12 @@
 -- How serving ends because a connection broke.
-use Rattle.std.specs.Prelude.{Bool, false, ◌||◌, Option, Some, None, is_some, Result, Ok, Err}
+use Rattle.std.specs.Prelude.{Bool, true, false, ◌||◌, Option, Some, None, is_some, Result, Ok, Err}
+use Rattle.nm_engine.specs.declared.answer.Turn.{Turn}
+use Rattle.nm_engine.specs.declared.answer.Turn.TheVariants as turn
 use Rattle.nm_policy.specs.declared.contact.Contact.{Contact}
+use Rattle.nm_replica.specs.Served.{break_served}
 use Rattle.nm_replica.specs.declared.connection.Connection.{Connection}
+use Rattle.nm_replica.specs.declared.served.Served.{Served}
+use Rattle.nm_replica.specs.declared.served.Served.TheVariants.{Net}
 
 -- the replica began the connection
 abbrev pub is_called : Option Contact → Bool
@@ -21,3 +26,19 @@ is_peer contact connection = is_called contact || has_session connection
 abbrev pub fault_in : {T E : Type 0} → Result T E → Option E
 fault_in (Ok x) = None
 fault_in (Err e) = Some e
+
+-- how serving ends by the last turn of a connection, if it does
+abbrev pub turn_served : Turn → (is_peer : Bool) → Option Served
+turn_served turn.Progress is_peer = None
+turn_served turn.Idle is_peer = None
+turn_served turn.Ended is_peer = None
+turn_served (turn.Broken cause) is_peer = break_served cause is_peer
+turn_served turn.Failed is_peer = Some Net
+
+-- a connection is taken out after its last turn
+abbrev pub goes_after : Turn → (is_abandoned : Bool) → Bool
+goes_after turn.Progress is_abandoned = is_abandoned
+goes_after turn.Idle is_abandoned = is_abandoned
+goes_after turn.Ended is_abandoned = true
+goes_after (turn.Broken cause) is_abandoned = true
+goes_after turn.Failed is_abandoned = false

@@ -1,6 +1,6 @@
 -- How events change contacts, and which connections are begun and closed.
-use Rattle.std.specs.Prelude.{◌≡◌, ◌⊎◌, ◌+◌, ◌<◌, ◌≤◌, ℕ, suc, zero, Bool, true, false, ◌||◌, List, slice_index_or, slice_set, Option, Some, None, IfSome, IsSome, IsSomeAnd}
-use Rattle.slab.specs.Slab.{Slab, get}
+use Rattle.std.specs.Prelude.{◌≡◌, ◌≢◌, ◌⊎◌, ◌+◌, ◌<◌, ◌≤◌, ℕ, suc, zero, Bool, true, false, ◌||◌, List, slice_index_or, slice_set, Option, Some, None, IfSome, IsSome, IsSomeAnd, if◌then◌else◌}
+use Rattle.slab.specs.Slab.{Slab, Updates, get}
 use Rattle.nm_engine.specs.Acceptor.{AcceptorValue}
 use Rattle.nm_engine.specs.CountingWire.{reported}
 use Rattle.nm_engine.specs.Link.{greeted_by}
@@ -9,7 +9,8 @@ use Rattle.nm_engine.specs.declared.answer.Turn.{Turn}
 use Rattle.nm_engine.specs.declared.answer.Turn.TheVariants as turn
 use Rattle.nm_frames.specs.Session.{SessionValue, broken}
 use Rattle.nm_frames.specs.declared.replica_name.ReplicaName.{ReplicaName}
-use Rattle.nm_policy.specs.Contact.{is_stale}
+use Rattle.nm_base.specs.Count.{saturated}
+use Rattle.nm_policy.specs.Contact.{has_greeted, is_stale}
 use Rattle.nm_policy.specs.Contacts.{ContactsValue, after, contact_at, is_slot}
 use Rattle.nm_policy.specs.Decisions.{IsFirstStranger, IsToDrop, is_due_at}
 use Rattle.nm_policy.specs.Laws.{MayCome}
@@ -43,6 +44,12 @@ AreReady reported first slab =
     → ((j : ℕ) → j ≤ k → IsSome (reported j)) → reported k ≡ Some key
     → IfSome (get slab key) (λ c. c.link.wire.is_ready ≡ true)
 
+-- no connection is looked at but those whose keys are in one of the first reports
+abbrev pub KeepsUnreported : {W : Type 0} → (reported : ℕ → Option ℕ) → (first : ℕ)
+    → (old new : Slab (Connection W)) → Type 0
+KeepsUnreported reported first old new =
+    (key : ℕ) → ((k : ℕ) → k < first → reported k ≢ Some key) → get new key ≡ get old key
+
 -- a connection is closed; somebody was at its other end, or nobody
 abbrev pub LetsGo : ℕ → (old new : ContactsValue) → Type 0
 LetsGo key old new = (was_there : Bool) × (new ≡ after old (Broke key was_there))
@@ -59,6 +66,17 @@ abbrev pub LetsStaleGo : (old new : ContactsValue) → Type 0
 LetsStaleGo old new =
     ((n : ℕ) × LetGoStale n old new)
     × ((key : ℕ) → is_slot is_stale (contact_at new.connections key) ≡ false)
+
+-- of these connections those that are stale are taken out, and the others stay as they are
+abbrev pub TakesStaleOut : {W : Type 0} → ContactsValue → (old new : Slab (Connection W)) → Type 0
+TakesStaleOut s old new =
+    (key : ℕ) → get new key
+    ≡ (if is_slot is_stale (contact_at s.connections key) then None else get old key)
+
+-- the connection with this key is taken out, if one is to be closed
+abbrev pub TakesFirstOut : {W : Type 0} → Option ℕ → (old new : Slab (Connection W)) → Type 0
+TakesFirstOut None old new = new ≡ old
+TakesFirstOut (Some key) old new = Updates old new key None
 
 -- A peer is called: by a connection that leads to it and has its session, under a key that is
 -- free; or no connection could be begun, and the sessions are as they were.
@@ -151,6 +169,23 @@ abbrev pub learned : {W : Type 0} → ℕ → Option (Connection W) → Contacts
 learned key None s = s
 learned key (Some c) s = learned_name key (greeted_by c.link.session) s
 
+-- a Hello was received on the connection with this key, as far as is known
+abbrev pub has_met : ℕ → ContactsValue → Bool
+has_met key s = is_slot has_greeted (contact_at s.connections key)
+
+-- on how many connections the peer has sent Hello, once the name of one is known
+abbrev pub begun_by : ℕ → Option ReplicaName → ContactsValue → ℕ → ℕ
+begun_by key None s begun = begun
+begun_by key (Some name) s begun = if has_met key s then begun else saturated (begun + 1)
+
+abbrev pub begun_after : {W : Type 0} → ℕ → Option (Connection W) → ContactsValue → ℕ → ℕ
+begun_after key None s begun = begun
+begun_after key (Some c) s begun = begun_by key (greeted_by c.link.session) s begun
+
+-- how many of these have broken, after one more connection broke
+abbrev pub broken_after : ℕ → ContactsValue → ℕ → ℕ
+broken_after key s broken = if has_met key s then saturated (broken + 1) else broken
+
 -- it is noted that octets were received, if they were
 abbrev pub heard_at : ℕ → (has_heard : Bool) → ContactsValue → ContactsValue
 heard_at key false s = s
@@ -197,3 +232,9 @@ with_session_back None connection sessions = sessions
 with_session_back (Some contact) None sessions = sessions
 with_session_back (Some contact) (Some c) sessions =
     with_session_of contact.peer c.link.session sessions
+
+-- the session comes back of a connection that goes, and no other
+abbrev pub sessions_if : {W : Type 0} → (goes : Bool) → Option Contact → Option (Connection W)
+    → List (Option SessionValue) → List (Option SessionValue)
+sessions_if true contact connection sessions = with_session_back contact connection sessions
+sessions_if false contact connection sessions = sessions

@@ -1,5 +1,6 @@
 pub mod Breaks
 pub mod Connections
+pub mod Figured
 pub mod Finished
 pub mod Happened
 pub mod Moved
@@ -8,6 +9,8 @@ pub mod Recording
 pub mod Seats
 pub mod Served
 pub mod Sessions
+pub mod Shortage
 pub mod Sisters
+pub mod Staying
 pub mod Turns
 pub mod Words

@@ -22,6 +22,13 @@ KeepsCounts old new =
     (new.moved ≡ old.moved) × (new.counted ≡ old.counted) × (new.events ≡ old.events)
     × (new.stay ≡ old.stay) × (new.was_done ≡ old.was_done) × (new.polls ≡ old.polls)
 
+-- nothing was counted of a replica so far, and its first poll does not wait
+abbrev pub HasBegun : {W : Type 0} → Serving W → Type 0
+HasBegun s =
+    (s.moved ≡ 0) × (s.counted ≡ 0) × (s.events ≡ 0) × (s.was_done ≡ false) × (s.polls ≡ 0)
+    × (s.stay.all.periods ≡ 0) × (s.stay.quiet ≡ 0) × (s.short.periods ≡ 0)
+    × (s.failed_waits ≡ 0) × (s.is_busy ≡ true)
+
 -- a poll was active: octets moved, records were written, or the book did events
 abbrev pub is_active : (octets written : ℕ) → (was_run : Bool) → Bool
 is_active octets written was_run = nat_lt 0 octets || nat_lt 0 written || was_run

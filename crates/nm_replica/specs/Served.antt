@@ -57,12 +57,20 @@ WasFinished exact own keeps =
     (b : BookValue) × (exact ≡ true → home_of b ≡ own) × IsDone b
     × (keeps ≡ false → b.handed ≡ length (state_of b).records)
 
+-- a book was seen to be done, and had done no fewer events than were counted, if the counts are
+-- exact
+abbrev pub WasDone : (exact : Bool) → (counted : ℕ) → Type 0
+WasDone exact counted = (b : BookValue) × (exact ≡ true → counted ≤ b.events) × IsDone b
+
+-- a book was seen to have something left to do
+abbrev pub IsOneLeft : Type 0
+IsOneLeft = (b : BookValue) × (is_done (net_of b.topology) b.partition (replica_of b) ≡ false)
+
 -- Of each of so many replicas a book was seen to be done. It had done no fewer events than the
 -- replica's pass has counted, if the counts are exact.
 abbrev pub WereFinished : (exact : Bool) → (replicas : ℕ) → (counted : List ℕ) → Type 0
 WereFinished exact replicas counted =
-    (n : ℕ) → n < replicas
-    → (b : BookValue) × (exact ≡ true → slice_index_or counted n 0 ≤ b.events) × IsDone b
+    (n : ℕ) → n < replicas → WasDone exact (slice_index_or counted n 0)
 
 -- There are other replicas, so many with this one, and of each a book was seen to be done.
 abbrev pub AllWereFinished : (replicas : ℕ) → Type 0
@@ -78,9 +86,7 @@ HasStayed ran_out contacts old new =
 -- A replica's book was seen to have something left to do; or there is no other replica, or not a
 -- pass for each.
 abbrev pub IsSomeLeft : (replicas passes : ℕ) → Type 0
-IsSomeLeft replicas passes =
-    ((b : BookValue) × (is_done (net_of b.topology) b.partition (replica_of b) ≡ false))
-    ⊎ (replicas ≡ 0) ⊎ (passes < replicas)
+IsSomeLeft replicas passes = IsOneLeft ⊎ (replicas ≡ 0) ⊎ (passes < replicas)
 
 -- Why serving ends: the replica was done, and its records were handed out; or no fewer periods than
 -- the limit were over between the two counts of periods; or, by the counts of waits, as many waits

@@ -11,7 +11,8 @@ use Rattle.nm_policy.specs.Contact.{does_count}
 use Rattle.nm_policy.specs.Contacts.{contact_at, is_slot}
 use Rattle.nm_shared.specs.Home.{Home}
 use Rattle.slab.specs.Slab.{Slab, get}
-use Rattle.nm_replica.specs.Connections.{AreAllReady, SettlesAs, WaitsOnce, is_abandoned, known_after}
+use Rattle.nm_replica.specs.Breaks.{goes_after}
+use Rattle.nm_replica.specs.Connections.{AreAllReady, SettlesAs, WaitsOnce, is_abandoned, known_after, sessions_if}
 use Rattle.nm_replica.specs.Moved.{CountsMovesAt}
 use Rattle.nm_replica.specs.declared.connection.Connection.{Connection}
 use Rattle.nm_replica.specs.declared.connections.Connections.{Connections}
@@ -103,6 +104,11 @@ module _ {W : Type 0} (key : ℕ) (old new : Connections W) where
         (known_after key has_heard (get old.open key) old.contacts).connections key)
         (get old.open key)) (get old.open key)
     pub others : KeepsOthers key old.open new.open
+    pub sessions : new.sessions ≡ sessions_if (goes_after last (is_abandoned (contact_at
+        (known_after key has_heard (get old.open key) old.contacts).connections key)
+        (get old.open key))) (contact_at
+        (known_after key has_heard (get old.open key) old.contacts).connections key)
+        (get old.open key) old.sessions
 
 module _ {W : Type 0} (l : Links W) where
   -- a key is served: its connection has its turns, and what the last one requires is done

@@ -31,7 +31,8 @@ pub(crate) struct Connection<W> {
 impl<W> Connection<W> {
     /// A connection on which nothing has moved.
     pub(crate) fn new(link: Link<CountingWire<W>>) -> Self
-        ensures { result.link ≡ link }
+        ensures link { result.link ≡ link }
+        ensures none { (result.told ≡ 0) × (result.counted ≡ 0) × (result.heard ≡ 0) }
     {
         Connection {
             link,
@@ -80,6 +81,19 @@ impl<W> Connection<W> {
         is_more
     }
 
+    /// How much more was given than when that was counted last. This is counted now.
+    fn count_up_to(&mut self, all: GivenCounts) -> GivenCounts
+        ensures more { (result.messages ≡ all.messages - self.old.given.messages)
+            × (result.nulls ≡ all.nulls - self.old.given.nulls) }
+        ensures noted { self.new.given ≡ all }
+        ensures kept { (self.new.link ≡ self.old.link) × (self.new.told ≡ self.old.told)
+            × (self.new.counted ≡ self.old.counted) × (self.new.heard ≡ self.old.heard) }
+    {
+        let more = all.since(self.given);
+        self.given = all;
+        more
+    }
+
     /// What its link has given since that was counted last, if it is counted.
     pub(crate) fn count_given(&mut self) -> GivenCounts
         ensures { (self.new.link ≡ self.old.link) × (self.new.told ≡ self.old.told)
@@ -89,9 +103,7 @@ impl<W> Connection<W> {
             return GivenCounts::NONE;
         };
         let all = given.counts;
-        let more = all.since(self.given);
-        self.given = all;
-        more
+        self.count_up_to(all)
     }
 
     /// How many of the messages that its link has given had been given to the same replica on a

@@ -3,17 +3,18 @@
 ghost use Rattle.std.specs.Arc.{arc_value};
 ghost use Rattle.std.specs.Option.{option_map};
 ghost use Rattle.std.specs.Prelude.{◌≡◌, ◌⊎◌, ◌+◌, ◌≤◌, IfErr, IfOk, IfSome, OnOk, Some, ℕ, false};
-ghost use Rattle.std.specs.Prelude.{length};
+ghost use Rattle.std.specs.Prelude.{Option, length};
 ghost use Rattle.std.specs.Prelude.{None, if◌then◌else◌, is_some, true};
 ghost use Rattle.slab.specs.Slab.{Updates, get};
-ghost use Rattle.nm_transport.specs.Asked.{after_unwatch};
+ghost use Rattle.nm_transport.specs.Asked.{after_unwatch, after_watch};
 ghost use Rattle.nm_policy.specs.Contacts.{after, contact_at, is_free_at, is_slot};
-ghost use Rattle.nm_policy.specs.Decisions.{is_due_at};
+ghost use Rattle.nm_policy.specs.Decisions.{IsFirstStranger, IsToDrop, is_due_at};
 ghost use Rattle.nm_policy.specs.Laws.{at_first};
 ghost use Rattle.nm_policy.specs.declared.contact_event.ContactEvent.TheVariants as event;
-ghost use Rattle.nm_replica.specs.Breaks.{fault_in, is_peer};
+ghost use Rattle.nm_replica.specs.Breaks.{fault_in, is_peer, turn_served};
 ghost use Rattle.nm_replica.specs.Connections.{Admits, AsksFor, Awaits, CallsAll, Dials};
-ghost use Rattle.nm_replica.specs.Connections.{DropsStranger};
+ghost use Rattle.nm_replica.specs.Connections.{DropsStranger, TakesFirstOut, TakesStaleOut};
+ghost use Rattle.nm_replica.specs.Connections.{begun_after, broken_after, known_after};
 ghost use Rattle.nm_replica.specs.Connections.{Keeps, LetsGo};
 ghost use Rattle.nm_replica.specs.Connections.{AreAllReady, LetsStaleGo, MakesRoom, heard_at};
 ghost use Rattle.nm_replica.specs.Connections.{IsNoneReady, is_ready, reported_connection};
@@ -25,6 +26,7 @@ ghost use Rattle.nm_replica.specs.Turns.{SettlesKey};
 ghost use Rattle.nm_replica.specs.declared.limits.TheConstants.{MAX_ACCEPTED};
 
 use crate::connection::Connection;
+use crate::figuring::NotedTurn;
 use crate::limits::MAX_ACCEPTED;
 use crate::neighbours::Neighbours;
 use crate::served::{Served, break_served};
@@ -67,15 +69,42 @@ fn is_end(cause: Cause) -> bool
     matches!(cause, Cause::End)
 }
 
+/// A wire that the transport watches under this key: only `watch_at` makes it.
+#[derive(Drop)]
+struct Watched<W> {
+    wire: W,
+    key: usize,
+}
+
+/// Has the transport watch a wire under this key, if it can.
+fn watch_at<T: Transport>(
+    transport: &mut T,
+    wire: T::Connection,
+    key: usize,
+) -> Option<Watched<T::Connection>>
+    ensures same { IfSome result (λ w. (w.wire ≡ wire) × (w.key ≡ key)) }
+    ensures idle { T.elapsed_periods transport.new ≡ T.elapsed_periods transport.old }
+    ensures asked { T.asked transport.new ≡ after_watch (T.asked transport.old) }
+{
+    let wire = transport.watch(wire, key)?;
+    Some(Watched { wire, key })
+}
+
 /// A connection to this peer that the transport watches under this key, if it can.
-fn connect<T: Transport>(transport: &mut T, peer: usize, key: usize) -> Option<T::Connection>
-    ensures leads { IfSome result (λ w. T.leads_to w ≡ Some peer) }
+fn connect<T: Transport>(
+    transport: &mut T,
+    peer: usize,
+    key: usize,
+) -> Option<Watched<T::Connection>>
+    ensures leads { IfSome result (λ w. T.leads_to w.wire ≡ Some peer) }
+    ensures key { IfSome result (λ w. w.key ≡ key) }
     ensures idle { T.elapsed_periods transport.new ≡ T.elapsed_periods transport.old }
     ensures waits { (T.asked transport.new).waits ≡ (T.asked transport.old).waits }
+    ensures accepts { (T.asked transport.new).accepts ≡ (T.asked transport.old).accepts }
     ensures called { (T.asked transport.new).calls ≡ (T.asked transport.old).calls + 1 }
 {
     let wire = transport.connect(peer)?;
-    transport.watch(wire, key)
+    watch_at(transport, wire, key)
 }
 
 /// A link; `is_counted`: what it gives is counted.
@@ -97,6 +126,8 @@ impl<W> Connections<W> {
         ensures sessions { IfOk result (λ c. c.sessions
             ≡ first_sessions (arc_value neighbours.now.topology.now) neighbours.now.partition
             neighbours.now.replica neighbours.now.peers.now) }
+        ensures figures { IfOk result (λ c. (c.begun ≡ 0) × (c.broken ≡ 0)
+            × (c.is_counted ≡ neighbours.now.are_counted)) }
     {
         let contacts = Contacts::new(alloc, neighbours.peers.len(), neighbours.callers)?;
         let sessions = Sessions::new(alloc, neighbours)?;
@@ -120,7 +151,9 @@ impl<W> Connections<W> {
 
     /// Whether more may be read without a wait's report.
     pub(crate) fn have_more(&self) -> bool
-        ensures { result ≡ false → IsNoneReady self.now.open }
+        ensures none { result ≡ false → IsNoneReady self.now.open }
+        ensures some { result ≡ true
+            → (key : ℕ) × (is_ready (get self.now.open key) ≡ true) }
     {
         for key in 0..self.key_end() {
             if self.is_ready(key) {
@@ -179,6 +212,7 @@ impl<W> Connections<W> {
         ensures asked { OnOk result
             ((is_free_at self.old.contacts.connections self.old.open.vacant_key ≡ false)
             ⊎ ((T.asked transport.new).calls ≡ (T.asked transport.old).calls + 1)) }
+        ensures accepts { (T.asked transport.new).accepts ≡ (T.asked transport.old).accepts }
     {
         self.open.reserve(1)?;
         let key = self.open.vacant_key();
@@ -186,7 +220,7 @@ impl<W> Connections<W> {
             self.contacts.take(ContactEvent::NotCalled { peer });
             return Ok(());
         }
-        let Some(wire) = connect(transport, peer, key) else {
+        let Some(Watched { wire, key }) = connect(transport, peer, key) else {
             self.contacts.take(ContactEvent::NotCalled { peer });
             return Ok(());
         };
@@ -210,6 +244,7 @@ impl<W> Connections<W> {
         ensures idle { T.elapsed_periods transport.new ≡ T.elapsed_periods transport.old }
         ensures waits { (T.asked transport.new).waits ≡ (T.asked transport.old).waits }
         ensures all { OnOk result (CallsAll self.old.contacts self.new.contacts) }
+        ensures accepts { (T.asked transport.new).accepts ≡ (T.asked transport.old).accepts }
     {
         for peer in 0..self.contacts.peer_count() {
             if self.contacts.is_due(peer) {
@@ -224,6 +259,8 @@ impl<W> Connections<W> {
         ensures idle { T.elapsed_periods transport.new ≡ T.elapsed_periods transport.old }
         ensures waits { (T.asked transport.new).waits ≡ (T.asked transport.old).waits }
         ensures room { MakesRoom self.old.contacts self.new.contacts }
+        ensures gone { (first : Option ℕ) × IsToDrop self.old.contacts first
+            × TakesFirstOut first self.old.open self.new.open }
         ensures accepts { (T.asked transport.new).accepts ≡ (T.asked transport.old).accepts }
     {
         if let Some(key) = self.contacts.stranger_to_drop() {
@@ -260,7 +297,7 @@ impl<W> Connections<W> {
         if !self.contacts.is_free(key) {
             return Ok(());
         }
-        let Some(wire) = transport.watch(wire, key) else {
+        let Some(Watched { wire, key }) = watch_at(transport, wire, key) else {
             return Ok(());
         };
         let acceptor = Acceptor::new(topology, neighbours.partition, neighbours.replica);
@@ -304,6 +341,9 @@ impl<W> Connections<W> {
         ensures idle { T.elapsed_periods transport.new ≡ T.elapsed_periods transport.old }
         ensures waits { (T.asked transport.new).waits ≡ (T.asked transport.old).waits }
         ensures drops { DropsStranger self.old.contacts self.new.contacts }
+        ensures gone { (first : Option ℕ) × IsFirstStranger self.old.contacts.connections first
+            × TakesFirstOut first self.old.open self.new.open }
+        ensures accepts { (T.asked transport.new).accepts ≡ (T.asked transport.old).accepts }
     {
         if let Some(key) = self.contacts.first_stranger() {
             self.drop_at(transport, key);
@@ -315,6 +355,10 @@ impl<W> Connections<W> {
         ensures idle { T.elapsed_periods transport.new ≡ T.elapsed_periods transport.old }
         ensures waits { (T.asked transport.new).waits ≡ (T.asked transport.old).waits }
         ensures drops { LetsGo key self.old.contacts self.new.contacts }
+        ensures told { self.new.contacts ≡ after self.old.contacts (event.Broke key true) }
+        ensures sessions { self.new.sessions
+            ≡ with_session_back (contact_at self.old.contacts.connections key)
+            (get self.old.open key) self.old.sessions }
         ensures accepts { (T.asked transport.new).accepts ≡ (T.asked transport.old).accepts }
         ensures open { Updates self.old.open self.new.open key None }
     {
@@ -336,6 +380,9 @@ impl<W> Connections<W> {
         ensures waits { (T.asked transport.new).waits ≡ (T.asked transport.old).waits }
         ensures stale { LetsStaleGo (after self.old.contacts (event.Polled ran_out))
             self.new.contacts }
+        ensures gone { TakesStaleOut (after self.old.contacts (event.Polled ran_out))
+            self.old.open self.new.open }
+        ensures accepts { (T.asked transport.new).accepts ≡ (T.asked transport.old).accepts }
     {
         self.contacts.take(ContactEvent::Polled { ran_out });
         self.let_stale_go(transport);
@@ -347,6 +394,8 @@ impl<W> Connections<W> {
         ensures idle { T.elapsed_periods transport.new ≡ T.elapsed_periods transport.old }
         ensures waits { (T.asked transport.new).waits ≡ (T.asked transport.old).waits }
         ensures stale { LetsStaleGo self.old.contacts self.new.contacts }
+        ensures gone { TakesStaleOut self.old.contacts self.old.open self.new.open }
+        ensures accepts { (T.asked transport.new).accepts ≡ (T.asked transport.old).accepts }
     {
         for key in 0..self.contacts.key_count() {
             if self.contacts.is_stale(key) {
@@ -356,7 +405,8 @@ impl<W> Connections<W> {
     }
 
     /// Does what the last turn of the connection with this key requires; `has_heard`: octets were
-    /// received in it.
+    /// received in it. What is to be noted of its peer was noted before, since the connection may
+    /// go.
     ///
     /// # Errors
     ///
@@ -367,11 +417,16 @@ impl<W> Connections<W> {
         key: usize,
         turn: Turn,
         has_heard: bool,
+        noted: &NotedTurn,
     ) -> Result<(), Served>
+        requires { noted.now.key ≡ key }
         ensures idle { T.elapsed_periods transport.new ≡ T.elapsed_periods transport.old }
         ensures waits { (T.asked transport.new).waits ≡ (T.asked transport.old).waits }
         ensures early { IfErr result IsInterrupted }
         ensures settled { OnOk result (SettlesKey key self.old self.new turn has_heard) }
+        ensures served { fault_in result ≡ turn_served turn (is_peer (contact_at
+            (known_after key has_heard (get self.old.open key) self.old.contacts).connections key)
+            (get self.old.open key)) }
     {
         self.hear(key, has_heard);
         self.learn(key);
@@ -423,6 +478,7 @@ impl<W> Connections<W> {
     fn hear(&mut self, key: usize, has_heard: bool)
         ensures contacts { self.new.contacts ≡ heard_at key has_heard self.old.contacts }
         ensures open { self.new.open ≡ self.old.open }
+        ensures sessions { self.new.sessions ≡ self.old.sessions }
     {
         if has_heard {
             self.contacts.take(ContactEvent::Heard { key });
@@ -434,7 +490,10 @@ impl<W> Connections<W> {
     fn learn(&mut self, key: usize)
         ensures contacts { self.new.contacts
             ≡ learned key (get self.old.open key) self.old.contacts }
+        ensures begun { self.new.begun
+            ≡ begun_after key (get self.old.open key) self.old.contacts self.old.begun }
         ensures open { self.new.open ≡ self.old.open }
+        ensures sessions { self.new.sessions ≡ self.old.sessions }
     {
         let Some(connection) = self.open.get(key) else {
             return;
@@ -460,6 +519,7 @@ impl<W> Connections<W> {
         ensures written { result.has_written ≡ has_written (get self.old.open key) }
         ensures unwatched { T.asked transport.new ≡ (if is_some (get self.old.open key)
             then after_unwatch (T.asked transport.old) else T.asked transport.old) }
+        ensures accepts { (T.asked transport.new).accepts ≡ (T.asked transport.old).accepts }
         ensures sessions { self.new.sessions
             ≡ with_session_back (contact_at self.old.contacts.connections key)
             (get self.old.open key) self.old.sessions }
@@ -506,6 +566,9 @@ impl<W> Connections<W> {
         ensures told { OnOk result (self.new.contacts ≡ after self.old.contacts
             (event.Broke key (was_there cause (get self.old.open key)))) }
         ensures open { Updates self.old.open self.new.open key None }
+        ensures sessions { self.new.sessions
+            ≡ with_session_back (contact_at self.old.contacts.connections key)
+            (get self.old.open key) self.old.sessions }
     {
         let Left {
             is_peer,
@@ -528,6 +591,10 @@ impl<W> Connections<W> {
         ensures told { self.new.contacts ≡ after self.old.contacts
             (event.Broke key (has_written (get self.old.open key))) }
         ensures open { Updates self.old.open self.new.open key None }
+        ensures sessions { self.new.sessions
+            ≡ with_session_back (contact_at self.old.contacts.connections key)
+            (get self.old.open key) self.old.sessions }
+        ensures accepts { (T.asked transport.new).accepts ≡ (T.asked transport.old).accepts }
     {
         let Left { has_written, .. } = self.remove(transport, key);
         self.note_broken(key, has_written);
@@ -537,7 +604,9 @@ impl<W> Connections<W> {
     fn note_broken(&mut self, key: usize, was_there: bool)
         ensures contacts { self.new.contacts
             ≡ after self.old.contacts (event.Broke key was_there) }
+        ensures broken { self.new.broken ≡ broken_after key self.old.contacts self.old.broken }
         ensures open { self.new.open ≡ self.old.open }
+        ensures sessions { self.new.sessions ≡ self.old.sessions }
     {
         if self.contacts.has_greeted(key) {
             self.broken = self.broken.saturating_add(1);

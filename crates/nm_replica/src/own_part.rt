@@ -1,14 +1,16 @@
 //! What a replica does itself after a wait: it runs its book, and merges what its sister knows.
 
+ghost use Rattle.std.specs.Prelude.{◌&&◌};
 ghost use Rattle.std.specs.Prelude.{◌≡◌, ◌≤◌, IfOk, IfSome, Ok, if◌then◌else◌, is_some, length};
 ghost use Rattle.std.specs.Prelude.{not};
 ghost use Rattle.std.specs.Prelude.{position, true};
+ghost use Rattle.nm_replica.specs.Figured.{NotesProgress};
 ghost use Rattle.nm_replica.specs.Polls.{RunsOwn, is_merge_due, runs_on};
 ghost use Rattle.nm_replica.specs.Served.{WasSeen};
 ghost use Rattle.nm_replica.specs.Sisters.{MergesSister, is_sister_of, replica_name};
 
 use crate::acts::{Stand, Standing};
-use crate::figuring::{note_loan, note_progress};
+use crate::figuring::{NotedProgress, note_loan, note_progress};
 use crate::limits::MERGE_POLLS;
 use crate::replica::{Holdings, Service};
 use crate::sisters::{Merged, merge_sister};
@@ -74,6 +76,8 @@ pub(crate) struct Own {
     pub ran: Option<Ran>,
     /// It may run on at once; a replica with a pool never does.
     pub runs_on: bool,
+    /// What was noted of its progress, if that was.
+    noted: Option<NotedProgress>,
 }
 
 /// Runs the book, if the replica is to, and reads its state.
@@ -89,15 +93,19 @@ fn run_book<C: Counts, R: Wait>(
     ensures ran { IfOk result (λ o. RunsOwn service.now.lending.now service.now.run_limit o.ran) }
     ensures on { IfOk result
         (λ o. runs_on service.now.lending.now o.ran ≡ Ok o.runs_on) }
+    ensures noted { IfOk result
+        (λ o. NotesProgress (service.now.notes_progress && is_some service.now.progress)
+        o.standing o.noted) }
 {
     let ran = run_own(rt, alloc, service, pass);
     let runs_on = runs_on(service, ran)?;
     let standing = service.book.act(rt, pass, Stand);
-    note_progress(service, &standing);
+    let noted = note_progress(service, &standing);
     Ok(Own {
         standing,
         ran,
         runs_on,
+        noted,
     })
 }
 
@@ -142,6 +150,12 @@ pub(crate) fn act_alone<C: Counts, S, R: Wait>(
     ensures on { IfOk result
         (λ a. runs_on service.now.lending.now a.0.ran ≡ Ok a.0.runs_on) }
     ensures merged { IfOk result (λ a. is_some a.1 ≡ is_merge_due polls) }
+    ensures sister { IfOk result (λ a. IfSome a.1 (MergesSister
+        (replica_name service.now.book.now.partition service.now.book.now.replica)
+        (position (λ b. is_sister_of
+        (replica_name service.now.book.now.partition service.now.book.now.replica)
+        (replica_name b.partition b.replica)) service.now.books.now)
+        (length holdings.old.passes.items))) }
     ensures files { holdings.new.files ≡ holdings.old.files }
     ensures seats { holdings.new.seats ≡ holdings.old.seats }
     ensures passes { length holdings.new.passes.items ≡ length holdings.old.passes.items }

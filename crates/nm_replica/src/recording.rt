@@ -1,6 +1,6 @@
 //! The records of a replica, written to its trace files while it runs.
 
-ghost use Rattle.std.specs.Prelude.{◌≡◌, ◌⊎◌, IfErr, IfOk, OnOk, false, true};
+ghost use Rattle.std.specs.Prelude.{◌*◌, ◌≡◌, ◌≤◌, ◌⊎◌, IfErr, IfOk, OnOk, false, nat_le, true};
 ghost use Rattle.nm_replica.specs.Recording.{Streamed, Streams, WasEmptied, Wrote};
 ghost use Rattle.nm_replica.specs.Recording.{WroteAsCounted};
 ghost use Rattle.nm_replica.specs.Served.{WasFinished};
@@ -39,6 +39,7 @@ fn write_some<C: Counts, S: Sink, R: Wait>(
         files.old.files.items files.new.files.items) }
     ensures last { IfOk result (λ r. r.is_last ≡ true → WasFinished C.exact C.home false) }
     ensures all { IfOk result (λ r. r.has_more ≡ false → WasEmptied C.exact C.home) }
+    ensures more { IfOk result (λ r. r.has_more ≡ nat_le MAX_HANDED r.written) }
 {
     let room = Vec::with_capacity(alloc, MAX_HANDED)?;
     let HandedOut { records, is_last } = service.book.act(rt, pass, HandOutSome { room });
@@ -75,6 +76,8 @@ pub(crate) fn write_records<C: Counts, S: Sink, R: Wait>(
     ensures last { IfOk result (λ r. r.is_last ≡ true → WasFinished C.exact C.home false) }
     ensures all { IfOk result (λ r. r.has_more ≡ false
         → (service.now.keeps_records ≡ true) ⊎ (is_left ≡ false) ⊎ WasEmptied C.exact C.home) }
+    ensures more { IfOk result
+        (λ r. r.has_more ≡ true → MAX_HAND_OUTS * MAX_HANDED ≤ r.written) }
 {
     let mut all = Recorded {
         written: 0,

@@ -1,6 +1,6 @@
 //! A replica over a transport, until it ends.
 
-ghost use Rattle.std.specs.Prelude.{◌≡◌, ◌+◌, IfErr, IfOk, OnOk, length, true};
+ghost use Rattle.std.specs.Prelude.{◌≡◌, ◌+◌, IfErr, IfOk, OnOk, ℕ, false, length, true};
 ghost use Rattle.nm_base.specs.Count.{saturated};
 ghost use Rattle.nm_replica.specs.Happened.{Happens};
 ghost use Rattle.nm_replica.specs.Polls.{ending_of, idle_after, is_active};
@@ -8,7 +8,7 @@ ghost use Rattle.nm_replica.specs.Recording.{Streamed, Streams};
 ghost use Rattle.nm_replica.specs.Seats.{AreKept, StandOnBoard};
 ghost use Rattle.nm_replica.specs.Served.{EndsEarly, EndsWith, PolledOnce, took_all};
 ghost use Rattle.nm_replica.specs.Turns.{links};
-ghost use Rattle.nm_replica.specs.declared.served.Served.TheVariants.{Net};
+ghost use Rattle.nm_replica.specs.declared.served.Served.TheVariants.{Net, Stalled};
 
 use crate::limits::MAX_POLLS;
 use crate::neighbours::Neighbours;
@@ -212,15 +212,29 @@ struct Asked {
     goes_on: bool,
 }
 
-/// Asks the gate whether a replica goes on, and tells it how many octets have moved with peers.
-fn ask_gate<G: Gate, W>(gate: &G, serving: &Serving<W>) -> Asked
-    ensures { result.moved ≡ serving.now.moved }
+/// Asks the gate whether a replica goes on, and tells it that so many octets have moved with peers.
+fn ask<G: Gate>(gate: &G, moved: u64) -> Asked
+    ensures { result.moved ≡ moved }
 {
-    let moved = serving.moved;
     Asked {
         moved,
         goes_on: gate.poll(moved),
     }
+}
+
+/// Asks the gate whether a replica goes on, and tells it how many octets have moved with peers.
+fn ask_gate<G: Gate, W>(gate: &G, serving: &Serving<W>) -> Asked
+    ensures { result.moved ≡ serving.now.moved }
+{
+    ask(gate, serving.moved)
+}
+
+/// How serving ends if the gate has answered that the replica is not to go on.
+fn stopped(asked: &Asked) -> Served
+    requires { asked.now.goes_on ≡ false }
+    ensures { result ≡ Net }
+{
+    Served::Net
 }
 
 /// Serves the connections of a replica, and runs its book if it is to, until the replica is done
@@ -256,6 +270,8 @@ pub fn run_replica<C: Counts, S: Sink, T: Transport, G: Gate, R: Wait>(
     ensures ends { EndsWith C.exact C.home service.now.keeps_records service.now.idle_limit
         (T.elapsed_periods transport.old, T.elapsed_periods transport.new)
         ((T.asked transport.old).waits, (T.asked transport.new).waits) result }
+    ensures polls { (polls : ℕ) → result ≡ Stalled polls
+        → (T.asked transport.new).waits ≡ (T.asked transport.old).waits + polls }
 
     // The seats and the passes go back.
     ensures seats { AreKept holdings.old.seats holdings.new.seats }
@@ -265,8 +281,9 @@ pub fn run_replica<C: Counts, S: Sink, T: Transport, G: Gate, R: Wait>(
         return Served::Memory;
     };
     for _made in 0..MAX_POLLS {
-        if !ask_gate(gate, &running.serving).goes_on {
-            return Served::Net;
+        let asked = ask_gate(gate, &running.serving);
+        if !asked.goes_on {
+            return stopped(&asked);
         }
         match poll_replica(rt, alloc, service, holdings, transport, &mut running) {
             Ok(None) => {}

@@ -1,30 +1,41 @@
 //! One poll of a replica, and what follows it.
 
 ghost use Rattle.std.specs.Prelude.{◌&&◌, ◌+◌, ◌==◌, ◌||◌, ◌≡◌, ◌⊎◌, IfErr, IfOk, OnOk, false};
-ghost use Rattle.std.specs.Prelude.{is_some, length, nat_lt, not, true};
+ghost use Rattle.std.specs.Prelude.{◌*◌, ◌≤◌, Bool, IfSome, ℕ, is_err, is_some, length, nat_lt};
+ghost use Rattle.std.specs.Prelude.{not, position, true};
 ghost use Rattle.std.specs.Arc.{arc_value};
 ghost use Rattle.nm_base.specs.Count.{saturated};
 ghost use Rattle.nm_policy.specs.Decisions.{are_missing};
 ghost use Rattle.nm_policy.specs.Lasting.{has_lasted, lasted_after};
 ghost use Rattle.nm_policy.specs.Laws.{at_first};
 ghost use Rattle.nm_policy.specs.Stays.{leaves, stayed};
-ghost use Rattle.nm_replica.specs.Connections.{AreAllReady, AreReady, DropsSome, IsNoneReady};
+ghost use Rattle.nm_replica.specs.Connections.{AreAllReady, AreReady, AsksFor, DropsSome};
+ghost use Rattle.nm_replica.specs.Connections.{IsNoneReady, KeepsUnreported};
+ghost use Rattle.nm_replica.specs.Figured.{IsAwaitedName};
 ghost use Rattle.nm_replica.specs.Connections.{WaitsOnce};
 ghost use Rattle.nm_transport.specs.declared.limits.TheConstants.{MAX_REPORTS};
-ghost use Rattle.nm_replica.specs.Polls.{IsNews, KeepsCounts, RunsOwn, Waits, failed_waits};
+ghost use Rattle.nm_replica.specs.declared.limits.TheConstants.{MAX_ACCEPTED, MAX_HANDED};
+ghost use Rattle.nm_replica.specs.declared.limits.TheConstants.{MAX_HAND_OUTS};
+ghost use Rattle.nm_replica.specs.Polls.{HasBegun, IsNews, KeepsCounts, RunsOwn, Waits};
+ghost use Rattle.nm_replica.specs.Polls.{failed_waits};
 ghost use Rattle.nm_replica.specs.Polls.{is_active, is_merge_due};
 ghost use Rattle.nm_replica.specs.Recording.{Streamed, Streams, WasEmptied, WroteAsCounted};
 ghost use Rattle.nm_replica.specs.Seats.{AreKept, StandOnBoard};
 ghost use Rattle.nm_replica.specs.Served.{AllWereFinished, EndsEarly, HasStayed, IsInterrupted};
 ghost use Rattle.nm_replica.specs.Served.{WasFinished, WasSeen};
 ghost use Rattle.nm_replica.specs.Sessions.{first_sessions};
+ghost use Rattle.nm_replica.specs.Shortage.{DropsIf, short_after};
+ghost use Rattle.nm_replica.specs.Sisters.{MergesSister, is_sister_of, replica_name};
+ghost use Rattle.nm_replica.specs.Staying.{HasOneLeft, MayEnd, StaysOn, WasFound, stay_after};
 ghost use Rattle.nm_replica.specs.Turns.{ServesAll, ServesTwice, WaitsAndServes, links};
 ghost use Rattle.nm_replica.specs.declared.served.Served.TheVariants.{Net};
 ghost use Rattle.nm_transport.specs.Transport.{elapsed_after, has_run_out};
 
 use crate::acts::Standing;
 use crate::connections::Connections;
-use crate::figuring::{note_awaited, note_differing, note_figures, note_hold, note_wait};
+use crate::figuring::{
+    NotedAwaited, is_held, note_awaited, note_differing, note_figures, note_hold, note_wait,
+};
 use crate::limits::{MAX_FAILED_WAITS, SCARCE_PERIODS, SHORT_PERIODS};
 use crate::own_part::act_alone;
 use crate::recording::write_records;
@@ -87,6 +98,11 @@ pub(crate) struct Polled {
     pub merged: Option<Option<Merged>>,
     /// How the pool was notified, if it was.
     pub news: Option<News>,
+    /// For which peer the replica waits, if that was noted.
+    pub awaited: Option<NotedAwaited>,
+    /// Records may be left to hand out, and more may be done on connections or with the book.
+    pub has_records: bool,
+    pub has_more: bool,
     /// The replica is done, its links have ended or all replicas are done, and its trace files are
     /// written.
     pub is_done: bool,
@@ -112,6 +128,7 @@ impl<W> Serving<W> {
         ensures sessions { IfOk result (λ s. s.connections.sessions
             ≡ first_sessions (arc_value service.now.topology.now) service.now.book.now.partition
             service.now.book.now.replica service.now.peers.now) }
+        ensures begun { IfOk result HasBegun }
     {
         let buffer = ReadBuffer::new(alloc)?;
         Ok(Serving {
@@ -141,6 +158,34 @@ fn may_leave(stay: &mut Stay, contacts: &Contacts, ran_out: bool) -> bool
     stay.leaves(contacts)
 }
 
+/// Whether a replica may end once its records are handed out: its book is done, and it leaves or
+/// all replicas are done. A poll was made; `ran_out`: a period was over. How long it stays is
+/// counted only once its book is done.
+fn may_end<C: Counts, R: Wait>(
+    rt: &R,
+    service: &Service<'_, C>,
+    passes: &mut Vec<Pass<C>>,
+    stay: &mut Stay,
+    contacts: &Contacts,
+    is_done: bool,
+    ran_out: bool,
+) -> bool
+    ensures passes { length passes.new.items ≡ length passes.old.items }
+    ensures stay { stay.new ≡ stay_after is_done ran_out contacts.now stay.old }
+    ensures ends { result ≡ true
+        → MayEnd is_done contacts.now stay.new (length service.now.books.now) }
+    ensures goes_on { result ≡ false → StaysOn is_done contacts.now stay.new
+        (length service.now.books.now) (length passes.old.items) }
+{
+    if !is_done {
+        return false;
+    }
+    if may_leave(stay, contacts, ran_out) {
+        return true;
+    }
+    all_are_done(rt, service, passes)
+}
+
 /// Gives each connection its turns, and closes those that ended or broke. Answers what moved, or
 /// how serving ends.
 #[tactic(auto, using(crate::proofs::Turns::serves_one_more, crate::proofs::Turns::serves_all))]
@@ -163,6 +208,8 @@ fn serve_all<T: Transport, C: Counts, R: Wait>(
     ensures stay { serving.new.stay ≡ serving.old.stay }
     ensures done { serving.new.was_done ≡ serving.old.was_done }
     ensures polls { serving.new.polls ≡ serving.old.polls }
+    ensures short { serving.new.short ≡ serving.old.short }
+    ensures failed { serving.new.failed_waits ≡ serving.old.failed_waits }
     ensures served { IfOk result (λ m. ServesAll (links T.Connection.seen C.exact C.home) does
         serving.old.connections serving.new.connections m.moved m.octets) }
 {
@@ -181,10 +228,10 @@ fn serve_all<T: Transport, C: Counts, R: Wait>(
             &mut serving.buffer,
             key,
         );
-        note_differing(service, &serving.connections, key, turn);
+        let noted = note_differing(service, &serving.connections, key, turn);
         serving
             .connections
-            .settle(transport, key, turn, moves.has_heard)?;
+            .settle(transport, key, turn, moves.has_heard, &noted)?;
         all = all.with(moves);
     }
     serving.moved = serving.moved.saturating_add(all.moved);
@@ -203,6 +250,8 @@ fn note_reports<T: Transport>(
     ensures ready { ran_out ≡ true → AreAllReady connections.new.open }
     ensures reported { ran_out ≡ false
         → AreReady (T.reported transport.now) MAX_REPORTS connections.new.open }
+    ensures others { ran_out ≡ false → KeepsUnreported (T.reported transport.now) MAX_REPORTS
+        connections.old.open connections.new.open }
 {
     if ran_out {
         return connections.note_all();
@@ -213,6 +262,14 @@ fn note_reports<T: Transport>(
         };
         connections.note(report);
     }
+}
+
+/// Whether the system lacks resources for one more connection while a peer with an open link is not
+/// connected.
+fn is_lacking<T: Transport>(transport: &T, contacts: &Contacts) -> bool
+    ensures { result ≡ (T.has_too_little transport.now && are_missing contacts.now) }
+{
+    transport.is_short() && contacts.are_missing()
 }
 
 /// If the system lacks resources for one more connection while a peer with an open link is not
@@ -240,8 +297,17 @@ fn bear_shortage<T: Transport>(
         serving.new.connections.contacts }
     ensures kept { KeepsCounts serving.old serving.new }
     ensures failed { serving.new.failed_waits ≡ serving.old.failed_waits }
+
+    // How long that has lasted decides what is done, and nothing else does.
+    ensures lasted { serving.new.short.periods
+        ≡ short_after (T.has_too_little transport.old
+        && are_missing serving.old.connections.contacts) ran_out serving.old.short.periods }
+    ensures ends { is_err result ≡ has_lasted SHORT_PERIODS serving.new.short.periods }
+    ensures drops { OnOk result (DropsIf (has_lasted SCARCE_PERIODS serving.new.short.periods)
+        serving.old.connections.contacts serving.new.connections.contacts) }
+    ensures accepts { (T.asked transport.new).accepts ≡ (T.asked transport.old).accepts }
 {
-    if !transport.is_short() || !serving.connections.contacts.are_missing() {
+    if !is_lacking(transport, &serving.connections.contacts) {
         serving.short = Lasted::new();
         return Ok(());
     }
@@ -281,6 +347,7 @@ fn wait_once<T: Transport, C: Counts>(
         ≡ elapsed_after (T.elapsed_periods transport.old) (has_run_out result) }
     ensures to_wait { T.was_to_wait transport.new ≡ not serving.now.is_busy }
     ensures waits { (T.asked transport.new).waits ≡ (T.asked transport.old).waits + 1 }
+    ensures accepts { (T.asked transport.new).accepts ≡ (T.asked transport.old).accepts }
 {
     let may_wait = !serving.is_busy;
     note_wait(service, may_wait);
@@ -316,6 +383,12 @@ fn await_transport<T: Transport, C: Counts>(
     ensures failed { IfOk result (λ ran_out. Waits ran_out
         serving.old.failed_waits serving.new.failed_waits) }
     ensures kept { KeepsCounts serving.old serving.new }
+    ensures short { IfOk result (λ ran_out. (is_lacking : Bool) × (serving.new.short.periods
+        ≡ short_after is_lacking ran_out serving.old.short.periods)) }
+
+    // The transport is asked for connections until it has none, or as many as may be came.
+    ensures asked { OnOk result ((n : ℕ) × AsksFor n MAX_ACCEPTED
+        (T.asked transport.old).accepts (T.asked transport.new).accepts) }
 {
     serving.connections.dial_all(alloc, transport)?;
     let waited = wait_once(service, transport, serving);
@@ -348,6 +421,15 @@ struct Acted {
     merged: Option<Option<Merged>>,
 }
 
+/// Whether more may be done without a report of a connection: what a connection sent while others
+/// wrote is not answered yet, one had all its turns, the book goes on, or there is more to read.
+fn may_do_more(said: &Moves, runs_on: bool, have_more: bool) -> bool
+    ensures { result
+        ≡ (said.now.has_heard || said.now.has_more || runs_on || have_more) }
+{
+    said.has_heard || said.has_more || runs_on || have_more
+}
+
 /// The connections first only read, and the replica does its own part. Then they also write, so
 /// that each peer is sent at once all that is new, and no promise that is outdated.
 ///
@@ -371,6 +453,8 @@ fn serve_and_act<C: Counts, S, T: Transport, R: Wait>(
     ensures passes { length holdings.new.passes.items ≡ length holdings.old.passes.items }
     ensures stay { serving.new.stay ≡ serving.old.stay }
     ensures done { serving.new.was_done ≡ serving.old.was_done }
+    ensures short { serving.new.short ≡ serving.old.short }
+    ensures failed { serving.new.failed_waits ≡ serving.old.failed_waits }
 
     // Its answer was seen of the book, and an early ending is no success.
     ensures seen { IfOk result (λ a. WasSeen C.exact C.home a.standing) }
@@ -392,6 +476,12 @@ fn serve_and_act<C: Counts, S, T: Transport, R: Wait>(
     ensures ran { IfOk result
         (λ a. RunsOwn service.now.lending.now service.now.run_limit a.ran) }
     ensures merged { IfOk result (λ a. is_some a.merged ≡ is_merge_due serving.old.polls) }
+    ensures sister { IfOk result (λ a. IfSome a.merged (MergesSister
+        (replica_name service.now.book.now.partition service.now.book.now.replica)
+        (position (λ b. is_sister_of
+        (replica_name service.now.book.now.partition service.now.book.now.replica)
+        (replica_name b.partition b.replica)) service.now.books.now)
+        (length holdings.old.passes.items))) }
     ensures polls { OnOk result (serving.new.polls ≡ saturated (serving.old.polls + 1)) }
 
     // If no more is to be done at once, there is nothing to read on any connection.
@@ -420,10 +510,7 @@ fn serve_and_act<C: Counts, S, T: Transport, R: Wait>(
         Does::Speak,
     )?;
     let mut moves = heard.with(said);
-    moves.has_more = said.has_heard
-        || said.has_more
-        || own.runs_on
-        || serving.connections.have_more();
+    moves.has_more = may_do_more(&said, own.runs_on, serving.connections.have_more());
     Ok(Acted {
         standing,
         was_run,
@@ -521,6 +608,12 @@ pub(crate) fn poll<C: Counts, S: Sink, T: Transport, R: Wait>(
     ensures ran { IfOk result
         (λ p. RunsOwn service.now.lending.now service.now.run_limit p.ran) }
     ensures merged { IfOk result (λ p. is_some p.merged ≡ is_merge_due serving.old.polls) }
+    ensures sister { IfOk result (λ p. IfSome p.merged (MergesSister
+        (replica_name service.now.book.now.partition service.now.book.now.replica)
+        (position (λ b. is_sister_of
+        (replica_name service.now.book.now.partition service.now.book.now.replica)
+        (replica_name b.partition b.replica)) service.now.books.now)
+        (length holdings.old.passes.items))) }
     ensures polls { OnOk result (serving.new.polls ≡ saturated (serving.old.polls + 1)) }
 
     // A pool is notified if records were written, and if the book is done since this poll.
@@ -533,6 +626,16 @@ pub(crate) fn poll<C: Counts, S: Sink, T: Transport, R: Wait>(
         → IsNoneReady serving.new.connections.open) }
     ensures records { OnOk result (serving.new.is_busy ≡ false
         → (service.now.keeps_records ≡ true) ⊎ WasEmptied C.exact C.home) }
+    ensures busy_if { IfOk result
+        (λ p. serving.new.is_busy ≡ (p.has_records || p.has_more)) }
+    ensures all_written { IfOk result (λ p. p.has_records ≡ true
+        → MAX_HAND_OUTS * MAX_HANDED ≤ p.written) }
+
+    // A node notes for whom it waits, once a period.
+    ensures noted { IfOk result (λ p. is_some p.awaited ≡ (p.ran_out
+        && (service.now.notes_progress && is_some service.now.progress))) }
+    ensures awaited { IfOk result (λ p. IfSome p.awaited
+        (λ n. IsAwaitedName serving.new.connections.contacts n.peer)) }
 
     // It answers whether the wait ran out, and whether all is done. An early ending is no success.
     ensures idle { IfOk result (λ p. T.elapsed_periods transport.new
@@ -541,6 +644,13 @@ pub(crate) fn poll<C: Counts, S: Sink, T: Transport, R: Wait>(
         ((T.asked transport.new).waits ≡ (T.asked transport.old).waits + 1) }
     ensures done { IfOk result (λ p. p.is_done ≡ true
         → WasFinished C.exact C.home service.now.keeps_records) }
+    ensures goes_on { IfOk result (λ p. p.is_done ≡ false → StaysOn serving.new.was_done
+        serving.new.connections.contacts serving.new.stay (length service.now.books.now)
+        (length holdings.old.passes.items)
+        ⊎ HasOneLeft C.exact C.home service.now.keeps_records) }
+    ensures found { OnOk result (WasFound C.exact C.home serving.new.was_done) }
+    ensures stays { IfOk result (λ p. serving.new.stay ≡ stay_after serving.new.was_done
+        p.ran_out serving.new.connections.contacts serving.old.stay) }
     ensures leaves { IfOk result (λ p. p.is_done ≡ true
         → HasStayed p.ran_out serving.new.connections.contacts serving.old.stay serving.new.stay
         ⊎ AllWereFinished (length service.now.books.now)) }
@@ -554,9 +664,15 @@ pub(crate) fn poll<C: Counts, S: Sink, T: Transport, R: Wait>(
         ran,
         merged,
     } = serve_and_act(rt, alloc, service, holdings, transport, serving)?;
-    let may_end = standing.is_done
-        && (may_leave(&mut serving.stay, &serving.connections.contacts, ran_out)
-            || all_are_done(rt, service, &mut holdings.passes));
+    let ends = may_end(
+        rt,
+        service,
+        &mut holdings.passes,
+        &mut serving.stay,
+        &serving.connections.contacts,
+        standing.is_done,
+        ran_out,
+    );
     tell_all(rt, service.book, &mut holdings.pass, &mut holdings.seats);
     // A replica that is done makes no more records: those that it has are written now.
     let is_left = standing.records > standing.handed;
@@ -576,8 +692,8 @@ pub(crate) fn poll<C: Counts, S: Sink, T: Transport, R: Wait>(
     serving.was_done = standing.is_done;
     serving.is_busy = recorded.has_more || moves.has_more;
     note_figures(service, serving, &standing, was_run, moves.given);
-    note_awaited(service, &serving.connections.contacts, ran_out);
-    let is_held = !serving.is_busy && !standing.is_done;
+    let awaited = note_awaited(service, &serving.connections.contacts, ran_out);
+    let is_held = is_held(serving.is_busy, standing.is_done);
     note_hold(rt, service, &mut holdings.pass, is_held);
     Ok(Polled {
         ran_out,
@@ -588,6 +704,9 @@ pub(crate) fn poll<C: Counts, S: Sink, T: Transport, R: Wait>(
         ran,
         merged,
         news,
-        is_done: may_end && is_served(&standing, service.keeps_records, recorded.is_last),
+        awaited,
+        has_records: recorded.has_more,
+        has_more: moves.has_more,
+        is_done: ends && is_served(&standing, service.keeps_records, recorded.is_last),
     })
 }

@@ -1,7 +1,8 @@
 //! The other replicas of a run of one process.
 
-ghost use Rattle.std.specs.Prelude.{◌<◌, ◌≡◌, IfOk, false, length, map, position, true};
-ghost use Rattle.nm_replica.specs.Served.{IsSomeLeft, WereFinished};
+ghost use Rattle.std.specs.Prelude.{◌+◌, ◌<◌, ◌≡◌, IfOk, IfSome, IsSomeAnd, None, false, length};
+ghost use Rattle.std.specs.Prelude.{map, position, slice_get, true};
+ghost use Rattle.nm_replica.specs.Served.{IsOneLeft, IsSomeLeft, WasDone, WereFinished};
 ghost use Rattle.nm_replica.specs.Sisters.{MergesSister, is_sister_of, replica_name};
 
 use crate::acts::Stand;
@@ -135,7 +136,55 @@ pub(crate) fn merge_sister<C: Counts, S, R: Wait>(
     Ok(Some(merge_into(rt, alloc, own, &mut holdings.pass, &copied)))
 }
 
-/// Whether there are other replicas in the run, and all are done.
+/// A replica whose book was seen to be done: only `see_done` makes it.
+#[derive(Clone, Copy)]
+struct Done {
+    of: ReplicaName,
+}
+
+/// The first `count` of some replicas were seen to be done: only `and` counts one more.
+#[derive(Clone, Copy)]
+struct FirstDone {
+    count: usize,
+}
+
+impl FirstDone {
+    /// None so far.
+    fn none() -> Self
+        ensures { result.count ≡ 0 }
+    {
+        FirstDone { count: 0 }
+    }
+
+    /// One more: the replica of the next of these books.
+    fn and<C: Counts>(self, books: &[SharedBook<C>], done: &Done) -> Self
+        requires below { self.count < length books.now }
+        requires next { IsSomeAnd (slice_get books.now self.count)
+            (λ b. done.now.of ≡ replica_name b.partition b.replica) }
+        ensures { result.count ≡ self.count + 1 }
+    {
+        FirstDone {
+            count: self.count + 1,
+        }
+    }
+}
+
+/// Looks whether the book of a replica is done.
+fn see_done<C: Counts, R: Wait>(rt: &R, book: &SharedBook<C>, pass: &mut Pass<C>) -> Option<Done>
+    ensures of { IfSome result
+        (λ d. d.of ≡ replica_name book.now.partition book.now.replica) }
+    ensures done { IfSome result (λ _. WasDone C.exact (C.events_of pass.new.share)) }
+    ensures left { result ≡ None → IsOneLeft }
+{
+    let standing = book.act(rt, pass, Stand);
+    if !standing.is_done {
+        return None;
+    }
+    Some(Done { of: name_of(book) })
+}
+
+/// Whether there are other replicas in the run, and all are done: each book was asked, with its own
+/// pass.
 pub(crate) fn all_are_done<C: Counts, R: Wait>(
     rt: &R,
     service: &Service<'_, C>,
@@ -151,13 +200,12 @@ pub(crate) fn all_are_done<C: Counts, R: Wait>(
     if service.books.is_empty() || service.books.len() > passes.len() {
         return false;
     }
+    let mut first = FirstDone::none();
     for number in 0..service.books.len() {
-        if !service.books[number]
-            .act(rt, &mut passes[number], Stand)
-            .is_done
-        {
+        let Some(done) = see_done(rt, &service.books[number], &mut passes[number]) else {
             return false;
-        }
+        };
+        first = first.and(service.books, &done);
     }
-    true
+    first.count == service.books.len()
 }

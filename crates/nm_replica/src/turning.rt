@@ -1,6 +1,6 @@
 //! The turns of one connection, and their counts.
 
-ghost use Rattle.std.specs.Prelude.{◌+◌, ◌≡◌, None};
+ghost use Rattle.std.specs.Prelude.{◌+◌, ◌≡◌, ◌||◌, None};
 ghost use Rattle.slab.specs.Slab.{get};
 ghost use Rattle.nm_base.specs.Count.{saturated};
 ghost use Rattle.nm_engine.specs.Passes.{by_pass, owner_if};
@@ -44,6 +44,11 @@ impl Moves {
     pub(crate) fn with(self, other: Moves) -> Moves
         ensures moved { result.moved ≡ saturated (self.moved + other.moved) }
         ensures octets { result.octets ≡ saturated (self.octets + other.octets) }
+        ensures heard { result.has_heard ≡ (self.has_heard || other.has_heard) }
+        ensures more { result.has_more ≡ (self.has_more || other.has_more) }
+        ensures given { (result.given.messages
+            ≡ saturated (self.given.messages + other.given.messages))
+            × (result.given.nulls ≡ saturated (self.given.nulls + other.given.nulls)) }
     {
         Moves {
             moved: self.moved.saturating_add(other.moved),
@@ -122,6 +127,7 @@ fn turns_of<W: Wire, C: Counts, R: Wait>(
 fn count_turns<W>(connection: &mut Connection<W>, counts: bool, has_more: bool) -> Moves
     ensures counted { CountsMoves counts connection.old connection.new result }
     ensures link { connection.new.link ≡ connection.old.link }
+    ensures more { result.has_more ≡ has_more }
 {
     let counted = connection.count_moved(counts);
     Moves {
@@ -146,6 +152,7 @@ pub(crate) fn turns<W: Wire, C: Counts, R: Wait>(
     ensures turned { GivesTurns key connections.old connections.new
         (links W.seen C.exact C.home) talk.now.does result }
     ensures absent { get connections.old.open key ≡ None → connections.new ≡ connections.old }
+    ensures more { result.0.has_more ≡ has_moved result.1 }
 {
     let counts = connections.contacts.does_count(key);
     let Some(connection) = connections.open.get_mut(key) else {

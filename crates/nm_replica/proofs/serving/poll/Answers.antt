@@ -1,24 +1,22 @@
-use Rattle.std.proofs.Common.{◌≡◌, ◌⊎◌, ◌&&◌, inl, inr, Bool, true, false, not, length, ap, refl, subst, sym, ◌∙◌, true≢false}
+use Rattle.std.proofs.Common.{◌≡◌, ◌&&◌, inl, inr, Bool, false, not, length, ap, refl, subst, sym, ◌∙◌}
 use Rattle.std.specs.Prelude.{nat_lt}
 use Rattle.nm_replica.specs.Polls.{IsNews}
 use Rattle.nm_replica.specs.Recording.{Streamed, Streams, WroteAsCounted}
-use Rattle.nm_replica.specs.Served.{AllWereFinished, HasStayed}
+use Rattle.nm_replica.specs.Staying.{StaysOn, stay_after}
 use Rattle.nm_replica.proofs.Endings.{is_no_net}
-use Rattle.nm_replica.proofs.Finishing.{all_finished, emptied_if, has_stayed, is_finished}
+use Rattle.nm_replica.proofs.Finishing.{emptied_if, has_left, is_finished, one_left}
 use Rattle.nm_replica.proofs.Recordings.{on_error, on_such_error, streamed_none, streams_none}
 use Rattle.nm_replica.proofs.Turns.{waits_and_serves}
-use Rattle.nm_replica.specs.declared.connections.Connections.{Connections}
-use Rattle.nm_replica.specs.declared.serving.Serving.{Serving}
 use Rattle.nm_replica.specs.declared.served.Served.TheVariants.{Net}
 use Rattle.nm_replica.proofs.serving.poll.Goals as goal
-use Rattle.nm_replica.proofs.serving.poll.Goals.{then-may_end, else-may_end, then-recorded, else-recorded, then-standing+then-may_leave, then-standing+else-may_leave, else-standing}
+use Rattle.nm_replica.proofs.serving.poll.Goals.{then-ends, else-ends, then-recorded, else-recorded}
 
 pub returns-clause-done : goal.returns-clause-done
-returns-clause-done g c = λ done. elim c.if-may_end.branch [
-  | then-may_end w ↦
+returns-clause-done g c = λ done. elim c.if-ends.branch [
+  | then-ends w ↦
       is_finished g.C.Counts.exact g.C.Counts.home c.args.service.now.keeps_records c.in-Ok.recorded.is_last c.in_ok-standing.field-0.standing
       c.in_ok-standing.ensures.seen c.in-Ok.ensures.last (sym w.is_served.ensures ∙ sym w.result-is ∙ done)
-  | else-may_end w ↦ absurd cc
+  | else-ends w ↦ absurd cc
 ]
 
 pub returns-in_err-ran_out-clause-so_far : goal.returns-in_err-ran_out-clause-so_far
@@ -34,24 +32,11 @@ returns-in_err-standing-clause-so_far g c =
 
 pub returns-in-Err-clause-so_far : goal.returns-in-Err-clause-so_far
 returns-in-Err-clause-so_far g c =
-    let kept : c.if-standing.holdings.files ≡ c.args.holdings.now.files =
-    elim c.if-standing.branch [
-      | then-standing+then-may_leave w ↦ ap (λ h. h.files) w.holdings-is ∙ c.in_ok-standing.ensures.files
-      | then-standing+else-may_leave w ↦ ap (λ h. h.files) w.holdings-is ∙ c.in_ok-standing.ensures.files
-      | else-standing w ↦ ap (λ h. h.files) w.holdings-is ∙ c.in_ok-standing.ensures.files
-    ] in
-    subst (λ f. Streamed g.S.Sink.seen g.C.Counts.exact g.C.Counts.home f.files.items c.write_records.new.files.files.items) kept c.in-Err.ensures.so_far
+    subst (λ f. Streamed g.S.Sink.seen g.C.Counts.exact g.C.Counts.home f.files.items c.write_records.new.files.files.items) c.in_ok-standing.ensures.files c.in-Err.ensures.so_far
 
 pub returns-clause-served : goal.returns-clause-served
 returns-clause-served g c =
-    let connections : Serving _ → Connections _ = λ s. s.connections in
-    let kept : c.if-standing.serving.connections ≡ c.serve_and_act.new.serving.connections =
-    elim c.if-standing.branch [
-      | then-standing+then-may_leave w ↦ ap connections w.serving-is
-      | then-standing+else-may_leave w ↦ ap connections w.serving-is
-      | else-standing w ↦ ap connections w.serving-is
-    ] in
-    waits_and_serves _ _ c.args.serving.now.connections _ _ _ _ _ c.in_ok-ran_out.ensures.waits c.in_ok-ran_out.ensures.ready c.in_ok-standing.ensures.served kept
+    waits_and_serves _ _ c.args.serving.now.connections _ _ _ _ _ c.in_ok-ran_out.ensures.waits c.in_ok-ran_out.ensures.ready c.in_ok-standing.ensures.served refl
 
 pub returns-in_err-ran_out-clause-net : goal.returns-in_err-ran_out-clause-net
 returns-in_err-ran_out-clause-net g c =
@@ -68,53 +53,27 @@ pub returns-in-Err-clause-net : goal.returns-in-Err-clause-net
 returns-in-Err-clause-net g c = λ net. is_no_net c.in-Err.fault (sym c.file_served.ensures.value ∙ net)
 
 pub returns-clause-leaves : goal.returns-clause-leaves
-returns-clause-leaves g c = λ done. elim c.if-may_end.branch [
-  | then-may_end w ↦
-      let may : c.if-standing.may_end ≡ true = w.if-may_end.true in
-      elim c.if-standing.branch [
-        | then-standing+then-may_leave v ↦
-            subst (λ (s : Serving _). HasStayed c.in_ok-ran_out.ran_out s.connections.contacts c.args.serving.now.stay s.stay ⊎ AllWereFinished (length c.args.service.now.books.now)) (sym v.serving-is)
-            (inl (has_stayed c.in_ok-ran_out.ran_out c.serve_and_act.new.serving.connections.contacts c.args.serving.now.stay c.serve_and_act.new.serving.stay v.may_leave.new.stay v.may_leave.result
-            (c.in_ok-standing.ensures.stay ∙ c.in_ok-ran_out.ensures.kept.3) v.may_leave.ensures.stays v.may_leave.ensures.leaves v.if-may_leave.true))
-        | then-standing+else-may_leave v ↦
-            let all : v.all_are_done.result ≡ true = sym v.may_end-is ∙ may in
-            inr (all_finished _ _ _ (v.all_are_done.ensures.some all) (v.all_are_done.ensures.all all))
-        | else-standing v ↦ absurd (true≢false (sym may ∙ v.may_end-is ∙ v.if-standing.false))
-      ]
-  | else-may_end w ↦ absurd cc
+returns-clause-leaves g c = λ done. elim c.if-ends.branch [
+  | then-ends w ↦
+      has_left c.in_ok-standing.field-0.standing.is_done c.in_ok-ran_out.ran_out c.serve_and_act.new.serving.connections.contacts c.args.serving.now.stay c.serve_and_act.new.serving.stay
+      c.may_end-ends.new.stay _ (c.in_ok-standing.ensures.stay ∙ c.in_ok-ran_out.ensures.kept.3) c.may_end-ends.ensures.stay (c.may_end-ends.ensures.ends w.if-ends.true)
+  | else-ends w ↦ absurd cc
 ]
 
 pub returns-clause-news : goal.returns-clause-news
 returns-clause-news g c =
-    let was_done : Serving _ → Bool = λ s. s.was_done in
-    let kept : c.if-standing.serving.was_done ≡ c.args.serving.now.was_done =
-    elim c.if-standing.branch [
-      | then-standing+then-may_leave w ↦ ap was_done w.serving-is ∙ c.in_ok-standing.ensures.done ∙ c.in_ok-ran_out.ensures.kept.4
-      | then-standing+else-may_leave w ↦ ap was_done w.serving-is ∙ c.in_ok-standing.ensures.done ∙ c.in_ok-ran_out.ensures.kept.4
-      | else-standing w ↦ ap was_done w.serving-is ∙ c.in_ok-standing.ensures.done ∙ c.in_ok-ran_out.ensures.kept.4
-    ] in
+    let kept : c.serve_and_act.new.serving.was_done ≡ c.args.serving.now.was_done = c.in_ok-standing.ensures.done ∙ c.in_ok-ran_out.ensures.kept.4 in
     subst (λ b. IsNews b (nat_lt 0 c.in-Ok.recorded.written) c.note_news-news.result)
     (c.is_newly_done-is_new.ensures ∙ ap (λ (d : Bool). c.in_ok-standing.field-0.standing.is_done && not d) kept) c.note_news-news.ensures
 
 pub returns-clause-streams : goal.returns-clause-streams
 returns-clause-streams g c =
-    let kept : c.if-standing.holdings.files ≡ c.args.holdings.now.files =
-    elim c.if-standing.branch [
-      | then-standing+then-may_leave w ↦ ap (λ h. h.files) w.holdings-is ∙ c.in_ok-standing.ensures.files
-      | then-standing+else-may_leave w ↦ ap (λ h. h.files) w.holdings-is ∙ c.in_ok-standing.ensures.files
-      | else-standing w ↦ ap (λ h. h.files) w.holdings-is ∙ c.in_ok-standing.ensures.files
-    ] in
-    subst (λ f. Streams g.S.Sink.seen g.C.Counts.exact g.C.Counts.home f.files.items c.write_records.new.files.files.items) kept c.in-Ok.ensures.streams
+    subst (λ f. Streams g.S.Sink.seen g.C.Counts.exact g.C.Counts.home f.files.items c.write_records.new.files.files.items) c.in_ok-standing.ensures.files c.in-Ok.ensures.streams
 
 pub returns-clause-written : goal.returns-clause-written
 returns-clause-written g c =
-    let kept : c.if-standing.holdings.files ≡ c.args.holdings.now.files =
-    elim c.if-standing.branch [
-      | then-standing+then-may_leave w ↦ ap (λ h. h.files) w.holdings-is ∙ c.in_ok-standing.ensures.files
-      | then-standing+else-may_leave w ↦ ap (λ h. h.files) w.holdings-is ∙ c.in_ok-standing.ensures.files
-      | else-standing w ↦ ap (λ h. h.files) w.holdings-is ∙ c.in_ok-standing.ensures.files
-    ] in
-    subst (λ f. WroteAsCounted g.S.Sink.seen g.C.Counts.exact g.C.Counts.home c.in-Ok.recorded.written f.files.items c.write_records.new.files.files.items) kept c.in-Ok.ensures.wrote
+    subst (λ f. WroteAsCounted g.S.Sink.seen g.C.Counts.exact g.C.Counts.home c.in-Ok.recorded.written f.files.items c.write_records.new.files.files.items)
+    c.in_ok-standing.ensures.files c.in-Ok.ensures.wrote
 
 pub returns-clause-records : goal.returns-clause-records
 returns-clause-records g c = λ quiet.
@@ -124,3 +83,19 @@ returns-clause-records g c = λ quiet.
     ] in
     emptied_if g.C.Counts.exact g.C.Counts.home c.args.service.now.keeps_records c.in_ok-standing.field-0.standing c.in_ok-standing.ensures.seen _ refl
     (c.in-Ok.ensures.all no_more)
+
+pub returns-clause-goes_on : goal.returns-clause-goes_on
+returns-clause-goes_on g c = λ no. elim c.if-ends.branch [
+  | then-ends w ↦
+      inr (one_left g.C.Counts.exact g.C.Counts.home c.args.service.now.keeps_records c.in-Ok.recorded.is_last c.in_ok-standing.field-0.standing
+      c.in_ok-standing.ensures.seen (c.may_end-ends.ensures.ends w.if-ends.true).0 (sym w.is_served.ensures ∙ sym w.result-is ∙ no))
+  | else-ends w ↦ inl (subst (λ n. StaysOn c.in_ok-standing.field-0.standing.is_done c.serve_and_act.new.serving.connections.contacts c.may_end-ends.new.stay (length c.args.service.now.books.now) n) c.in_ok-standing.ensures.passes (c.may_end-ends.ensures.goes_on w.if-ends.false))
+]
+
+pub returns-clause-found : goal.returns-clause-found
+returns-clause-found g c = let seen = c.in_ok-standing.ensures.seen in (seen.0, seen.1, seen.2)
+
+pub returns-clause-stays : goal.returns-clause-stays
+returns-clause-stays g c =
+    c.may_end-ends.ensures.stay
+    ∙ ap (stay_after c.in_ok-standing.field-0.standing.is_done c.in_ok-ran_out.ran_out c.serve_and_act.new.serving.connections.contacts) (c.in_ok-standing.ensures.stay ∙ c.in_ok-ran_out.ensures.kept.3)

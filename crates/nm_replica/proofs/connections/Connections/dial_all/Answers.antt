@@ -12,6 +12,6 @@ loop-peer-preserved g c =
           let more =
           one_more_called g.T.Transport.leads_to (c.loop-peer.self.sessions, w.dial.new.self.sessions) c.loop-peer.peer c.loop-peer.self.contacts w.dial.new.self.contacts w.dial.new.self.«open» w.in_ok-dial.ensures.dials
           c.args.self.now.contacts due c.loop-peer.invariant.calls in
-          record { idle = search rules; waits = search rules; many = search rules; none = search rules; calls = search rules })
-      | else-is_due w ↦ record { idle = search rules; waits = search rules; many = search rules; none = search rules; calls = search rules }
+          record { idle = search rules; waits = search rules; accepts = search rules; many = search rules; none = search rules; calls = search rules })
+      | else-is_due w ↦ record { idle = search rules; waits = search rules; accepts = search rules; many = search rules; none = search rules; calls = search rules }
     ]

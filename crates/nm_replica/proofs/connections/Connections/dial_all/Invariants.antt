@@ -7,6 +7,7 @@ abbrev pub invariant-loop-peer : goal.invariant-loop-peer
 invariant-loop-peer g l = record {
   idle : g.T.Transport.elapsed_periods l.transport ≡ g.T.Transport.elapsed_periods l.initial.transport;
   waits : (g.T.Transport.asked l.transport).waits ≡ (g.T.Transport.asked l.initial.transport).waits;
+  accepts : (g.T.Transport.asked l.transport).accepts ≡ (g.T.Transport.asked l.initial.transport).accepts;
   many : length l.self.contacts.peers ≡ length l.initial.self.contacts.peers;
   none : NoneWanted l.self.contacts l.peer;
   calls : (n : ℕ) × CallsSome n l.initial.self.contacts l.self.contacts;

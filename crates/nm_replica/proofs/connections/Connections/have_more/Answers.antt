@@ -9,5 +9,5 @@ loop-key-preserved g c =
     let here : is_ready (get c.args.self.now.open c.loop-key.key) ≡ false = search rules in
     λ k low. below_more (λ k. is_ready (get c.args.self.now.open k) ≡ false) c.loop-key.key c.loop-key.invariant here k low
 
-pub returns : goal.returns
-returns g c = λ _. none_ready c.args.self.now.open c.loop-key.key (search rules) c.loop-key.invariant
+pub returns-clause-none : goal.returns-clause-none
+returns-clause-none g c = λ _. none_ready c.args.self.now.open c.loop-key.key (search rules) c.loop-key.invariant
