@@ -55,6 +55,7 @@ module _ (t : TopologyValue) (n now : ℕ) (place : Place) (p : PartValue Held) 
         where
           effect_of : Event (List ℕ) → Option (ℕ × List ℕ)
           effect_of f = (effect (net_of t) (one_list (net_of t) n).node (one_list (net_of t) n).port next.event.0.time next.event.0.number f).transmission
+
           none : i ≡ a → effect_of next.event.1 ≡ None
           none same = ap effect_of is ∙ start_at a _ (λ h. other
               (ap (λ q. queue_turned q what) (sym at ∙ ap event_place is)

@@ -20,11 +20,11 @@ use Rattle.nm_sim.specs.declared.told.Started.{Started}
 use Rattle.nm_base.specs.declared.wanted.Wanted.TheVariants.{Nothing}
 use Rattle.nm_measure.specs.declared.seen.Seen.{Seen}
 use Rattle.nm_measure.specs.Busy.{part_before}
-use Rattle.nm_measure.specs.Interfaces.{AreSeen, HasQueue, HasStarted, IsNext, IsTurn, OneChanges, StartsNone, queue_in, waits_at}
+use Rattle.nm_measure.specs.Interfaces.{AreSeen, HasQueue, HasStarted, IsNext, IsTurn, OneChanges, StartsNone, queue_in}
 use Rattle.nm_measure.specs.Queues.{time_after}
 use Rattle.nm_measure.specs.Seen.{IsQueue, IsSeen}
 use Rattle.nm_measure.specs.Usage.{IsUsed}
-use Rattle.nm_measure.specs.Waiting.{queue_begun, queue_empty, queue_later}
+use Rattle.nm_measure.specs.Waiting.{queue_begun, queue_empty}
 use Rattle.nm_measure.proofs.Lists.{AreTurned}
 use Rattle.nm_measure.proofs.Seeing.{queue_anew, queue_first, queue_on, queue_same}
 use Rattle.nm_measure.proofs.Transmitting.{used_later, used_more}
@@ -93,8 +93,8 @@ module _ (t : TopologyValue) where
         let h = seen.each i x at in (
           h.0.queue,
           subst (λ l. IsUsed (net_of t) i t.stop (time_after (net_of t) (suc n)) l x.usage.busy x.usage.last_busy x.usage.starts) (sym starts)
-          (used_later (net_of t) i t.stop (time_after (net_of t) n) (time_after (net_of t) (suc n)) late
-          (passed Out i (one_list (net_of t) n).records) x.usage.busy x.usage.last_busy x.usage.starts h.0.used),
+              (used_later (net_of t) i t.stop (time_after (net_of t) n) (time_after (net_of t) (suc n)) late
+              (passed Out i (one_list (net_of t) n).records) x.usage.busy x.usage.last_busy x.usage.starts h.0.used),
           h.1,
         )
 

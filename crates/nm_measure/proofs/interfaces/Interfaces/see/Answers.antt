@@ -20,11 +20,16 @@ returns-in-Some-queue_turned c = λ first n seen next.
     let few : t.stop < 2 ^ 64 = omega (arith, limit) in
     let what = c.args.happened.now in
     let began : ((z : Started) × (what.started ≡ Some z) × (left : ℕ) × (left ≡ t.stop - c.args.now) × OneChanges z.iface (HasStarted (max 1 z.octets) c.args.now left) old mid)
-        ⊎ ((what.started ≡ None) × (mid ≡ old)) = elim c.match-happened.branch [
-          in-Some w ↦ inl (w.in-Some.started, w.in-Some.is, w.time_left.result, w.time_left.ensures,
-          subst (λ (s : Interfaces). OneChanges w.in-Some.started.iface (HasStarted (max 1 w.in-Some.started.octets) c.args.now w.time_left.result) old s.all.items) (sym w.self-is) w.start.ensures)
-        | in_default w ↦ inr (w.in_default.is, ap (λ (s : Interfaces). s.all.items) w.self-is)
-        ] in
+    ⊎ ((what.started ≡ None) × (mid ≡ old)) = elim c.match-happened.branch [
+      | in-Some w ↦ inl (
+        w.in-Some.started,
+        w.in-Some.is,
+        w.time_left.result,
+        w.time_left.ensures,
+        subst (λ (s : Interfaces). OneChanges w.in-Some.started.iface (HasStarted (max 1 w.in-Some.started.octets) c.args.now w.time_left.result) old s.all.items) (sym w.self-is) w.start.ensures,
+      )
+      | in_default w ↦ inr (w.in_default.is, ap (λ (s : Interfaces). s.all.items) w.self-is)
+    ] in
     let half = half_told t first n c.args.now c.args.place.now c.args.part.now what old seen network (c.keys_rise.ensures net network) next mid (c.what_starts_arrives.ensures net network) few began in
     seen_turned t first n c.args.now c.args.place.now c.args.part.now what old seen network (c.keys_rise.ensures net network) next mid half
     c.change.new.self.all.items c.in-Some-queue_turned.iface
@@ -42,11 +47,16 @@ returns-in_default-queue_turned c = λ first n seen next.
     let few : t.stop < 2 ^ 64 = omega (arith, limit) in
     let what = c.args.happened.now in
     let began : ((z : Started) × (what.started ≡ Some z) × (left : ℕ) × (left ≡ t.stop - c.args.now) × OneChanges z.iface (HasStarted (max 1 z.octets) c.args.now left) old mid)
-        ⊎ ((what.started ≡ None) × (mid ≡ old)) = elim c.match-happened.branch [
-          in-Some w ↦ inl (w.in-Some.started, w.in-Some.is, w.time_left.result, w.time_left.ensures,
-          subst (λ (s : Interfaces). OneChanges w.in-Some.started.iface (HasStarted (max 1 w.in-Some.started.octets) c.args.now w.time_left.result) old s.all.items) (sym w.self-is) w.start.ensures)
-        | in_default w ↦ inr (w.in_default.is, ap (λ (s : Interfaces). s.all.items) w.self-is)
-        ] in
+    ⊎ ((what.started ≡ None) × (mid ≡ old)) = elim c.match-happened.branch [
+      | in-Some w ↦ inl (
+        w.in-Some.started,
+        w.in-Some.is,
+        w.time_left.result,
+        w.time_left.ensures,
+        subst (λ (s : Interfaces). OneChanges w.in-Some.started.iface (HasStarted (max 1 w.in-Some.started.octets) c.args.now w.time_left.result) old s.all.items) (sym w.self-is) w.start.ensures,
+      )
+      | in_default w ↦ inr (w.in_default.is, ap (λ (s : Interfaces). s.all.items) w.self-is)
+    ] in
     let half = half_told t first n c.args.now c.args.place.now c.args.part.now what old seen network (c.keys_rise.ensures net network) next mid (c.what_starts_arrives.ensures net network) few began in
     seen_same t first n c.args.now c.args.place.now c.args.part.now what old seen network (c.keys_rise.ensures net network) next mid half
     (subst (IsTurn t n) (sym c.queue_turned.ensures ∙ c.in_default-queue_turned.is) (turn_told t n c.args.now c.args.place.now c.args.part.now what next.before.1.orderly next))
