@@ -1,7 +1,7 @@
 -- Peers that are called one after another, and connections that are let go so.
 use Rattle.std.proofs.Common.{add-one, ◌≡◌, ◌≢◌, ℕ, suc, ◌+◌, ◌<◌, ◌≤◌, ◌&&◌, Bool, true, false, length, List, Option, None, refl, sym, subst, ◌∙◌, ap, arith, below_more, if◌then◌else◌, ⊎_elim, inl, inr}
 use Rattle.std.specs.Prelude.{nat_lt, slice_index_or}
-use Rattle.std.proofs.lemmas.Bool.{cases_eq, cases_lt}
+use Rattle.std.proofs.lemmas.Bool.{cases_lt}
 use Rattle.std.proofs.lemmas.Bool.Decides.{nat_tests}
 use Rattle.std.proofs.lemmas.List.{get_or_past}
 use Rattle.slab.specs.Slab.{Slab, Updates, get}

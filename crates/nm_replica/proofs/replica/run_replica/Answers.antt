@@ -1,4 +1,4 @@
-use Rattle.std.proofs.Common.{rules, ◌≡◌, ◌≤◌, ◌<◌, ◌+◌, ℕ, Some, ap, refl, subst, sym, ◌∙◌, arith}
+use Rattle.std.proofs.Common.{rules, ◌≡◌, ◌≤◌, ◌<◌, ◌+◌, Some, ap, refl, subst, sym, ◌∙◌, arith}
 use Rattle.nm_replica.specs.Polls.{is_active}
 use Rattle.nm_replica.proofs.Endings.{net_alone}
 use Rattle.nm_base.specs.Count.{saturated}

@@ -1,4 +1,4 @@
-use Rattle.std.proofs.Common.{rules, ◌≡◌, ◌≤◌, ◌∙◌, false, length, refl, sym, true}
+use Rattle.std.proofs.Common.{rules, ◌≡◌, ◌∙◌, false, sym, true}
 use Rattle.nm_policy.specs.Contact.{is_stale}
 use Rattle.nm_policy.specs.Contacts.{contact_at, is_slot}
 use Rattle.nm_replica.proofs.Hands.{all_taken_out, one_left_in, one_more_gone, one_taken_out}
