@@ -178,9 +178,9 @@ abbrev pub begun_by : ℕ → Option ReplicaName → ContactsValue → ℕ → �
 begun_by key None s begun = begun
 begun_by key (Some name) s begun = if has_met key s then begun else saturated (begun + 1)
 
-abbrev pub begun_after : {W : Type 0} → ℕ → Option (Connection W) → ContactsValue → ℕ → ℕ
-begun_after key None s begun = begun
-begun_after key (Some c) s begun = begun_by key (greeted_by c.link.session) s begun
+abbrev pub connections_begun : {W : Type 0} → ℕ → Option (Connection W) → ContactsValue → ℕ → ℕ
+connections_begun key None s begun = begun
+connections_begun key (Some c) s begun = begun_by key (greeted_by c.link.session) s begun
 
 -- how many of these have broken, after one more connection broke
 abbrev pub broken_after : ℕ → ContactsValue → ℕ → ℕ

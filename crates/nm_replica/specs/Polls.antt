@@ -23,8 +23,8 @@ KeepsCounts old new =
     × (new.stay ≡ old.stay) × (new.was_done ≡ old.was_done) × (new.polls ≡ old.polls)
 
 -- nothing was counted of a replica so far, and its first poll does not wait
-abbrev pub HasBegun : {W : Type 0} → Serving W → Type 0
-HasBegun s =
+abbrev pub HasCountedNothing : {W : Type 0} → Serving W → Type 0
+HasCountedNothing s =
     (s.moved ≡ 0) × (s.counted ≡ 0) × (s.events ≡ 0) × (s.was_done ≡ false) × (s.polls ≡ 0)
     × (s.stay.all.periods ≡ 0) × (s.stay.quiet ≡ 0) × (s.short.periods ≡ 0)
     × (s.failed_waits ≡ 0) × (s.is_busy ≡ true)

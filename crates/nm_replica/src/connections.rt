@@ -14,7 +14,7 @@ ghost use Rattle.nm_policy.specs.declared.contact_event.ContactEvent.TheVariants
 ghost use Rattle.nm_replica.specs.Breaks.{fault_in, is_peer, turn_served};
 ghost use Rattle.nm_replica.specs.Connections.{Admits, AsksFor, Awaits, CallsAll, Dials};
 ghost use Rattle.nm_replica.specs.Connections.{DropsStranger, TakesFirstOut, TakesStaleOut};
-ghost use Rattle.nm_replica.specs.Connections.{begun_after, broken_after, known_after};
+ghost use Rattle.nm_replica.specs.Connections.{connections_begun, broken_after, known_after};
 ghost use Rattle.nm_replica.specs.Connections.{Keeps, LetsGo};
 ghost use Rattle.nm_replica.specs.Connections.{AreAllReady, LetsStaleGo, MakesRoom, heard_at};
 ghost use Rattle.nm_replica.specs.Connections.{IsNoneReady, is_ready, reported_connection};
@@ -491,7 +491,7 @@ impl<W> Connections<W> {
         ensures contacts { self.new.contacts
             ≡ learned key (get self.old.open key) self.old.contacts }
         ensures begun { self.new.begun
-            ≡ begun_after key (get self.old.open key) self.old.contacts self.old.begun }
+            ≡ connections_begun key (get self.old.open key) self.old.contacts self.old.begun }
         ensures open { self.new.open ≡ self.old.open }
         ensures sessions { self.new.sessions ≡ self.old.sessions }
     {

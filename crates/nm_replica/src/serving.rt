@@ -16,7 +16,7 @@ ghost use Rattle.nm_replica.specs.Connections.{WaitsOnce};
 ghost use Rattle.nm_transport.specs.declared.limits.TheConstants.{MAX_REPORTS};
 ghost use Rattle.nm_replica.specs.declared.limits.TheConstants.{MAX_ACCEPTED, MAX_HANDED};
 ghost use Rattle.nm_replica.specs.declared.limits.TheConstants.{MAX_HAND_OUTS};
-ghost use Rattle.nm_replica.specs.Polls.{HasBegun, IsNews, KeepsCounts, RunsOwn, Waits};
+ghost use Rattle.nm_replica.specs.Polls.{HasCountedNothing, IsNews, KeepsCounts, RunsOwn, Waits};
 ghost use Rattle.nm_replica.specs.Polls.{failed_waits};
 ghost use Rattle.nm_replica.specs.Polls.{is_active, is_merge_due};
 ghost use Rattle.nm_replica.specs.Recording.{Streamed, Streams, WasEmptied, WroteAsCounted};
@@ -128,7 +128,7 @@ impl<W> Serving<W> {
         ensures sessions { IfOk result (λ s. s.connections.sessions
             ≡ first_sessions (arc_value service.now.topology.now) service.now.book.now.partition
             service.now.book.now.replica service.now.peers.now) }
-        ensures begun { IfOk result HasBegun }
+        ensures begun { IfOk result HasCountedNothing }
     {
         let buffer = ReadBuffer::new(alloc)?;
         Ok(Serving {
