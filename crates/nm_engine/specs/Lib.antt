@@ -5,6 +5,7 @@ pub mod Link
 pub mod Reading
 pub mod Taking
 pub mod Given
+pub mod GivenBefore
 pub mod Giving
 pub mod Writing
 pub mod Turn

@@ -20,7 +20,7 @@ use Rattle.nm_model.proofs.ListLemmas.{kept-append}
 use Rattle.nm_topology.specs.TopologyValue.{TopologyValue}
 use Rattle.nm_sim.specs.Network.{net_of}
 use Rattle.nm_forward.specs.State.{NodeStateValue}
-use Rattle.nm_measure.specs.Amounts.{amount_of, came_to, went_from}
+use Rattle.nm_sim.specs.Traffic.{amount_of, came_to, went_from}
 use Rattle.nm_series.specs.Rows.{had}
 use Rattle.nm_series.specs.Steps.{step_time}
 use Rattle.nm_laws.specs.Series.{AddUp, AllAddUp, BeginAt, drops, octets_in, octets_out, packets_in, packets_out}

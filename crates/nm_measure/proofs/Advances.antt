@@ -7,20 +7,17 @@ use Rattle.nm_base.specs.declared.event.Event.{Event}
 use Rattle.nm_base.specs.declared.key.Key.{Key}
 use Rattle.nm_events.specs.Held.{Held, pending_of}
 use Rattle.nm_model.specs.EventList.{is_before, least}
-use Rattle.nm_model.specs.Run.{in_record, one_list, out_record, pends_before, step}
+use Rattle.nm_model.specs.Run.{one_list, pends_before, step}
 use Rattle.nm_model.proofs.Keys.{least_has}
 use Rattle.nm_topology.specs.TopologyValue.{TopologyValue}
 use Rattle.nm_sim.specs.Effects.{IsPlaceIn}
 use Rattle.nm_sim.specs.Network.{net_of}
 use Rattle.nm_sim.specs.Part.{PartValue, Represents}
 use Rattle.nm_measure.specs.declared.seen.Seen.{Seen}
-use Rattle.std.proofs.lemmas.List.{append_assoc}
-use Rattle.nm_base.specs.declared.record.Record.{Record}
 use Rattle.nm_base.specs.declared.wanted.Wanted.TheVariants.{Nothing}
 use Rattle.nm_sim.specs.Records.{Keeping}
 use Rattle.nm_sim.specs.Told.{Happens, HappensNext}
 use Rattle.nm_sim.specs.declared.told.Happened.{Happened}
-use Rattle.nm_measure.specs.Amounts.{AreTraffic, IsCame, IsWent}
 use Rattle.nm_measure.specs.Interfaces.{AreSeen, IsNext}
 use Rattle.nm_measure.specs.Flows.{sent_numbers}
 use Rattle.nm_measure.specs.Lanes.{WatchesRun}
@@ -28,8 +25,6 @@ use Rattle.nm_measure.specs.Starts.{AreStarts, start_of}
 use Rattle.nm_measure.specs.declared.watched.Watched.{Watched}
 use Rattle.nm_measure.specs.Measured.{HasStarts, HasWatched, IsMeasuredBefore, IsMeasuring, MeasuredValue}
 use Rattle.nm_measure.specs.Sent.{AreSent, sent_later}
-use Rattle.nm_measure.proofs.Telling.{came_is, went_is}
-use Rattle.nm_measure.proofs.Turns.{effect_at, next_records}
 use Rattle.nm_measure.proofs.Making.{sent_next}
 use Rattle.nm_measure.proofs.Readings.{event_of}
 
@@ -48,7 +43,7 @@ module _ (t : TopologyValue) where
   measuring_first from until m h le seen w begins watches starts sent = record {
     events = h.events;
     early = λ n l. later from until (least (one_list (net_of t) n).pending) le (h.over.first n l);
-    counted = record { represents = h.represents; counted = h.traffic; keeps = h.keeps };
+    whole = record { represents = h.represents; keeps = h.keeps };
     steps = h.steps;
     seen = subst (λ f. AreSeen t f h.events seen) (sym h.steps) (begins h.first h.events h.seen);
     sent = subst (AreSent t h.events) (sym sent) h.sent;
@@ -67,10 +62,10 @@ module _ (t : TopologyValue) where
     -- the event stands at a place of the network
     pub place_in : IsPlaceIn t key.place
     place_in = subst (λ k. IsPlaceIn t k.place) the_event.2
-        (h.counted.represents.placed the_event.0.0 the_event.0.1 (least_has (one_list (net_of t) h.events).pending the_event.0 the_event.1))
+        (h.whole.represents.placed the_event.0.0 the_event.0.1 (least_has (one_list (net_of t) h.events).pending the_event.0 the_event.1))
 
     happened_is : Happens t Nothing (one_list (net_of t) h.events) the_event.0 what
-    happened_is = subst (λ (k : Keeping). Happens t k.wanted (one_list (net_of t) h.events) the_event.0 what) h.counted.keeps (happens the_event.0 the_event.1)
+    happened_is = subst (λ (k : Keeping). Happens t k.wanted (one_list (net_of t) h.events) the_event.0 what) h.whole.keeps (happens the_event.0 the_event.1)
 
     -- the part is after it
     pub next_of : until ≤ t.stop → IsNext t h.events key.time key.place q what
@@ -83,34 +78,24 @@ module _ (t : TopologyValue) where
           at_time = same;
           at_place = ap (λ k. k.place) the_event.2;
           early = omega (arith, soon, same, within);
-          before = (m.part, h.counted.represents);
+          before = (m.part, h.whole.represents);
           represents = after;
           happened = happened_is;
         }
 
     -- one event later
     pub measuring_next : (new : MeasuredValue)
-        → ((before : List (Record (List ℕ))) (time : ℕ) (came went : Option (ℕ × List ℕ)) → IsCame came what.arrived → IsWent went what.started
-        → AreTraffic t m.traffic before → AreTraffic t new.traffic ((before ++ in_record time came) ++ out_record time went))
         → q.records.keeping ≡ m.part.records.keeping → q.steps ≡ m.part.steps + 1 → AreSeen t first (suc h.events) new.seen → new.sent ≡ sent_later key.place m.sent
         → HasWatched t (suc h.events) new → HasStarts t first (suc h.events) new → IsMeasuring t first until (record new { part = q })
-    measuring_next new counts keeping steps sees made watched starts =
+    measuring_next new keeping steps sees made watched starts =
         let e = the_event.0 in
-        let s = one_list (net_of t) h.events in
-        let did = effect_at (net_of t) h.events e the_event.1 in
         record {
           events = suc h.events;
           early = λ n l. ⊎_elim
               (λ before. h.early n before)
               (λ last. let is : h.events ≡ n = omega (arith, l, last) in subst (λ k. pends_before until (one_list (net_of t) k) ≡ true) is due)
               (cases_lt n h.events);
-          counted = record {
-            represents = after;
-            counted = subst (AreTraffic t new.traffic) (append_assoc s.records (in_record e.0.time did.came) (out_record e.0.time did.transmission) ∙ sym (next_records (net_of t) h.events e the_event.1))
-                (counts s.records e.0.time did.came did.transmission
-                (came_is t Nothing s e what happened_is) (went_is t Nothing s e what happened_is) h.counted.counted);
-            keeps = keeping ∙ h.counted.keeps;
-          };
+          whole = record { represents = after; keeps = keeping ∙ h.whole.keeps };
           steps = let s = h.steps in omega (arith, steps, s);
           seen = sees;
           sent = subst (AreSent t (suc h.events)) (sym made)

@@ -20,8 +20,8 @@ use Rattle.nm_measure.specs.declared.courses.Reason.{Reason}
 use Rattle.nm_measure.specs.declared.courses.Reason.TheVariants.{Counted, Unknown}
 use Rattle.nm_measure.specs.declared.fates.Fate.{Fate}
 use Rattle.nm_measure.specs.declared.fates.Fate.TheVariants as fate
-use Rattle.nm_measure.specs.declared.tag.Role.{Role}
-use Rattle.nm_measure.specs.declared.tag.Role.TheVariants.{Sent, Reply, Nothing as NothingRole}
+use Rattle.nm_measure.specs.declared.role.Role.{Role}
+use Rattle.nm_measure.specs.declared.role.Role.TheVariants.{Sent, Reply, Nothing as NothingRole}
 use Rattle.nm_measure.specs.declared.tag.Tag.{Tag}
 use Rattle.nm_measure.specs.Counted.{AreArrivals, AreAstray, AreFlows, AreOutcomes, HasArrivals, HasEnds, HasOutcomes, FitsReason, comes_home, astray_of, delays_of, ended_so, how_many, counts_for, is_answer, is_at_home, is_reply, is_sent, is_told, outcome_number, strays, trips_of}
 use Rattle.nm_measure.specs.Delays.{AreDelays}

@@ -11,8 +11,8 @@ use Rattle.nm_measure.specs.declared.flow_times.FlowTimes.{FlowTimes}
 use Rattle.nm_measure.specs.declared.lane.Lane.{Lane}
 use Rattle.nm_measure.specs.declared.fates.Fate.{Fate}
 use Rattle.nm_measure.specs.declared.fates.Fate.TheVariants as fate
-use Rattle.nm_measure.specs.declared.tag.Role.{Role}
-use Rattle.nm_measure.specs.declared.tag.Role.TheVariants as role
+use Rattle.nm_measure.specs.declared.role.Role.{Role}
+use Rattle.nm_measure.specs.declared.role.Role.TheVariants as role
 use Rattle.nm_measure.specs.declared.tag.Tag.{Tag}
 use Rattle.nm_measure.specs.Counted.{AreFlows}
 use Rattle.nm_measure.specs.Lanes.{AreWatched, IsLane, left_in_hand, one_of, own_among, own_in, with_offer, with_start, with_wait}

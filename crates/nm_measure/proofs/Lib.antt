@@ -1,7 +1,6 @@
 mod Added
 mod Advances
 mod Completions
-mod Counting
 mod Coursing
 mod Firings
 mod Flowing

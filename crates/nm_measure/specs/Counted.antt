@@ -14,8 +14,8 @@ use Rattle.nm_measure.specs.declared.flow_counts.FlowCounts.{FlowCounts}
 use Rattle.nm_measure.specs.declared.flow_counts.PacketOutcome.{PacketOutcome}
 use Rattle.nm_measure.specs.declared.flow_counts.PacketOutcome.TheVariants.{Delivered, Refused, Dropped, Discarded}
 use Rattle.nm_measure.specs.declared.flow_times.FlowTimes.{FlowTimes}
-use Rattle.nm_measure.specs.declared.tag.Role.{Role}
-use Rattle.nm_measure.specs.declared.tag.Role.TheVariants as role
+use Rattle.nm_measure.specs.declared.role.Role.{Role}
+use Rattle.nm_measure.specs.declared.role.Role.TheVariants as role
 use Rattle.nm_measure.specs.declared.tag.Tag.{Tag}
 use Rattle.nm_measure.specs.Delays.{AreDelays}
 use Rattle.nm_measure.specs.Sums.{differences_of, greatest_of, last_of, sum_to}

@@ -1,4 +1,5 @@
-pub mod Amounts
+pub mod Drops
+pub mod Roles
 pub mod Flows
 pub mod Added
 pub mod Delays

@@ -9,9 +9,7 @@ use Rattle.nm_model.specs.Run.{State, one_list, pends_before}
 use Rattle.nm_topology.specs.TopologyValue.{TopologyValue}
 use Rattle.nm_sim.specs.Network.{net_of}
 use Rattle.nm_sim.specs.Part.{PartValue, Represents}
-use Rattle.nm_measure.specs.Amounts.{AreTraffic}
 use Rattle.nm_measure.specs.Interfaces.{AreSeen}
-use Rattle.nm_measure.specs.declared.amounts.IfaceTraffic.{IfaceTraffic}
 use Rattle.nm_measure.specs.Sent.{AreSent}
 use Rattle.nm_measure.specs.Starts.{AreStarts, start_of}
 use Rattle.nm_measure.specs.declared.flow_counts.FlowCounts.{FlowCounts}
@@ -24,7 +22,6 @@ use Rattle.nm_measure.specs.declared.seen.Seen.{Seen}
 
 pub record MeasuredValue : Type 0 where
   pub part : PartValue Held
-  pub traffic : List IfaceTraffic
   pub seen : List Seen
   -- how many packets each source made
   pub sent : List ℕ
@@ -39,11 +36,10 @@ pub record MeasuredValue : Type 0 where
 abbrev pub KeepsNone : PartValue Held → Type 0
 KeepsNone p = p.records.keeping ≡ record { wanted = Nothing; handed = 0 }
 
--- the whole network in this state of its run, which keeps no records, and the traffic so far
-pub record IsCounted (t : TopologyValue) (s : State (List ℕ) NodeStateValue) (p : PartValue Held)
-    (traffic : List IfaceTraffic) : Type 0 where
+-- the whole network in this state of its run, which keeps no records
+pub record IsWhole (t : TopologyValue) (s : State (List ℕ) NodeStateValue) (p : PartValue Held)
+    : Type 0 where
   pub represents : Represents pending_of t None p s
-  pub counted : AreTraffic t traffic s.records
   pub keeps : KeepsNone p
 
 -- when sources began; their greatest delays are looked for since `first` events
@@ -61,25 +57,22 @@ abbrev pub HasWatched : TopologyValue → ℕ → MeasuredValue → Type 0
 HasWatched t n m =
     AreWatched (length t.ifaces) (lanes_in t (tagged_list t n)) [] (ends_in t n) m.lanes m.counts m.times
 
--- the whole network after some events of its one event list, all of them before this time, and
--- the traffic of these
+-- the whole network after some events of its one event list, all of them before this time
 pub record IsMeasuring (t : TopologyValue) (first until : ℕ) (m : MeasuredValue) : Type 0 where
   pub events : ℕ
   pub early : (n : ℕ) → n < events → pends_before until (one_list (net_of t) n) ≡ true
-  pub counted : IsCounted t (one_list (net_of t) events) m.part m.traffic
+  pub whole : IsWhole t (one_list (net_of t) events) m.part
   pub steps : m.part.steps ≡ events
   pub seen : AreSeen t first events m.seen
   pub sent : AreSent t events m.sent
   pub watched : HasWatched t events m
   pub starts : HasStarts t first events m
 
--- the whole network after all events of its one event list that are before this time, and the
--- traffic of all their records
+-- the whole network after all events of its one event list that are before this time
 pub record IsMeasuredBefore (t : TopologyValue) (until : ℕ) (m : MeasuredValue) : Type 0 where
   pub events : ℕ
   pub over : IsBefore (net_of t) until events
   pub represents : Represents pending_of t None m.part (one_list (net_of t) events)
-  pub traffic : AreTraffic t m.traffic (one_list (net_of t) events).records
   pub keeps : KeepsNone m.part
   pub within : until ≤ t.stop
   pub stops : t.stop ≤ MAX_TIME

@@ -32,8 +32,8 @@ use Rattle.nm_measure.specs.declared.courses.Reason.{Reason}
 use Rattle.nm_measure.specs.declared.courses.Reason.TheVariants.{Counted, NoRoom}
 use Rattle.nm_measure.specs.declared.flow_counts.PacketOutcome.{PacketOutcome}
 use Rattle.nm_measure.specs.declared.flow_counts.PacketOutcome.TheVariants as ended
-use Rattle.nm_measure.specs.declared.tag.Role.{Role}
-use Rattle.nm_measure.specs.declared.tag.Role.TheVariants as role
+use Rattle.nm_measure.specs.declared.role.Role.{Role}
+use Rattle.nm_measure.specs.declared.role.Role.TheVariants as role
 use Rattle.nm_measure.specs.declared.tag.Tag.{Tag}
 
 -- packet n of source j, which stands at node v and makes it at this time

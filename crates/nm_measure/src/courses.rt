@@ -10,7 +10,8 @@ ghost use Rattle.nm_measure.specs.Rising.{Rise};
 ghost use Rattle.nm_measure.specs.Taken.{IsFirstOf};
 
 use crate::flow_counts::PacketOutcome;
-use crate::tag::{Role, Tag};
+use crate::role::Role;
+use crate::tag::Tag;
 use nm_base::{Dir, IfaceNo, NodeNo, SourceNo, Time};
 use nm_forward::Counter;
 use std::alloc::{AllocError, Global};
@@ -120,7 +121,7 @@ impl Courses {
     fn is_followed(&self, tag: &Tag) -> bool
         ensures { result ≡ counts_for self.now.source tag.now }
     {
-        match tag.role {
+        match tag.role.get() {
             Role::Sent => tag.source == self.source,
             Role::Reply | Role::Nothing => false,
         }

@@ -18,7 +18,8 @@ ghost use Rattle.nm_topology.specs.TopologyValue.{TopologyValue};
 
 use crate::flow_counts::{FlowCounts, PacketOutcome};
 use crate::flow_times::FlowTimes;
-use crate::tag::{Role, Tag};
+use crate::role::Role;
+use crate::tag::Tag;
 use nm_base::{NodeNo, SourceNo, Time};
 use nm_topology::Topology;
 use std::alloc::{AllocError, Global};
@@ -173,7 +174,7 @@ impl Flows {
         ensures astray { map (λ f. f.astray) self.new.counts.items
             ≡ map (λ f. f.astray) self.old.counts.items }
     {
-        let Role::Sent = tag.role else {
+        let Role::Sent = tag.role.get() else {
             return false;
         };
         match self.counts.get_mut(tag.source.index()) {
@@ -217,7 +218,7 @@ impl Flows {
             → AreFlows (ends ++ end ∷ []) under_way self.new.counts.items self.new.times.items) }
         ensures sent { sent_numbers self.new.counts.items ≡ sent_numbers self.old.counts.items }
     {
-        match tag.role {
+        match tag.role.get() {
             Role::Reply => self.answer(tag, arrival),
             Role::Sent | Role::Nothing => self.deliver(tag, arrival),
         }

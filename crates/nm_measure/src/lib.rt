@@ -2,7 +2,6 @@
 //! and what becomes of the packets of sources.
 #![tactic(auto)]
 
-pub mod amounts;
 pub mod courses;
 pub mod delays;
 mod fates;
@@ -19,6 +18,7 @@ pub mod queue;
 pub mod seen;
 pub mod share;
 pub mod spread;
+mod role;
 mod sums;
 mod tag;
 mod tags;
@@ -27,7 +27,6 @@ pub mod usage;
 mod watched;
 pub mod ways;
 
-pub use amounts::{Amount, IfaceTraffic};
 pub use courses::{Course, Ended, Hop};
 pub use delays::Delays;
 pub use flow_counts::{FlowCounts, PacketOutcome};

@@ -4,10 +4,7 @@ ghost use Rattle.std.specs.Prelude.{◌≡◌, ℕ, suc, ◌-◌, ◌<◌, ◌�
 ghost use Rattle.std.specs.Prelude.{Some, []};
 ghost use Rattle.std.specs.Prelude.{◌+◌, IfOk, IfSome, IsSomeAnd, OnOk, length, map, option_map};
 ghost use Rattle.nm_base.specs.Count.{saturated};
-ghost use Rattle.nm_base.specs.declared.record.Record.{Record};
-ghost use Rattle.nm_model.specs.Run.{in_record, out_record};
 ghost use Rattle.nm_sim.specs.Effects.{IsPlaceIn};
-ghost use Rattle.nm_measure.specs.Amounts.{AreTraffic, IsCame, IsWent};
 ghost use Rattle.nm_measure.specs.Interfaces.{AreSeen, IsNext};
 ghost use Rattle.nm_measure.specs.Counted.{HasArrivals, HasDelivered, HasEnds, HasTotals};
 ghost use Rattle.nm_measure.specs.Counted.{delays_of};
@@ -18,16 +15,16 @@ ghost use Rattle.nm_measure.specs.Measured.{HasStarts, HasWatched};
 ghost use Rattle.nm_measure.specs.Sent.{AreSent, sent_in, sent_later};
 ghost use Rattle.nm_measure.specs.Ways.{ends_in};
 ghost use Rattle.nm_model.specs.Run.{one_list};
-ghost use Rattle.nm_measure.specs.Amounts.{iface_traffic_of, drops_of};
+ghost use Rattle.nm_measure.specs.Drops.{drops_of};
 ghost use Rattle.nm_measure.specs.Busy.{busy_before, busy_share};
 ghost use Rattle.nm_measure.specs.Flows.{Balances};
 ghost use Rattle.nm_measure.specs.Measured.{HasRecent, IsMeasuredBefore};
 ghost use Rattle.nm_measure.specs.Queues.{in_octets, in_packets, longest_queue, waited_before};
 ghost use Rattle.nm_sim.specs.Network.{net_of};
 ghost use Rattle.nm_sim.specs.Part.{count_at, drops_at};
+ghost use Rattle.nm_sim.specs.Traffic.{iface_traffic_of};
 ghost use Rattle.nm_topology.specs.TopologyValue.{TopologyValue};
 
-use crate::amounts::{Amount, IfaceTraffic, count, no_traffic};
 use crate::courses::{Course, Ended};
 use crate::flow_counts::FlowCounts;
 use crate::flow_times::FlowTimes;
@@ -39,21 +36,20 @@ use nm_base::{IfaceNo, NodeNo, Place, SourceNo, Time, Wanted};
 use nm_events::HeapList;
 use nm_forward::Counter;
 use nm_progress::Progress;
-use nm_sim::{Happened, Part};
+use nm_sim::{Amount, Happened, IfaceTraffic, Part};
 use nm_topology::Topology;
 use nm_topology::topology::accepted_topologies_are_in_order;
 use std::alloc::{AllocError, Global};
 use std::marker::Model;
 
-/// The most records of one event: a packet arrives, and a transmission starts.
-const RECORDS_OF_AN_EVENT: usize = 2;
+/// Progress is noted once in so many events.
+const EVENTS_A_NOTE: u64 = 1_024;
 
 /// A whole network at a time of its run, with its measurements. Counters, drops, traffic, queues
 /// and busy times are those of the one event list; flows are observed event by event.
 #[derive(Drop)]
 pub struct Measured {
     part: Part<HeapList>,
-    traffic: Vec<IfaceTraffic>,
     interfaces: Interfaces,
     watched: Watched,
 }
@@ -76,7 +72,6 @@ impl Model for Measured {
 
     ghost view = { λ m. record {
       part = m.part;
-      traffic = m.traffic.items;
       seen = m.interfaces.all.items;
       sent = sent_numbers m.watched.flows.counts.items;
       counts = m.watched.flows.counts.items;
@@ -104,13 +99,11 @@ impl Measured {
             (λ m. IsFollowed topology.now followed 0 [] m.courses) }
     {
         accepted_topologies_are_in_order(topology); // law: `stop` is within its limit
-        let traffic = no_traffic(alloc, topology)?;
         let interfaces = Interfaces::new(alloc, topology)?;
         let watched = Watched::new(alloc, topology, followed)?;
         let part = Part::<HeapList>::start_with(alloc, topology, None, Wanted::Nothing)?;
         Ok(Measured {
             part,
-            traffic,
             interfaces,
             watched,
         })
@@ -175,11 +168,6 @@ impl Measured {
     ) -> Result<(), AllocError>
         requires { IsPlaceIn topology.now place }
         ensures part { self.new.part ≡ self.old.part }
-        ensures traffic { OnOk result ((t : TopologyValue) (before : List (Record (List ℕ)))
-            (time : ℕ) (came went : Option (ℕ × List ℕ))
-            → IsCame came happened.arrived → IsWent went happened.started
-            → AreTraffic t self.old.traffic before → AreTraffic t self.new.traffic
-            ((before ++ in_record time came) ++ out_record time went)) }
         ensures seen { OnOk result ((first n : ℕ) → AreSeen topology.now first n self.old.seen
             → IsNext topology.now n now place self.old.part happened
             → AreSeen topology.now first (suc n) self.new.seen) }
@@ -200,12 +188,18 @@ impl Measured {
             → IsFollowed topology.now j (suc n) taken self.new.courses) }
     {
         self.part.events(); // law: no more than 2^62
-        progress.note_records(self.part.made(), RECORDS_OF_AN_EVENT, now);
+        self.note_shown(progress, now);
         self.interfaces
             .see(topology, &self.part, now, &place, &happened);
         self.watched.see(topology, now, &place, &happened)?;
-        count(&mut self.traffic, &happened);
         Ok(())
+    }
+
+    /// Notes the progress, now and then: all before this time is done.
+    fn note_shown(&self, progress: &Progress, now: Time) {
+        if self.part.events() % EVENTS_A_NOTE == 0 {
+            progress.note(now, self.part.made());
+        }
     }
 
     /// How many events were done: no more than 2^62.
@@ -238,12 +232,12 @@ impl Measured {
             → iface < length t.ifaces
             → result ≡ Some (iface_traffic_of iface (one_list (net_of t) m.events).records) }
     {
-        self.traffic.get(iface.index()).copied()
+        self.part.traffic(iface)
     }
 
     /// The totals of an interface up to this time. All events before it were done.
     pub fn totals(&self, iface: IfaceNo, time: Time) -> IfaceTotals
-        requires there { iface < length self.now.traffic }
+        requires there { iface < length self.now.seen }
         ensures traffic { (t : TopologyValue) (until : ℕ) (m : IsMeasuredBefore t until self.now)
             → result.traffic ≡ iface_traffic_of iface (one_list (net_of t) m.events).records }
         ensures dropped { (t : TopologyValue) (until : ℕ) (m : IsMeasuredBefore t until self.now)
@@ -264,7 +258,7 @@ impl Measured {
             busy,
         } = self.over_time(iface, time);
         IfaceTotals {
-            traffic: self.traffic[iface.index()],
+            traffic: self.part.traffic(iface).unwrap_or(IfaceTraffic::none()),
             dropped: self.part.dropped(iface).unwrap_or(0),
             waited,
             octets_waited,
@@ -314,7 +308,7 @@ impl Measured {
     /// For how long packets and octets waited at an interface up to this time, and for how long it
     /// transmitted.
     fn over_time(&self, iface: IfaceNo, time: Time) -> OverTime
-        requires there { iface < length self.now.traffic }
+        requires there { iface < length self.now.seen }
         ensures waited { (t : TopologyValue) (m : IsMeasuredBefore t time self.now)
             → result.waited
             ≡ min (waited_before (net_of t) in_packets iface time m.events) (2 ^ 128 - 1) }

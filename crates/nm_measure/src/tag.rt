@@ -3,24 +3,14 @@
 ghost use Rattle.std.specs.Prelude.{◌≡◌};
 ghost use Rattle.nm_measure.specs.Ways.{nobodys, own_tag, reply_tag};
 
+use crate::role::{Role, RoleWord};
 use nm_base::{NodeNo, SourceNo, Time};
-
-/// How a packet counts for a source.
-#[derive(Clone, Copy, Drop)]
-pub(crate) enum Role {
-    /// The source made it.
-    Sent,
-    /// It is the echo reply to a packet that the source made.
-    Reply,
-    /// Not at all: it is an ICMP error.
-    Nothing,
-}
 
 /// The source of a packet. A tag is kept beside its packet and is no part of it, so that no field
 /// of the packet can assign it to another source.
 #[derive(Drop)]
 pub(crate) struct Tag {
-    pub role: Role,
+    pub role: RoleWord,
     /// Source 0 if it counts for none.
     pub source: SourceNo,
     /// The source's node.
@@ -38,7 +28,7 @@ impl Tag {
         ensures { result ≡ own_tag source home number at }
     {
         Tag {
-            role: Role::Sent,
+            role: RoleWord::of(Role::Sent),
             source,
             home,
             number,
@@ -51,7 +41,7 @@ impl Tag {
         ensures { result ≡ nobodys }
     {
         Tag {
-            role: Role::Nothing,
+            role: RoleWord::of(Role::Nothing),
             source: SourceNo::new(0),
             home: NodeNo::new(0),
             number: 0,
@@ -63,9 +53,9 @@ impl Tag {
     pub(crate) fn of_reply(&self) -> Tag
         ensures { result ≡ reply_tag self.now }
     {
-        match self.role {
+        match self.role.get() {
             Role::Sent => Tag {
-                role: Role::Reply,
+                role: RoleWord::of(Role::Reply),
                 source: self.source,
                 home: self.home,
                 number: self.number,

@@ -1,6 +1,6 @@
 //! The totals of interfaces and sources up to a time.
 
-use crate::amounts::IfaceTraffic;
+use nm_sim::IfaceTraffic;
 
 /// The totals of an interface up to a time. The difference of two is that of the time between.
 #[derive(Clone, Copy, Drop)]

@@ -6,10 +6,6 @@ use nm_base::{PartNo, Time};
 use std::alloc::{AllocError, Global};
 use std::sync::atomic::{AtomicU64, Ordering};
 
-/// A run by one event list notes each record with a number, counted from 0, that is a multiple of
-/// this.
-const RECORDS_A_NOTE: u64 = 1_024;
-
 /// The value if no partition is furthest behind.
 const NOBODY: u64 = u64::MAX;
 
@@ -90,14 +86,6 @@ impl Progress {
     pub fn note(&self, time: Time, records: u64) {
         self.time.store(time.nanoseconds(), Ordering::SeqCst);
         self.records.store(records, Ordering::SeqCst);
-    }
-
-    /// A run by one event list has made so many records behind so many others, all at this time.
-    pub fn note_records(&self, others: u64, made: usize, time: Time) {
-        let before_next = (RECORDS_A_NOTE - others % RECORDS_A_NOTE) % RECORDS_A_NOTE;
-        if before_next < made as u64 {
-            self.note(time, others.saturating_add(before_next));
-        }
     }
 
     /// This partition is furthest behind.

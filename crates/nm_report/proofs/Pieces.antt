@@ -14,7 +14,7 @@ use Rattle.nm_forward.specs.declared.counter.TheConstants.Counter.{ALL}
 use Rattle.nm_model.specs.Run.{State, one_list}
 use Rattle.nm_sim.specs.Network.{net_of}
 use Rattle.nm_sim.specs.Part.{count_at, drops_at}
-use Rattle.nm_measure.specs.Amounts.{drops_of}
+use Rattle.nm_measure.specs.Drops.{drops_of}
 use Rattle.nm_model.proofs.ListLemmas.{not_some, some_inj}
 use Rattle.nm_topology.specs.PartValues.{IfaceValue, NodeValue}
 use Rattle.nm_topology.specs.TopologyValue.{TopologyValue}

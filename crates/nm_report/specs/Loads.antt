@@ -4,7 +4,8 @@ use Rattle.nm_model.specs.Run.{one_list}
 use Rattle.nm_topology.specs.TopologyValue.{TopologyValue}
 use Rattle.nm_topology.specs.declared.parts.Link.{Link}
 use Rattle.nm_sim.specs.Network.{net_of}
-use Rattle.nm_measure.specs.Amounts.{drops_of, iface_traffic_of}
+use Rattle.nm_measure.specs.Drops.{drops_of}
+use Rattle.nm_sim.specs.Traffic.{iface_traffic_of}
 use Rattle.nm_measure.specs.Busy.{busy_before, busy_share, thousandths_of}
 use Rattle.nm_report.specs.declared.picture.Load.{Load}
 use Rattle.nm_report.specs.declared.picture.Way.{Way}

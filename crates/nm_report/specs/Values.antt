@@ -7,11 +7,12 @@ use Rattle.nm_model.specs.Run.{one_list}
 use Rattle.nm_topology.specs.PartValues.{IfaceValue, NodeValue}
 use Rattle.nm_topology.specs.TopologyValue.{TopologyValue}
 use Rattle.nm_sim.specs.Network.{net_of}
-use Rattle.nm_measure.specs.Amounts.{drops_of, iface_traffic_of}
+use Rattle.nm_measure.specs.Drops.{drops_of}
+use Rattle.nm_sim.specs.Traffic.{iface_traffic_of}
 use Rattle.nm_measure.specs.Busy.{busy_before}
 use Rattle.nm_measure.specs.Lines.{EndsLine}
 use Rattle.nm_measure.specs.Queues.{in_packets, longest_queue}
-use Rattle.nm_measure.specs.declared.amounts.IfaceTraffic.{IfaceTraffic}
+use Rattle.nm_sim.specs.declared.traffic.IfaceTraffic.{IfaceTraffic}
 
 -- whole lines, or nothing
 abbrev pub AreWholeLines : List ℕ → Type 0

@@ -4,28 +4,17 @@ ghost use Rattle.std.specs.Prelude.{◌≡◌, ℕ, ◌<◌, length};
 ghost use Rattle.nm_model.specs.Run.{one_list};
 ghost use Rattle.nm_topology.specs.TopologyValue.{TopologyValue};
 ghost use Rattle.nm_sim.specs.Network.{net_of};
-ghost use Rattle.nm_measure.specs.Amounts.{iface_traffic_of};
+ghost use Rattle.nm_sim.specs.Traffic.{iface_traffic_of};
 ghost use Rattle.nm_measure.specs.Measured.{IsMeasuredBefore};
 
 use crate::table::{Table, push_left_out};
 use crate::units::push_percentage;
 use nm_base::IfaceNo;
-use nm_measure::{Amount, Appended, IfaceTraffic, Measured, thousandths};
+use nm_measure::{Appended, Measured, thousandths};
+use nm_sim::IfaceTraffic;
 use nm_topology::Topology;
 use std::alloc::{AllocError, Global};
 use std::cmp::Reverse;
-
-/// Nothing came and nothing went.
-const NO_TRAFFIC: IfaceTraffic = IfaceTraffic {
-    came: Amount {
-        packets: 0,
-        octets: 0,
-    },
-    went: Amount {
-        packets: 0,
-        octets: 0,
-    },
-};
 
 /// The columns of interfaces.
 const HEAD: [&str; 8] = [
@@ -53,7 +42,7 @@ pub(crate) fn traffic_at(measured: &Measured, iface: IfaceNo) -> IfaceTraffic
         → iface < length t.ifaces
         → result ≡ iface_traffic_of iface (one_list (net_of t) m.events).records }
 {
-    measured.traffic(iface).unwrap_or(NO_TRAFFIC)
+    measured.traffic(iface).unwrap_or(IfaceTraffic::none())
 }
 
 /// The rank of an interface. `None` if it is idle.

@@ -7,11 +7,12 @@ use Rattle.nm_model.specs.Run.{State, one_list}
 use Rattle.nm_topology.specs.PartValues.{IfaceValue}
 use Rattle.nm_topology.specs.TopologyValue.{TopologyValue}
 use Rattle.nm_sim.specs.Network.{net_of}
-use Rattle.nm_measure.specs.Amounts.{iface_traffic_of, drops_of}
+use Rattle.nm_measure.specs.Drops.{drops_of}
+use Rattle.nm_sim.specs.Traffic.{iface_traffic_of}
 use Rattle.nm_measure.specs.Busy.{busy_before, thousandths_of}
 use Rattle.nm_measure.specs.Measured.{HasRecent, MeasuredValue}
 use Rattle.nm_measure.specs.Queues.{in_octets, in_packets, longest_queue, waited_before}
-use Rattle.nm_measure.specs.declared.amounts.IfaceTraffic.{IfaceTraffic}
+use Rattle.nm_sim.specs.declared.traffic.IfaceTraffic.{IfaceTraffic}
 use Rattle.nm_measure.specs.declared.totals.IfaceTotals.{IfaceTotals}
 use Rattle.nm_series.specs.declared.iface_rows.IfaceSeen.{IfaceSeen}
 

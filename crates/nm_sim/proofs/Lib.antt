@@ -17,5 +17,6 @@ pub mod Stepping
 mod Steps
 mod Tables
 mod Takings
+mod Trafficking
 mod Tracings
 mod Sound

@@ -1,59 +1,19 @@
 -- The records of a trace: one more is added, or the first that is kept is handed out.
-use Rattle.std.proofs.Common.{◌≡◌, ℕ, zero, suc, ◌+◌, ◌≤◌, ◌==◌, Bool, true, false, cond, List, [], ◌∷◌, ◌++◌, drop, flat_map, length, replicate, Some, slice_get, refl, sym, ap, ◌∙◌, subst, arith, ⊎_elim, append-nil, length-append, option_map}
-use Rattle.std.proofs.lemmas.Bool.Decides.{nat_tests}
-use Rattle.std.proofs.lemmas.Grind.{flat_map-append}
+use Rattle.std.proofs.Common.{◌≡◌, ℕ, zero, suc, ◌+◌, ◌≤◌, ◌==◌, true, false, cond, List, [], ◌∷◌, ◌++◌, drop, length, replicate, Some, slice_get, refl, sym, ap, ◌∙◌, subst, arith, ⊎_elim, append-nil, length-append, option_map}
 use Rattle.std.proofs.lemmas.List.{drop-append-le, drop_all, length-drop, length-replicate}
 use Rattle.std.proofs.lemmas.Option.{slice_get_cases, slice_get_past}
-use Rattle.nm_base.specs.Count.{saturated}
 use Rattle.nm_base.specs.Wanted.{is_wanted}
 use Rattle.nm_base.specs.declared.record.Record.{Record}
 use Rattle.nm_base.specs.declared.wanted.Wanted.{Wanted}
 use Rattle.nm_base.specs.declared.wanted.Wanted.TheVariants.{All, Nothing, One}
 use Rattle.nm_topology.specs.TopologyValue.{TopologyValue}
-use Rattle.nm_model.specs.Lists.{keep_where}
-use Rattle.nm_model.proofs.ListLemmas.{kept-append, not_some, some_inj}
-use Rattle.nm_pcap.specs.declared.format.TheConstants.{FILE_HEADER_OCTETS, RECORD_HEADER_OCTETS}
-use Rattle.nm_pcap.specs.Format.{file_header, pcap, record_header, record_octets}
+use Rattle.nm_model.proofs.ListLemmas.{not_some, some_inj}
 use Rattle.nm_sim.specs.Records.{Keeping, RecordsRepresent, RecordsValue, cut}
 use Rattle.nm_sim.specs.Tables.{AllAt}
 use Rattle.nm_sim.proofs.Cuts.{cut-append}
-use Rattle.nm_sim.specs.Totals.{total_after, totals_of}
-
--- the trace file of one more record
-file_more : (own : List (Record (List ℕ))) (r : Record (List ℕ)) → length (pcap (own ++ r ∷ [])) ≡ length (pcap own) + (RECORD_HEADER_OCTETS + length r.packet)
-file_more own r =
-    let a = length-append file_header (flat_map record_octets (own ++ r ∷ [])) in
-    let b = ap length (flat_map-append record_octets own (r ∷ [])) in
-    let c = length-append (flat_map record_octets own) (flat_map record_octets (r ∷ [])) in
-    let d = length-append file_header (flat_map record_octets own) in
-    let e = length-append (record_octets r) [] in
-    let f = length-append (record_header r.time (length r.packet)) r.packet in
-    let g : length (record_header r.time (length r.packet)) ≡ RECORD_HEADER_OCTETS = refl in
-    omega (arith, a, b, c, d, e, f, g)
-
-kept_here : (i : ℕ) (r : Record (List ℕ)) → (i == r.iface) ≡ true → keep_where (λ x. x.iface == i) (r ∷ []) ≡ r ∷ []
-kept_here i r h = let e : (r.iface == i) ≡ true = grind (arith, nat_tests, h) in ap (λ b. cond b (r ∷ []) []) e
-
-kept_there : (i : ℕ) (r : Record (List ℕ)) → (i == r.iface) ≡ false → keep_where (λ x. x.iface == i) (r ∷ []) ≡ []
-kept_there i r h = let e : (r.iface == i) ≡ false = grind (arith, nat_tests, h) in ap (λ b. cond b (r ∷ []) []) e
-
-totals_more : (i : ℕ) (trace : List (Record (List ℕ))) (r : Record (List ℕ)) → (b : Bool) → (i == r.iface) ≡ b
-    → totals_of i (trace ++ r ∷ []) ≡ cond b (total_after (totals_of i trace) (length r.packet)) (totals_of i trace)
-totals_more i trace r true h =
-    let own = keep_where (λ x. x.iface == i) trace in
-    let e : keep_where (λ x. x.iface == i) (trace ++ r ∷ []) ≡ own ++ r ∷ [] = kept-append (λ x. x.iface == i) trace (r ∷ []) ∙ ap (λ l. own ++ l) (kept_here i r h) in
-    let n = ap length e ∙ length-append own (r ∷ []) in
-    let m = ap (λ l. length (pcap l)) e ∙ file_more own r in
-    (λ k. (saturated (n k), saturated (m k))) ∙ (λ k. (twice (length own) 1 k, twice (length (pcap own)) (RECORD_HEADER_OCTETS + length r.packet) k))
-  where
-    twice : (n m : ℕ) → saturated (n + m) ≡ saturated (saturated n + m)
-    twice n m = omega arith
-totals_more i trace r false h = ap (λ l. (saturated (length l), saturated (length (pcap l))))
-    (kept-append (λ x. x.iface == i) trace (r ∷ []) ∙ ap (λ l. keep_where (λ x. x.iface == i) trace ++ l) (kept_there i r h) ∙ append_nil (keep_where (λ x. x.iface == i) trace))
-  where
-    append_nil : (l : List (Record (List ℕ))) → l ++ [] ≡ l
-    append_nil [] = refl
-    append_nil (x ∷ l) = ap (λ k. x ∷ k) (append_nil l)
+use Rattle.nm_sim.specs.Traffic.{iface_traffic_of, traffic_after, traffic_none}
+use Rattle.nm_sim.specs.declared.traffic.IfaceTraffic.{IfaceTraffic}
+use Rattle.nm_sim.proofs.Trafficking.{traffic_more}
 
 -- the number of those that are left, beside those that are not
 pub rest_is_all : (n : ℕ) (trace : List (Record (List ℕ))) → n ≤ length trace → n + length (drop n trace) ≡ length trace
@@ -79,20 +39,20 @@ abbrev left : Keeping → List (Record (List ℕ)) → List (Record (List ℕ))
 left k trace = drop k.handed (cut k.wanted trace)
 
 module _ (t : TopologyValue) (a b : RecordsValue) (trace : List (Record (List ℕ))) where
-  totals_with : (r : Record (List ℕ))
-      → ((i : ℕ) → slice_get b.totals i ≡ option_map (λ x. cond (i == r.iface) (total_after x (length r.packet)) x) (slice_get a.totals i))
-      → RecordsRepresent t a trace → AllAt (λ i a. a ≡ totals_of i (trace ++ r ∷ [])) b.totals
-  totals_with r totals h = λ i y e. ⊎_elim
-      (λ g. some_inj y (cond (i == r.iface) (total_after g.0 (length r.packet)) g.0)
-      (sym e ∙ totals i ∙ ap (option_map (λ x. cond (i == r.iface) (total_after x (length r.packet)) x)) g.2)
-      ∙ ap (λ x. cond (i == r.iface) (total_after x (length r.packet)) x) (h.totals i g.0 g.2) ∙ sym (totals_more i trace r (i == r.iface) refl))
-      (λ g. absurd (not_some y (sym (totals i ∙ ap (option_map (λ x. cond (i == r.iface) (total_after x (length r.packet)) x)) (slice_get_past a.totals i g.0)) ∙ e)))
-      ((slice_get_cases a.totals i).1)
+  traffic_with : (r : Record (List ℕ))
+      → ((i : ℕ) → slice_get b.traffic i ≡ option_map (λ x. cond (i == r.iface) (traffic_after x r) x) (slice_get a.traffic i))
+      → RecordsRepresent t a trace → AllAt (λ i x. x ≡ iface_traffic_of i (trace ++ r ∷ [])) b.traffic
+  traffic_with r traffic h = λ i y e. ⊎_elim
+      (λ g. some_inj y (cond (i == r.iface) (traffic_after g.0 r) g.0)
+      (sym e ∙ traffic i ∙ ap (option_map (λ x. cond (i == r.iface) (traffic_after x r) x)) g.2)
+      ∙ ap (λ x. cond (i == r.iface) (traffic_after x r) x) (h.traffic i g.0 g.2) ∙ sym (traffic_more i trace r (i == r.iface) refl))
+      (λ g. absurd (not_some y (sym (traffic i ∙ ap (option_map (λ x. cond (i == r.iface) (traffic_after x r) x)) (slice_get_past a.traffic i g.0)) ∙ e)))
+      ((slice_get_cases a.traffic i).1)
 
-  pub records_more : (r : Record (List ℕ)) → is_wanted a.keeping.wanted r.iface ≡ true → b.kept ≡ a.kept ++ r ∷ [] → b.keeping ≡ a.keeping → length b.totals ≡ length a.totals
-      → ((i : ℕ) → slice_get b.totals i ≡ option_map (λ x. cond (i == r.iface) (total_after x (length r.packet)) x) (slice_get a.totals i))
+  pub records_more : (r : Record (List ℕ)) → is_wanted a.keeping.wanted r.iface ≡ true → b.kept ≡ a.kept ++ r ∷ [] → b.keeping ≡ a.keeping → length b.traffic ≡ length a.traffic
+      → ((i : ℕ) → slice_get b.traffic i ≡ option_map (λ x. cond (i == r.iface) (traffic_after x r) x) (slice_get a.traffic i))
       → RecordsRepresent t a trace → RecordsRepresent t b (trace ++ r ∷ [])
-  records_more r wanted kept keeping count totals h =
+  records_more r wanted kept keeping count traffic h =
       let w = a.keeping.wanted in
       let more = cut_wanted w trace r wanted in
       record {
@@ -101,32 +61,32 @@ module _ (t : TopologyValue) (a b : RecordsValue) (trace : List (Record (List �
         few = subst (λ k. k.handed ≤ length (cut k.wanted (trace ++ r ∷ []))) (sym keeping)
             (let l = ap length more ∙ length-append (cut w trace) (r ∷ []) in let f = h.few in omega (arith, f, l));
         count = count ∙ h.count;
-        totals = totals_with r totals h;
+        traffic = traffic_with r traffic h;
       }
 
   -- one more that is not kept
-  pub records_passed : (r : Record (List ℕ)) → is_wanted a.keeping.wanted r.iface ≡ false → b.kept ≡ a.kept → b.keeping ≡ a.keeping → length b.totals ≡ length a.totals
-      → ((i : ℕ) → slice_get b.totals i ≡ option_map (λ x. cond (i == r.iface) (total_after x (length r.packet)) x) (slice_get a.totals i))
+  pub records_passed : (r : Record (List ℕ)) → is_wanted a.keeping.wanted r.iface ≡ false → b.kept ≡ a.kept → b.keeping ≡ a.keeping → length b.traffic ≡ length a.traffic
+      → ((i : ℕ) → slice_get b.traffic i ≡ option_map (λ x. cond (i == r.iface) (traffic_after x r) x) (slice_get a.traffic i))
       → RecordsRepresent t a trace → RecordsRepresent t b (trace ++ r ∷ [])
-  records_passed r unwanted kept keeping count totals h =
+  records_passed r unwanted kept keeping count traffic h =
       let same = cut_unwanted a.keeping.wanted trace r unwanted in
       record {
         kept = kept ∙ h.kept ∙ ap (drop a.keeping.handed) (sym same) ∙ ap (λ k. left k (trace ++ r ∷ [])) (sym keeping);
         few = subst (λ k. k.handed ≤ length (cut k.wanted (trace ++ r ∷ []))) (sym keeping)
             (let l = ap length same in let f = h.few in omega (arith, f, l));
         count = count ∙ h.count;
-        totals = totals_with r totals h;
+        traffic = traffic_with r traffic h;
       }
 
-  pub records_handed : 1 ≤ length a.kept → b.kept ≡ drop 1 a.kept → b.keeping ≡ record a.keeping { handed = a.keeping.handed + 1 } → b.totals ≡ a.totals → RecordsRepresent t a trace → RecordsRepresent t b trace
-  records_handed there kept keeping totals h =
+  pub records_handed : 1 ≤ length a.kept → b.kept ≡ drop 1 a.kept → b.keeping ≡ record a.keeping { handed = a.keeping.handed + 1 } → b.traffic ≡ a.traffic → RecordsRepresent t a trace → RecordsRepresent t b trace
+  records_handed there kept keeping traffic h =
       let own = cut a.keeping.wanted trace in
       record {
         kept = kept ∙ ap (drop 1) h.kept ∙ drop_more a.keeping.handed own ∙ ap (λ k. left k trace) (sym keeping);
         few = subst (λ k. k.handed ≤ length (cut k.wanted trace)) (sym keeping)
             (let l = ap length h.kept ∙ length-drop a.keeping.handed own in omega (arith, l, there));
-        count = ap length totals ∙ h.count;
-        totals = λ i y e. h.totals i y (ap (λ l. slice_get l i) (sym totals) ∙ e);
+        count = ap length traffic ∙ h.count;
+        traffic = λ i y e. h.traffic i y (ap (λ l. slice_get l i) (sym traffic) ∙ e);
       }
     where
       drop_more : (n : ℕ) (l : List (Record (List ℕ))) → drop 1 (drop n l) ≡ drop (n + 1) l
@@ -135,14 +95,14 @@ module _ (t : TopologyValue) (a b : RecordsValue) (trace : List (Record (List �
       drop_more (suc n) (x ∷ l) = let e : suc (n + 1) ≡ suc n + 1 = omega arith in drop_more n l ∙ ap (λ k. drop k (x ∷ l)) e
 
   -- all that were kept are handed out
-  pub all_handed : b.kept ≡ [] → b.keeping ≡ record a.keeping { handed = a.keeping.handed + length a.kept } → b.totals ≡ a.totals → RecordsRepresent t a trace → RecordsRepresent t b trace
-  all_handed kept keeping totals h =
+  pub all_handed : b.kept ≡ [] → b.keeping ≡ record a.keeping { handed = a.keeping.handed + length a.kept } → b.traffic ≡ a.traffic → RecordsRepresent t a trace → RecordsRepresent t b trace
+  all_handed kept keeping traffic h =
       let own = cut a.keeping.wanted trace in
       let all = ap (λ n. a.keeping.handed + n) (ap length h.kept) ∙ rest_is_all a.keeping.handed own h.few in record {
         kept = kept ∙ sym (drop_all (a.keeping.handed + length a.kept) own (omega (arith, all))) ∙ ap (λ k. left k trace) (sym keeping);
         few = subst (λ k. k.handed ≤ length (cut k.wanted trace)) (sym keeping) (omega (arith, all));
-        count = ap length totals ∙ h.count;
-        totals = λ i y e. h.totals i y (ap (λ l. slice_get l i) (sym totals) ∙ e);
+        count = ap length traffic ∙ h.count;
+        traffic = λ i y e. h.traffic i y (ap (λ l. slice_get l i) (sym traffic) ∙ e);
       }
 
   pub records_same : b ≡ record a { spare = b.spare } → RecordsRepresent t a trace → RecordsRepresent t b trace
@@ -150,8 +110,8 @@ module _ (t : TopologyValue) (a b : RecordsValue) (trace : List (Record (List �
       let keeping : b.keeping ≡ a.keeping = ap (λ r. r.keeping) e in record {
         kept = ap (λ r. r.kept) e ∙ h.kept ∙ ap (λ k. left k trace) (sym keeping);
         few = subst (λ k. k.handed ≤ length (cut k.wanted trace)) (sym keeping) h.few;
-        count = ap (λ r. length r.totals) e ∙ h.count;
-        totals = λ i y g. h.totals i y (ap (λ r. slice_get r.totals i) (sym e) ∙ g);
+        count = ap (λ r. length r.traffic) e ∙ h.count;
+        traffic = λ i y g. h.traffic i y (ap (λ r. slice_get r.traffic i) (sym e) ∙ g);
       }
 
 -- no record is added
@@ -165,12 +125,12 @@ first_left (suc n) [] = refl
 first_left (suc n) (x ∷ l) = first_left n l
 
 -- at the start
-pub records_first : (t : TopologyValue) (w : Wanted) (r : RecordsValue) → r.kept ≡ [] → r.keeping ≡ record { wanted = w; handed = 0 } → r.totals ≡ replicate (length t.ifaces) (0, FILE_HEADER_OCTETS) → RecordsRepresent t r []
-records_first t w r kept keeping totals = record {
+pub records_first : (t : TopologyValue) (w : Wanted) (r : RecordsValue) → r.kept ≡ [] → r.keeping ≡ record { wanted = w; handed = 0 } → r.traffic ≡ replicate (length t.ifaces) traffic_none → RecordsRepresent t r []
+records_first t w r kept keeping traffic = record {
   kept = kept ∙ sym (nothing w) ∙ ap (λ k. left k []) (sym keeping);
   few = subst (λ k. k.handed ≤ length (cut k.wanted [])) (sym keeping) (omega arith);
-  count = ap length totals ∙ length-replicate (length t.ifaces) (0, FILE_HEADER_OCTETS);
-  totals = λ i y e. all (length t.ifaces) i y (ap (λ l. slice_get l i) (sym totals) ∙ e);
+  count = ap length traffic ∙ length-replicate (length t.ifaces) traffic_none;
+  traffic = λ i y e. all (length t.ifaces) i y (ap (λ l. slice_get l i) (sym traffic) ∙ e);
 }
   where
     nothing : (v : Wanted) → cut v [] ≡ []
@@ -178,7 +138,7 @@ records_first t w r kept keeping totals = record {
     nothing Nothing = refl
     nothing (One i) = refl
 
-    all : (n i : ℕ) (y : ℕ × ℕ) → slice_get (replicate n (0, FILE_HEADER_OCTETS)) i ≡ Some y → y ≡ totals_of i []
+    all : (n i : ℕ) (y : IfaceTraffic) → slice_get (replicate n traffic_none) i ≡ Some y → y ≡ iface_traffic_of i []
     all zero i y e = absurd cc
-    all (suc n) zero y e = some_inj y (0, FILE_HEADER_OCTETS) (sym e)
+    all (suc n) zero y e = some_inj y traffic_none (sym e)
     all (suc n) (suc i) y e = all n i y e

@@ -5,6 +5,7 @@ pub mod Devices
 pub mod Effects
 pub mod Outgoing
 pub mod Totals
+pub mod Traffic
 pub mod Records
 pub mod Told
 pub mod Part

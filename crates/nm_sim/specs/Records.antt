@@ -8,7 +8,8 @@ use Rattle.nm_base.specs.declared.wanted.Wanted.TheVariants.{All, Nothing, One}
 use Rattle.nm_model.specs.Lists.{keep_where}
 use Rattle.nm_topology.specs.TopologyValue.{TopologyValue}
 use Rattle.nm_sim.specs.Tables.{AllAt}
-use Rattle.nm_sim.specs.Totals.{totals_of}
+use Rattle.nm_sim.specs.Traffic.{iface_traffic_of}
+use Rattle.nm_sim.specs.declared.traffic.IfaceTraffic.{IfaceTraffic}
 use Rattle.nm_sim.specs.declared.transmitted.Transmitted.{Transmitted}
 
 -- which interfaces have kept records, and how many of those were handed out
@@ -22,12 +23,12 @@ cut All records = records
 cut Nothing records = []
 cut (One i) records = keep_where (λ r. r.iface == i) records
 
--- the records that are kept, which they are, the totals of each interface, and for how many more
+-- the records that are kept, which they are, the traffic of each interface, and for how many more
 -- records there is memory
 pub record RecordsValue : Type 0 where
   pub kept : List (Record (List ℕ))
   pub keeping : Keeping
-  pub totals : List (ℕ × ℕ)
+  pub traffic : List IfaceTraffic
   pub spare : ℕ
 
 -- they are those of this trace
@@ -35,8 +36,8 @@ pub record RecordsRepresent (t : TopologyValue) (r : RecordsValue)
     (trace : List (Record (List ℕ))) : Type 0 where
   pub kept : r.kept ≡ drop r.keeping.handed (cut r.keeping.wanted trace)
   pub few : r.keeping.handed ≤ length (cut r.keeping.wanted trace)
-  pub count : length r.totals ≡ length t.ifaces
-  pub totals : AllAt (λ i a. a ≡ totals_of i trace) r.totals
+  pub count : length r.traffic ≡ length t.ifaces
+  pub traffic : AllAt (λ i x. x ≡ iface_traffic_of i trace) r.traffic
 
 -- these fields are of this transmission: its interface, and its packet
 abbrev pub SaysTransmission : Option Transmitted → Option (ℕ × List ℕ) → Type 0

@@ -16,9 +16,11 @@ mod timeline;
 pub mod told;
 pub mod trace;
 pub mod tracer;
+pub mod traffic;
 mod transmitted;
 
 pub use part::Part;
 pub use told::{Arrived, Happened, Started, Told};
 pub use trace::one_list;
 pub use tracer::Tracer;
+pub use traffic::{Amount, IfaceTraffic};

@@ -23,6 +23,7 @@ ghost use Rattle.nm_sim.specs.Part.{busy_at, count_at, drops_at};
 ghost use Rattle.nm_sim.specs.Part.{events_counted, events_done, messages_out, waiting_at};
 ghost use Rattle.nm_sim.specs.Part.{with_arrival};
 ghost use Rattle.nm_sim.specs.Totals.{totals_at};
+ghost use Rattle.nm_sim.specs.Traffic.{iface_traffic_of};
 ghost use Rattle.nm_topology.specs.Topology.{receiving_iface};
 ghost use Rattle.std.specs.FinMap.{empty, get, insert};
 ghost use Rattle.nm_sim.specs.Devices.{DevicesRepresent};
@@ -36,6 +37,7 @@ use crate::outgoing::Outgoing;
 use crate::records::Records;
 use crate::timeline::Timeline;
 use crate::told::{Happened, Told};
+use crate::traffic::IfaceTraffic;
 use nm_base::limits::MAX_PART_STEPS;
 use nm_base::{ChanNo, Event, IfaceNo, Key, NodeNo, Origin, Packet, PartNo, Record, Time, Wanted};
 use nm_events::EventList;
@@ -535,5 +537,14 @@ impl<L: EventList> Part<L> {
         ensures { OfTheRun L.pending self.now (λ t part s. result ≡ totals_at t s.records iface) }
     {
         self.records.totals(iface)
+    }
+
+    /// The packets that arrived at an interface and those that it began to transmit, with their
+    /// octets. `None` if there is no such interface.
+    pub fn traffic(&self, iface: IfaceNo) -> Option<IfaceTraffic>
+        ensures { OfTheRun L.pending self.now (λ t part s. iface < length t.ifaces
+            → result ≡ Some (iface_traffic_of iface s.records)) }
+    {
+        self.records.traffic(iface)
     }
 }

@@ -6,16 +6,18 @@ ghost use Rattle.std.specs.Prelude.{if◌then◌else◌, is_some, true, false};
 ghost use Rattle.std.specs.Option.{option_map};
 ghost use Rattle.nm_base.specs.declared.record.Record.{Record as TraceRecord};
 ghost use Rattle.nm_model.specs.Run.{in_record, out_record};
-ghost use Rattle.nm_pcap.specs.declared.format.TheConstants.{FILE_HEADER_OCTETS};
 ghost use Rattle.nm_topology.specs.TopologyValue.{TopologyValue};
 ghost use Rattle.nm_base.specs.Wanted.{is_wanted};
 ghost use Rattle.nm_sim.specs.Records.{HasWantedCopy, RecordsRepresent, SaysTransmission};
-ghost use Rattle.nm_sim.specs.Totals.{total_after, totals_at};
+ghost use Rattle.nm_sim.specs.Totals.{totals_at};
+ghost use Rattle.nm_sim.specs.Traffic.{came_after, iface_traffic_of, traffic_after, traffic_none};
+ghost use Rattle.nm_sim.specs.Traffic.{went_after};
 
+use crate::traffic::{IfaceTraffic, count_came, count_went};
 use crate::transmitted::Transmitted;
 use bytes::Bytes;
 use nm_base::{Dir, IfaceNo, Packet, Record, Time, Wanted};
-use nm_pcap::format::{FILE_HEADER_OCTETS, RECORD_HEADER_OCTETS};
+use nm_pcap::format::FILE_HEADER_OCTETS;
 use std::alloc::{AllocError, Global};
 use std::marker::Model;
 
@@ -32,8 +34,8 @@ pub struct Records {
     blanks: usize,
     /// How many were handed out in all.
     handed: u64,
-    /// How many records each interface has, and the octets of their trace file.
-    totals: Vec<(u64, u64)>,
+    /// What came to each interface, and what it transmitted.
+    traffic: Vec<IfaceTraffic>,
     /// The packet of a blank.
     nothing: Packet,
     /// How many records were counted and not kept; it stops at the greatest `u64`.
@@ -49,7 +51,7 @@ impl Model for Records {
     ghost view = { λ r. record {
       kept = drop r.blanks r.list.items;
       keeping = record { wanted = r.wanted; handed = r.handed };
-      totals = r.totals.items;
+      traffic = r.traffic.items;
       spare = vec_capacity r.list - vec_len r.list;
     } };
 
@@ -61,42 +63,19 @@ fn no_packet(alloc: Global) -> Result<Packet, AllocError> {
     Packet::from_octets(alloc, Bytes::from_static(&[0]))
 }
 
-/// The totals after one more record, of a packet of so many octets.
-fn after_one_more(total: (u64, u64), octets: usize) -> (u64, u64)
-    requires { octets ≤ 2 ^ 16 }
-    ensures { result ≡ total_after total octets }
-{
-    let more = (RECORD_HEADER_OCTETS + octets) as u64;
-    (total.0.saturating_add(1), total.1.saturating_add(more))
-}
-
-/// Counts one more record at an interface, of a packet of so many octets.
-#[inline(always)]
-fn count_one(totals: &mut [(u64, u64)], iface: IfaceNo, octets: usize)
-    requires { octets ≤ 2 ^ 16 }
-    ensures { (i : ℕ) → slice_get totals.new i
-        ≡ option_map (λ a. if i == iface then total_after a octets else a)
-        (slice_get totals.old i) }
-{
-    let place = iface.index();
-    if place < totals.len() {
-        totals[place] = after_one_more(totals[place], octets);
-    }
-}
-
 impl Records {
     /// No records, for so many interfaces; those of `wanted` will be kept.
     pub fn new(alloc: Global, ifaces: usize, wanted: Wanted) -> Result<Self, AllocError>
         ensures kept { IfOk result (λ r. r.kept ≡ []) }
         ensures keeping { IfOk result (λ r. r.keeping ≡ record { wanted = wanted; handed = 0 }) }
-        ensures totals { IfOk result (λ r. r.totals ≡ replicate ifaces (0, FILE_HEADER_OCTETS)) }
+        ensures traffic { IfOk result (λ r. r.traffic ≡ replicate ifaces traffic_none) }
     {
         Ok(Records {
             wanted,
             list: Vec::new(alloc),
             blanks: 0,
             handed: 0,
-            totals: vec![in alloc; (0, FILE_HEADER_OCTETS as u64); ifaces]?,
+            traffic: vec![in alloc; IfaceTraffic::none(); ifaces]?,
             nothing: no_packet(alloc)?,
             passed: 0,
         })
@@ -131,30 +110,46 @@ impl Records {
         ensures kept { self.new.kept ≡ self.old.kept ++ «record» ∷ [] }
         ensures keeping { self.new.keeping ≡ self.old.keeping }
 
-        // The totals of its interface rise, and no other.
-        ensures count { length self.new.totals ≡ length self.old.totals }
-        ensures totals { (i : ℕ) → slice_get self.new.totals i
-            ≡ option_map
-            (λ a. if i == «record».iface then total_after a (length «record».packet) else a)
-            (slice_get self.old.totals i) }
+        // The traffic of its interface rises, and no other.
+        ensures count { length self.new.traffic ≡ length self.old.traffic }
+        ensures traffic { (i : ℕ) → slice_get self.new.traffic i
+            ≡ option_map (λ x. if i == «record».iface then traffic_after x «record» else x)
+            (slice_get self.old.traffic i) }
 
         // It takes one place.
         ensures spare { self.old.spare ≤ self.new.spare + 1 }
     {
-        count_one(&mut self.totals, record.iface, record.packet.octet_count());
+        let octets = record.packet.octet_count();
+        match record.dir {
+            Dir::In => count_came(&mut self.traffic, record.iface, octets),
+            Dir::Out => count_went(&mut self.traffic, record.iface, octets),
+        }
         self.list.push(record).unwrap();
     }
 
-    /// One more record that is not kept, of a packet of so many octets: it is counted.
+    /// A packet of so many octets came, and its record is not kept: it is counted.
     #[inline(always)]
-    fn pass_over(&mut self, iface: IfaceNo, octets: u16)
-        ensures same { self.new ≡ record self.old { totals = self.new.totals } }
-        ensures count { length self.new.totals ≡ length self.old.totals }
-        ensures totals { (i : ℕ) → slice_get self.new.totals i
-            ≡ option_map (λ a. if i == iface then total_after a octets else a)
-            (slice_get self.old.totals i) }
+    fn pass_came(&mut self, iface: IfaceNo, octets: u16)
+        ensures same { self.new ≡ record self.old { traffic = self.new.traffic } }
+        ensures count { length self.new.traffic ≡ length self.old.traffic }
+        ensures traffic { (i : ℕ) → slice_get self.new.traffic i
+            ≡ option_map (λ x. if i == iface then came_after x octets else x)
+            (slice_get self.old.traffic i) }
     {
-        count_one(&mut self.totals, iface, usize::from(octets));
+        count_came(&mut self.traffic, iface, usize::from(octets));
+        self.passed = self.passed.saturating_add(1);
+    }
+
+    /// A packet of so many octets went, and its record is not kept: it is counted.
+    #[inline(always)]
+    fn pass_went(&mut self, iface: IfaceNo, octets: u16)
+        ensures same { self.new ≡ record self.old { traffic = self.new.traffic } }
+        ensures count { length self.new.traffic ≡ length self.old.traffic }
+        ensures traffic { (i : ℕ) → slice_get self.new.traffic i
+            ≡ option_map (λ x. if i == iface then went_after x octets else x)
+            (slice_get self.old.traffic i) }
+    {
+        count_went(&mut self.traffic, iface, usize::from(octets));
         self.passed = self.passed.saturating_add(1);
     }
 
@@ -168,7 +163,7 @@ impl Records {
         ensures keeping { self.new.keeping ≡ self.old.keeping }
         ensures spare { self.new.spare ≡ self.old.spare }
     {
-        self.pass_over(iface, octets);
+        self.pass_came(iface, octets);
     }
 
     /// A packet arrived; its record is kept.
@@ -224,7 +219,7 @@ impl Records {
             copy,
         } = started;
         if !self.wants(iface) {
-            self.pass_over(iface, octets);
+            self.pass_went(iface, octets);
             return;
         }
         if let Some(packet) = copy {
@@ -320,8 +315,8 @@ impl Records {
           handed = self.old.keeping.handed + 1;
         } }
 
-        // Totals stay, and no place is lost.
-        ensures totals { self.new.totals ≡ self.old.totals }
+        // What was counted stays, and no place is lost.
+        ensures traffic { self.new.traffic ≡ self.old.traffic }
         ensures spare { self.old.spare ≤ self.new.spare }
     {
         self.handed += 1;
@@ -378,10 +373,26 @@ impl Records {
         ensures { (t : TopologyValue) (trace : List (TraceRecord (List ℕ)))
             → RecordsRepresent t self.now trace → result ≡ totals_at t trace iface }
     {
-        match self.totals.get(iface.index()) {
-            Some(total) => *total,
+        match self.traffic_at(iface) {
+            Some(traffic) => traffic.totals(),
             None => (0, FILE_HEADER_OCTETS as u64),
         }
+    }
+
+    /// What was counted of an interface.
+    fn traffic_at(&self, iface: IfaceNo) -> Option<IfaceTraffic>
+        ensures { result ≡ slice_get self.now.traffic iface }
+    {
+        self.traffic.get(iface.index()).copied()
+    }
+
+    /// What came to an interface and what it transmitted. `None` if there is no such interface.
+    pub fn traffic(&self, iface: IfaceNo) -> Option<IfaceTraffic>
+        ensures { (t : TopologyValue) (trace : List (TraceRecord (List ℕ)))
+            → RecordsRepresent t self.now trace → iface < length t.ifaces
+            → result ≡ Some (iface_traffic_of iface trace) }
+    {
+        self.traffic_at(iface)
     }
 
     /// The trace so far without the records that were handed out: those that are kept.

@@ -33,14 +33,3 @@ fn a_line_of_progress(rt: HostRuntime) -> Result<(), Fail> {
         "100% simulated, 2000 packet-hops/s, 0 s left, partition 3 last",
     )
 }
-
-#[test]
-fn one_record_of_a_thousand_is_noted(rt: HostRuntime) {
-    let progress = Progress::new();
-    for event in 0..1_500u64 {
-        progress.note_records(2 * event, 2, Time::from_nanoseconds(event));
-    }
-    assert!(rt; progress.look().records == 2_048);
-    assert!(rt; progress.look().time == 1_024);
-    assert!(rt; progress.look().last == None);
-}

@@ -28,7 +28,7 @@ pub step_and_tell-requires-clause-represents : goal.step_and_tell-requires-claus
 step_and_tell-requires-clause-represents c =
     let t = c.args.topology.now in
     let m = subst (IsMeasuring t c.args.self.now.part.steps c.args.until) (sym c.self-in-loop-done.view_is) c.loop-done.invariant.measuring in
-    (None, one_list (net_of t) m.events, m.counted.represents)
+    (None, one_list (net_of t) m.events, m.whole.represents)
 
 pub see-requires : goal.see-requires
 see-requires c =
@@ -38,7 +38,7 @@ see-requires c =
     let s = one_list (net_of t) m.events in
     let told = c.in-Some.told in
     let more = subst (λ o. SteppedAndTold pending_of t (record { part = None; state = s; until = c.args.until }) c.self-in-loop-done.inside.part c.step_and_tell.new.self (Ok o)) c.in-Some.is
-    (c.in_ok-told.ensures.step None s m.counted.represents) in
+    (c.in_ok-told.ensures.step None s m.whole.represents) in
     place_in t first c.args.until (the_view c.self-in-loop-done.inside) m c.step_and_tell.new.self told.key told.happened more.0 more.1 more.2 more.3
 
 pub loop-done-preserved : goal.loop-done-preserved
@@ -51,7 +51,7 @@ loop-done-preserved c =
     let inside = the_view c.self-in-loop-done.inside in
     let q = c.step_and_tell.new.self in
     let more = subst (λ o. SteppedAndTold pending_of t (record { part = None; state = s; until = c.args.until }) c.self-in-loop-done.inside.part q (Ok o)) c.in-Some.is
-    (c.in_ok-told.ensures.step None s m.counted.represents) in
+    (c.in_ok-told.ensures.step None s m.whole.represents) in
     let next = next_of t first c.args.until inside m q told.key told.happened more.0 more.1 more.2 more.3 c.requires.before in
     let one : q.steps ≡ c.self-in-loop-done.inside.part.steps + 1 = c.in_ok-told.ensures.steps ∙ ap (λ o. c.self-in-loop-done.inside.part.steps + events_told (Ok o)) c.in-Some.is in
     let new = c.see.new.self in
@@ -59,7 +59,7 @@ loop-done-preserved c =
     record {
       measuring = subst (λ p. IsMeasuring t first c.args.until (record new { part = p })) (sym c.see.ensures.part)
           (measuring_next t first c.args.until inside m q told.key told.happened more.0 more.1 more.2 more.3 new
-          (c.in_ok-see.ensures.traffic t) c.step_and_tell.ensures.keeping one (c.in_ok-see.ensures.seen first m.events m.seen next) c.in_ok-see.ensures.sent
+          c.step_and_tell.ensures.keeping one (c.in_ok-see.ensures.seen first m.events m.seen next) c.in_ok-see.ensures.sent
           (c.in_ok-see.ensures.watched m.events (omega (arith, few, one)) m.sent next m.watched) (c.in_ok-see.ensures.starts first m.events next m.starts));
       followed = λ j taken old.
           let so_far = subst (λ (v : MeasuredValue). IsFollowed t j v.part.steps taken v.courses) (sym c.self-in-loop-done.view_is) (c.loop-done.invariant.followed j taken old) in
@@ -76,13 +76,12 @@ returns-in_default-clause-before c =
     let s = one_list (net_of t) m.events in
     let old = c.self-in-loop-done.inside.part in
     let same = subst (λ o. SteppedAndTold pending_of t (record { part = None; state = s; until = c.args.until }) old c.step_and_tell.new.self (Ok o)) c.in_default.is
-    (c.in_ok-told.ensures.step None s m.counted.represents) in
+    (c.in_ok-told.ensures.step None s m.whole.represents) in
     record {
       events = m.events;
       over = record { over = same.1; first = m.early };
-      represents = subst (λ q. Represents pending_of t None q s) (sym same.0) m.counted.represents;
-      traffic = m.counted.counted;
-      keeps = subst KeepsNone (sym same.0) m.counted.keeps;
+      represents = subst (λ q. Represents pending_of t None q s) (sym same.0) m.whole.represents;
+      keeps = subst KeepsNone (sym same.0) m.whole.keeps;
       within = c.requires.before;
       stops = c.accepted_topologies_are_in_order.ensures.limits.greatest_stop;
       steps = ap (λ q. q.steps) same.0 ∙ m.steps;
@@ -100,6 +99,6 @@ returns-in_default-clause-followed c = λ j taken was.
     let m = subst (IsMeasuring t first c.args.until) (sym c.self-in-loop-done.view_is) c.loop-done.invariant.measuring in
     let old = c.self-in-loop-done.inside.part in
     let same = subst (λ o. SteppedAndTold pending_of t (record { part = None; state = one_list (net_of t) m.events; until = c.args.until }) old c.step_and_tell.new.self (Ok o)) c.in_default.is
-    (c.in_ok-told.ensures.step None (one_list (net_of t) m.events) m.counted.represents) in
+    (c.in_ok-told.ensures.step None (one_list (net_of t) m.events) m.whole.represents) in
     let so_far = subst (λ (v : MeasuredValue). IsFollowed t j v.part.steps taken v.courses) (sym c.self-in-loop-done.view_is) (c.loop-done.invariant.followed j taken was) in
     subst (λ k. IsFollowed t j k taken c.self-in-loop-done.inside.watched.courses) (sym (ap (λ q. q.steps) same.0)) so_far

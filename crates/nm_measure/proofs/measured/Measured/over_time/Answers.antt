@@ -15,15 +15,15 @@ returns-in-Some-clause-busy c = rw (← c.self.view_is) (λ t m. c.busy_before.e
 
 pub returns-in-None-clause-waited : goal.returns-in-None-clause-waited
 returns-in-None-clause-waited c =
-    let there = subst (λ (v : MeasuredValue). c.args.iface < length v.traffic) (sym c.self.view_is) c.requires.there in
-    rw (← c.self.view_is) (λ t m. absurd (missing t m.first m.events c.args.iface c.self.inside.interfaces.all.items m.seen (let n = m.traffic.count in omega (arith, n, there)) (sym c.get.ensures ∙ ap (option_map (λ x. x.now)) c.in-None.is)))
+    let there = subst (λ (v : MeasuredValue). c.args.iface < length v.seen) (sym c.self.view_is) c.requires.there in
+    rw (← c.self.view_is) (λ t m. absurd (missing t m.first m.events c.args.iface c.self.inside.interfaces.all.items m.seen (let n = m.seen.count in omega (arith, n, there)) (sym c.get.ensures ∙ ap (option_map (λ x. x.now)) c.in-None.is)))
 
 pub returns-in-None-clause-octets : goal.returns-in-None-clause-octets
 returns-in-None-clause-octets c =
-    let there = subst (λ (v : MeasuredValue). c.args.iface < length v.traffic) (sym c.self.view_is) c.requires.there in
-    rw (← c.self.view_is) (λ t m. absurd (missing t m.first m.events c.args.iface c.self.inside.interfaces.all.items m.seen (let n = m.traffic.count in omega (arith, n, there)) (sym c.get.ensures ∙ ap (option_map (λ x. x.now)) c.in-None.is)))
+    let there = subst (λ (v : MeasuredValue). c.args.iface < length v.seen) (sym c.self.view_is) c.requires.there in
+    rw (← c.self.view_is) (λ t m. absurd (missing t m.first m.events c.args.iface c.self.inside.interfaces.all.items m.seen (let n = m.seen.count in omega (arith, n, there)) (sym c.get.ensures ∙ ap (option_map (λ x. x.now)) c.in-None.is)))
 
 pub returns-in-None-clause-busy : goal.returns-in-None-clause-busy
 returns-in-None-clause-busy c =
-    let there = subst (λ (v : MeasuredValue). c.args.iface < length v.traffic) (sym c.self.view_is) c.requires.there in
-    rw (← c.self.view_is) (λ t m. absurd (missing t m.first m.events c.args.iface c.self.inside.interfaces.all.items m.seen (let n = m.traffic.count in omega (arith, n, there)) (sym c.get.ensures ∙ ap (option_map (λ x. x.now)) c.in-None.is)))
+    let there = subst (λ (v : MeasuredValue). c.args.iface < length v.seen) (sym c.self.view_is) c.requires.there in
+    rw (← c.self.view_is) (λ t m. absurd (missing t m.first m.events c.args.iface c.self.inside.interfaces.all.items m.seen (let n = m.seen.count in omega (arith, n, there)) (sym c.get.ensures ∙ ap (option_map (λ x. x.now)) c.in-None.is)))

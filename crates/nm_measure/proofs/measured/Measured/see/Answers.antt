@@ -1,14 +1,9 @@
 use Rattle.std.proofs.Common.{arith, ◌≡◌, ◌+◌, ◌<◌, ◌^◌, sym, subst}
-use Rattle.nm_measure.specs.Amounts.{AreTraffic}
 use Rattle.nm_measure.specs.Followed.{IsFollowed}
 use Rattle.nm_measure.specs.Interfaces.{AreSeen, IsNext}
 use Rattle.nm_measure.specs.Measured.{HasStarts, HasWatched, MeasuredValue}
 use Rattle.nm_measure.specs.Sent.{AreSent}
 use Rattle.nm_measure.proofs.measured.Measured.see.Goals as goal
-
-pub returns-clause-traffic : goal.returns-clause-traffic
-returns-clause-traffic c = λ t before time came went is was h.
-    c.count.ensures t before time came went is was (subst (λ (v : MeasuredValue). AreTraffic t v.traffic before) (sym c.self.view_is) h)
 
 pub returns-clause-seen : goal.returns-clause-seen
 returns-clause-seen c = λ first n seen next.

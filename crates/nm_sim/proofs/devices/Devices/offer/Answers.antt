@@ -1,4 +1,4 @@
-use Rattle.std.proofs.Common.{None, sym, subst}
+use Rattle.std.proofs.Common.{sym, subst}
 use Rattle.nm_forward.specs.Reacting.{IsSent, PassesUnwanted}
 use Rattle.std.specs.Option.{IfSome}
 use Rattle.nm_sim.specs.Effects.{IsCopied, Sends}

@@ -5,7 +5,7 @@ use Rattle.nm_base.specs.Wanted.{is_wanted}
 use Rattle.nm_iface.specs.PortValue.{PortValue}
 use Rattle.nm_iface.specs.Offers.{IsTransmission, transmitted_packet}
 use Rattle.nm_sim.specs.contracts.devices.Devices.{the_view}
-use Rattle.nm_sim.specs.Effects.{IsCopied, Sends}
+use Rattle.nm_sim.specs.Effects.{IsCopied}
 use Rattle.nm_sim.specs.Devices.{DevicesValue}
 use Rattle.nm_sim.specs.Tables.{AllSome, IsMember}
 use Rattle.nm_sim.proofs.Sendings.{copied_at, sends_by}

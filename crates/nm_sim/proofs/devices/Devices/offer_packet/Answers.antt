@@ -4,7 +4,7 @@ use Rattle.std.proofs.lemmas.Option.{slice_get_read}
 use Rattle.nm_iface.specs.PortValue.{PortValue}
 use Rattle.nm_iface.specs.Offers.{HasCopy, IsTransmission, transmitted_packet}
 use Rattle.nm_sim.specs.contracts.devices.Devices.{the_view}
-use Rattle.nm_sim.specs.Effects.{IsCopied, Sends}
+use Rattle.nm_sim.specs.Effects.{IsCopied}
 use Rattle.nm_sim.specs.Devices.{DevicesValue}
 use Rattle.nm_sim.specs.Tables.{AllSome, IsMember}
 use Rattle.nm_sim.proofs.Sendings.{copied_at, sends_by}

@@ -1,18 +1,13 @@
--- How many packets arrived at an interface and how many it transmitted, with their octets, and how
--- many were dropped at its queue.
-use Rattle.std.specs.Prelude.{◌≡◌, ℕ, ◌+◌, ◌==◌, ◌&&◌, Bool, true, false, not, if◌then◌else◌, List, length, sum_by, slice_get, Option, None, Some}
+-- How many packets arrived at an interface and how many it transmitted, with their octets.
+use Rattle.std.specs.Prelude.{ℕ, ◌+◌, ◌*◌, ◌==◌, ◌&&◌, Bool, true, false, not, if◌then◌else◌, List, length, sum_by}
 use Rattle.nm_base.specs.Count.{saturated}
 use Rattle.nm_base.specs.declared.record.Dir.{Dir}
 use Rattle.nm_base.specs.declared.record.Dir.TheVariants.{In, Out}
 use Rattle.nm_base.specs.declared.record.Record.{Record}
-use Rattle.nm_forward.specs.State.{NodeStateValue}
 use Rattle.nm_model.specs.Lists.{keep_where}
-use Rattle.nm_model.specs.Run.{State}
-use Rattle.nm_sim.specs.declared.told.Arrived.{Arrived}
-use Rattle.nm_sim.specs.declared.told.Started.{Started}
-use Rattle.nm_topology.specs.TopologyValue.{TopologyValue}
-use Rattle.nm_measure.specs.declared.amounts.Amount.{Amount}
-use Rattle.nm_measure.specs.declared.amounts.IfaceTraffic.{IfaceTraffic}
+use Rattle.nm_pcap.specs.declared.format.TheConstants.{FILE_HEADER_OCTETS, RECORD_HEADER_OCTETS}
+use Rattle.nm_sim.specs.declared.traffic.Amount.{Amount}
+use Rattle.nm_sim.specs.declared.traffic.IfaceTraffic.{IfaceTraffic}
 
 abbrev pub is_in : Dir → Bool
 is_in In = true
@@ -39,6 +34,12 @@ iface_traffic_of i records = record {
   went = amount_of (went_from i) records;
 }
 
+abbrev pub traffic_none : IfaceTraffic
+traffic_none = record {
+  came = record { packets = 0; octets = 0 };
+  went = record { packets = 0; octets = 0 };
+}
+
 -- with one packet more, and with one record more at the interface
 abbrev pub amount_after : Amount → ℕ → Amount
 amount_after a octets = record {
@@ -56,26 +57,9 @@ abbrev pub traffic_after : IfaceTraffic → Record (List ℕ) → IfaceTraffic
 traffic_after x r =
     if is_in r.dir then came_after x (length r.packet) else went_after x (length r.packet)
 
--- a packet that came to an interface, or went from one, as it is told
-abbrev pub IsCame : Option (ℕ × List ℕ) → Option Arrived → Type 0
-IsCame None None = Unit {0}
-IsCame None (Some a) = ⊥
-IsCame (Some p) None = ⊥
-IsCame (Some p) (Some a) = (a.iface ≡ p.0) × (a.octets ≡ length p.1)
-
-abbrev pub IsWent : Option (ℕ × List ℕ) → Option Started → Type 0
-IsWent None None = Unit {0}
-IsWent None (Some s) = ⊥
-IsWent (Some p) None = ⊥
-IsWent (Some p) (Some s) = (s.iface ≡ p.0) × (s.octets ≡ length p.1)
-
--- each interface's, by number
-pub record AreTraffic (t : TopologyValue) (found : List IfaceTraffic)
-    (records : List (Record (List ℕ))) : Type 0 where
-  pub count : length found ≡ length t.ifaces
-  pub each : (i : ℕ) (x : IfaceTraffic) → slice_get found i ≡ Some x
-      → x ≡ iface_traffic_of i records
-
--- how many packets were dropped at the queue of an interface
-abbrev pub drops_of : ℕ → State (List ℕ) NodeStateValue → ℕ
-drops_of i s = saturated (s.port i).dropped
+-- how many records these packets have, and the length of their trace file
+abbrev pub totals_from : IfaceTraffic → ℕ × ℕ
+totals_from x =
+    let records = saturated (x.came.packets + x.went.packets) in
+    let octets = saturated (x.came.octets + x.went.octets) in
+    (records, saturated (records * RECORD_HEADER_OCTETS + octets + FILE_HEADER_OCTETS))
