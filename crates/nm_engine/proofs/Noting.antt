@@ -1,5 +1,5 @@
 -- Ranges of messages that are noted one after another.
-use Rattle.std.proofs.Common.{◌≡◌, List, [], ◌∷◌, ◌++◌, refl, subst, sym}
+use Rattle.std.proofs.Common.{List, [], ◌∷◌, ◌++◌, refl, subst}
 use Rattle.nm_engine.specs.Given.{NotesAll, NotesRange}
 use Rattle.nm_engine.specs.declared.given.MessageRange.{MessageRange}
 

@@ -1,5 +1,5 @@
 -- The first frame of a peer that connected names that peer and makes the session.
-use Rattle.std.specs.Prelude.{ℕ, ◌<◌, nat_eq, nat_lt, ◌&&◌, length, Option, Some, None, Result, Ok, Err, if◌then◌else◌}
+use Rattle.std.specs.Prelude.{ℕ, ◌<◌, nat_eq, nat_lt, ◌&&◌, length, Option, Some, None, Result, Err, if◌then◌else◌}
 use Rattle.std.specs.Cmp.Lexicographic.{pointwise}
 use Rattle.nm_topology.specs.TopologyValue.{TopologyValue}
 use Rattle.nm_frames.specs.declared.frame.Frame.{Frame}

@@ -1,4 +1,4 @@
-use Rattle.std.proofs.Common.{◌≡◌, ◌-◌, ◌≤◌, List, [], length, Option}
+use Rattle.std.proofs.Common.{◌-◌, ◌≤◌, [], length, Option}
 use Rattle.nm_engine.specs.Giving.{GivesFrames}
 use Rattle.nm_engine.specs.Acceptor.{AcceptorValue}
 use Rattle.nm_engine.specs.Passes.{owner_if, reached}

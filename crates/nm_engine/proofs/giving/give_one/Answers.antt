@@ -1,8 +1,8 @@
-use Rattle.std.proofs.Common.{◌≡◌, ◌++◌, ℕ, List, [], Option, Some, None, Ok, ◌∙◌, ap, refl, sym, subst, append-nil}
-use Rattle.std.specs.Prelude.{IfOk, OnErr}
+use Rattle.std.proofs.Common.{◌≡◌, ◌++◌, [], Option, Some, Ok, ◌∙◌, ap, sym, subst, append-nil}
+use Rattle.std.specs.Prelude.{OnErr}
 use Rattle.nm_frames.specs.Frame.{frame_octets}
 use Rattle.nm_frames.specs.Session.{SessionValue}
-use Rattle.nm_engine.specs.Giving.{GivesFrames, OwesNone}
+use Rattle.nm_engine.specs.Giving.{GivesFrames}
 use Rattle.nm_engine.specs.Passes.{at, counted_by, owner_if}
 use Rattle.nm_engine.proofs.Givings.{gives_none, gives_one}
 use Rattle.nm_engine.proofs.Passes.{is_met, looked}

@@ -1,4 +1,4 @@
-use Rattle.std.proofs.Common.{◌≡◌, length, arith, true, false, inl, inr, refl, sym, ◌∙◌, true≢false}
+use Rattle.std.proofs.Common.{◌≡◌, length, arith, inl, inr, refl, sym, ◌∙◌, true≢false}
 use Rattle.nm_base.specs.declared.limits.TheConstants.{MAX_READ_OCTETS}
 use Rattle.nm_engine.proofs.Readings.{came_none, read_none, read_some}
 use Rattle.nm_engine.proofs.reading.read_in.Goals as goal

@@ -1,4 +1,4 @@
-use Rattle.std.proofs.Common.{◌≡◌, ℕ, suc, Option, length, take, drop, map, rules, subst, sym, Ok, ◌∙◌}
+use Rattle.std.proofs.Common.{ℕ, suc, Option, length, take, drop, map, rules, subst, sym, Ok, ◌∙◌}
 use Rattle.std.proofs.lemmas.List.{length_push}
 use Rattle.std.proofs.lemmas.Iterator.Consumers.{YieldsList-turn}
 use Rattle.std.proofs.lemmas.Iterator.Adapters.{YieldsList-from_vec}

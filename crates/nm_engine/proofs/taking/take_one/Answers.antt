@@ -1,4 +1,4 @@
-use Rattle.std.proofs.Common.{sym, subst, refl, Option, Some}
+use Rattle.std.proofs.Common.{sym, subst, Option, Some}
 use Rattle.nm_frames.specs.Session.{SessionValue}
 use Rattle.nm_engine.specs.Passes.{at, counted_by, owner_if}
 use Rattle.nm_engine.specs.Taking.{TakesOne}

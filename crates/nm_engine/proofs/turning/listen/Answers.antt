@@ -1,8 +1,8 @@
-use Rattle.std.proofs.Common.{List, ℕ, length, false, subst, sym}
+use Rattle.std.proofs.Common.{length, false, subst, sym}
 use Rattle.std.proofs.lemmas.Result.{err_from_is_err_and}
 use Rattle.nm_engine.specs.declared.answer.Turn.{Turn}
 use Rattle.nm_engine.specs.Passes.{by_pass}
-use Rattle.nm_engine.specs.Turn.{HasEnded, Heard, Hears, link_of}
+use Rattle.nm_engine.specs.Turn.{Heard, Hears, link_of}
 use Rattle.nm_engine.proofs.Turns.{says_well}
 use Rattle.nm_engine.proofs.turning.listen.Goals as goal
 

@@ -1,8 +1,8 @@
-use Rattle.std.proofs.Common.{List, ℕ, false, refl, subst, sym}
+use Rattle.std.proofs.Common.{false, refl, subst, sym}
 use Rattle.std.proofs.lemmas.Result.{err_from_is_err_and}
 use Rattle.nm_engine.specs.declared.answer.Turn.{Turn}
 use Rattle.nm_engine.specs.Passes.{counted_by, owner_if}
-use Rattle.nm_engine.specs.Turn.{HasEnded, Turns, link_of}
+use Rattle.nm_engine.specs.Turn.{Turns, link_of}
 use Rattle.nm_engine.proofs.Turns.{breaks_give, breaks_write, turned_well}
 use Rattle.nm_engine.proofs.turning.work.Goals as goal
 

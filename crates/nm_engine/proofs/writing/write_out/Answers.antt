@@ -1,4 +1,4 @@
-use Rattle.std.proofs.Common.{◌≡◌, ℕ, List, ap, refl, subst}
+use Rattle.std.proofs.Common.{ℕ, List, ap, refl, subst}
 use Rattle.nm_base.specs.Wire.{Goes}
 use Rattle.nm_engine.proofs.Writings.{wrote_none, wrote_some}
 use Rattle.nm_engine.proofs.writing.write_out.Goals as goal

@@ -1,4 +1,4 @@
-use Rattle.std.proofs.Common.{Bool, false, subst, sym}
+use Rattle.std.proofs.Common.{Bool, subst, sym}
 use Rattle.nm_engine.specs.Link.{LinkValue}
 use Rattle.nm_engine.specs.Passes.{by_pass}
 use Rattle.nm_engine.specs.Turn.{Hears, link_of}
