@@ -1,6 +1,6 @@
 -- What a pool's done jobs say, as lists of numbers.
 use Rattle.std.proofs.Common.{◌≡◌, ℕ, zero, suc, ◌+◌, ◌-◌, ◌<◌, ◌≤◌, ◌^◌, take, List, [], ◌∷◌, ◌++◌, length, map, get_or, Bool, true, false, cond, refl, sym, ap, ◌∙◌, subst, arith}
-use Rattle.std.specs.Prelude.{slice_get, slice_index, slice_set, Option, Some, None, Result}
+use Rattle.std.specs.Prelude.{slice_get, slice_index, slice_set, Option, Some, None, Result, Ok}
 use Rattle.std.specs.declared.vec.Vec.{Vec}
 use Rattle.std.proofs.lemmas.List.{map-append, length-map, take_more}
 use Rattle.std.proofs.Math.Bridge.{le_prop}
@@ -19,7 +19,7 @@ use Rattle.nm_book.specs.declared.running.Ran.{Ran}
 use Rattle.nm_book.specs.declared.running.Ran.TheVariants.{All, Limit, Memory}
 use Rattle.nm_shared.specs.Counted.{Rises}
 use Rattle.nm_shared.specs.Known.{ran}
-use Rattle.nm_shared.specs.Pool.{IsRunAnswer, done_by, put_in_places}
+use Rattle.nm_shared.specs.Pool.{HadMemory, IsRunAnswer, done_by, put_in_places}
 
 -- reports that are put behind others
 pub put_behind : {A : Type 0} (place_of : A → ℕ) (slots : List (Option A)) (xs ys : List A) → put_in_places place_of (put_in_places place_of slots xs) ys ≡ put_in_places place_of slots (xs ++ ys)
@@ -38,6 +38,15 @@ pub done_none : {A Y E : Type 0} (results : List (Result (Vec A Y) E)) → lengt
 unfolding done_by
 done_none [] none = refl
 done_none (r ∷ rs) none = absurd (omega arith)
+
+pub had_memory_none : {A Y E : Type 0} (results : List (Result (Vec A Y) E)) → length results ≡ 0 → HadMemory results
+unfolding HadMemory
+had_memory_none [] none = tt
+had_memory_none (r ∷ rs) none = absurd (omega arith)
+
+pub had_memory_more : {A Y E : Type 0} (done : Vec A Y) (results : List (Result (Vec A Y) E)) → HadMemory results → HadMemory (Ok done ∷ results)
+unfolding HadMemory
+had_memory_more done results h = h
 
 pub index_map : {A : Type 0} (f : A → ℕ) (xs : List A) (k : ℕ) (d : A) (ns : List ℕ) → ns ≡ map f xs → k < length xs → slice_index ns k ≡ f (get_or xs k d)
 index_map f xs k d ns e lt = ap (λ l. slice_index l k) e ∙ at f xs k d lt

@@ -22,6 +22,12 @@ done_by [] = []
 done_by (Ok done ∷ more) = done.items ++ done_by more
 done_by (Err e ∷ more) = done_by more
 
+-- no thread was refused memory
+unfoldable pub HadMemory : {A Y E : Type 0} → List (Result (Vec A Y) E) → Type 0
+HadMemory [] = Unit {0}
+HadMemory (Ok done ∷ more) = HadMemory more
+HadMemory (Err e ∷ more) = ⊥
+
 -- each answer is one to the limit of the job at its place
 abbrev pub AreAnswers : List ℕ → List Ran → Type 0
 AreAnswers limits answers =

@@ -3,7 +3,7 @@
 ghost use Rattle.std.specs.Prelude.{◌≡◌, ℕ, ◌<◌, ◌≤◌, length, map, slice_index, vec_len, IfOk, All};
 ghost use Rattle.std.specs.Prelude.{◌++◌, IfSome, Ok, Some, slice_get, slice_set};
 ghost use Rattle.nm_shared.specs.Known.{ran};
-ghost use Rattle.nm_shared.specs.Pool.{AreAnswers, done_by, put_in_places};
+ghost use Rattle.nm_shared.specs.Pool.{AreAnswers, HadMemory, done_by, put_in_places};
 
 use super::work::{Done, Jobs, run_one};
 use super::{BookPass, Gate, Job, PoolReport};
@@ -57,6 +57,7 @@ pub(super) fn gathered<C: Counts, J: Jobs>(
     ensures length { IfOk result (λ s. vec_len s ≡ length J.books) }
     ensures put { IfOk result (λ s. s.items ≡ put_in_places (λ d. d.place) slots.items
         (done_by results.items ++ fed.items)) }
+    ensures memory { IfOk result (λ _. HadMemory results.items) }
 {
     let mut slots = slots;
     for result in results {
