@@ -66,13 +66,12 @@ module _ {P N : Type 0} (net : Net P N) (amount : List P → ℕ) (i : ℕ) wher
 
 module _ {N : Type 0} (net : Net (List ℕ) N) (i : ℕ) where
   pub queue_first : IsQueue net i 0 0 queue_empty
-  queue_first = record { packets = level_first net in_packets i refl; octets = level_first net in_octets i refl; dropped = omega arith }
+  queue_first = record { packets = level_first net in_packets i refl; octets = level_first net in_octets i refl }
 
   pub queue_anew : (first n : ℕ) (q : Queue) → IsQueue net i first n q → IsQueue net i n n (queue_begun q)
   queue_anew first n q h = record {
     packets = level_anew net in_packets i first n q.packets h.packets;
     octets = level_anew net in_octets i first n q.octets h.octets;
-    dropped = h.dropped;
   }
 
   module _ (first n : ℕ) (since : first ≤ n) (q : Queue) (h : IsQueue net i first n q) (rises : time_after net n ≤ time_after net (suc n)) where
@@ -81,14 +80,12 @@ module _ {N : Type 0} (net : Net (List ℕ) N) (i : ℕ) where
     queue_same same = record {
       packets = level_same net in_packets i first n since q.packets h.packets rises (ap (λ (w : Waits). w.packets) same);
       octets = level_same net in_octets i first n since q.octets h.octets rises (ap (λ (w : Waits). w.octets) same);
-      dropped = h.dropped ∙ sym (ap (λ (w : Waits). w.dropped) same);
     }
 
-    -- one after which this waits, and was dropped
+    -- one after which this waits
     pub queue_on : (waits : Waits) (now : ℕ) → waits ≡ waits_at ((one_list net (suc n)).port i) → now ≡ time_after net (suc n)
         → IsQueue net i first (suc n) (queue_later q waits now)
     queue_on waits now is at = record {
       packets = level_on net in_packets i first n since q.packets h.packets rises waits.packets now (ap (λ (w : Waits). w.packets) is) at;
       octets = level_on net in_octets i first n since q.octets h.octets rises waits.octets now (ap (λ (w : Waits). w.octets) is) at;
-      dropped = ap (λ (w : Waits). w.dropped) is;
     }

@@ -1,17 +1,13 @@
 -- What a part says of an event is what happened in it.
-use Rattle.std.proofs.Common.{◌≡◌, ℕ, suc, List, length, Option, Some, None, refl, sym, ap, ◌∙◌, subst}
+use Rattle.std.proofs.Common.{◌≡◌, ℕ, List, length, Option, Some, None, refl, sym, ap, ◌∙◌}
 use Rattle.nm_base.specs.declared.event.Event.{Event}
-use Rattle.nm_base.specs.declared.event.Event.TheVariants.{Delivery, Completion}
-use Rattle.nm_base.specs.declared.event.Origin.TheVariants.{Arrival, Source}
 use Rattle.nm_base.specs.declared.key.Key.{Key}
 use Rattle.nm_base.specs.declared.wanted.Wanted.{Wanted}
 use Rattle.nm_forward.specs.State.{NodeStateValue}
 use Rattle.nm_model.proofs.ListLemmas.{not_some, some_inj}
-use Rattle.nm_model.specs.Network.{Net}
-use Rattle.nm_model.specs.Port.{Port}
-use Rattle.nm_model.specs.Run.{State, by_source, effect, sent_on}
+use Rattle.nm_model.specs.Run.{State, effect}
 use Rattle.nm_sim.specs.Network.{net_of}
-use Rattle.nm_sim.specs.Told.{Happens, arrived_in, started_octets}
+use Rattle.nm_sim.specs.Told.{Happens, started_octets}
 use Rattle.nm_sim.specs.declared.told.Started.{Started}
 use Rattle.nm_sim.specs.declared.told.Happened.{Happened}
 use Rattle.nm_topology.specs.TopologyValue.{TopologyValue}

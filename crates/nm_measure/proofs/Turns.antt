@@ -1,5 +1,5 @@
 -- What one event changes at the interfaces of a network.
-use Rattle.std.proofs.Common.{◌≡◌, ◌≢◌, ℕ, suc, ◌≤◌, Bool, true, false, cond, List, [], ◌∷◌, ◌++◌, Option, Some, None, refl, sym, ap, ◌∙◌, subst, arith, ⊎_elim, ◌⊎◌, inl, inr, zero}
+use Rattle.std.proofs.Common.{◌≡◌, ◌≢◌, ℕ, suc, ◌+◌, ◌≤◌, Bool, true, false, cond, List, [], ◌∷◌, ◌++◌, Option, Some, None, refl, sym, ap, ◌∙◌, subst, arith, ⊎_elim, ◌⊎◌, inl, inr, zero}
 use Rattle.std.specs.Option.{option_map_or}
 use Rattle.std.specs.FinMap.{get}
 use Rattle.nm_base.specs.declared.event.Event.{Event}
@@ -9,7 +9,6 @@ use Rattle.nm_base.specs.declared.key.Key.{Key}
 use Rattle.nm_base.specs.declared.key.Place.TheVariants.{Complete}
 use Rattle.nm_base.specs.declared.record.Dir.TheVariants.{Out}
 use Rattle.nm_base.specs.declared.record.Record.{Record}
-use Rattle.nm_base.specs.Count.{saturated}
 use Rattle.nm_base.specs.Event.{event_place}
 use Rattle.nm_model.specs.EventList.{least}
 use Rattle.nm_model.specs.Network.{IsNet, Net, node_of}
@@ -27,19 +26,21 @@ use Rattle.nm_model.proofs.ListLemmas.{not_some, number_apart, number_tied, opti
 use Rattle.nm_model.proofs.Traces.{passed-append}
 use Rattle.nm_measure.specs.Queues.{in_octets, in_packets, time_after}
 
--- a packet that starts at once leaves the queue as it is
+-- a packet that starts at once, or is dropped, leaves the queue as it is
 offered_stays : (room : List (List ℕ) → List ℕ → Bool) (tx : List ℕ → ℕ) (time i : ℕ) (x : List ℕ) (dropped : ℕ) (b : Option (Busy (List ℕ))) → queued_at (offering_at room i x b) ≢ Some i
     → waits_at (offered room tx time x dropped b).0 ≡ waits_at (record { busy = b; dropped = dropped })
 offered_stays room tx time i x dropped None other = refl
-offered_stays room tx time i x dropped (Some b) other = absurd (other (go (room b.waiting x)))
+offered_stays room tx time i x dropped (Some b) other = go (room b.waiting x) other
   where
-    go : (q : Bool) → queued_at (cond q (Waits i) (Dropped i)) ≡ Some i
-    go true = refl
-    go false = refl
+    go : (q : Bool) → queued_at (cond q (Waits i) (Dropped i)) ≢ Some i
+        → waits_at (cond {A = Port (List ℕ) × Option (List ℕ)} q (record { busy = Some (record { completes = b.completes; waiting = b.waiting ++ x ∷ [] }); dropped = dropped }, None) (record { busy = Some b; dropped = dropped + 1 }, None)).0
+        ≡ waits_at (record { busy = Some b; dropped = dropped })
+    go true waits = absurd (waits refl)
+    go false waits = refl
 
 -- so does a completion behind which none starts
 next_stays : (tx : List ℕ → ℕ) (time dropped : ℕ) (waiting : List (List ℕ)) → (next_transmitting tx time dropped waiting).1 ≡ None
-    → waits_at (next_transmitting tx time dropped waiting).0 ≡ record { packets = in_packets waiting; octets = in_octets waiting; dropped = saturated dropped }
+    → waits_at (next_transmitting tx time dropped waiting).0 ≡ record { packets = in_packets waiting; octets = in_octets waiting }
 next_stays tx time dropped [] none = refl
 next_stays tx time dropped (x ∷ waiting) none = absurd (not_some x (sym none))
 
@@ -178,7 +179,7 @@ module _ {P N : Type 0} (net : Net P N) where
 -- the queues that an event leaves as they are
 module _ {N : Type 0} (net : Net (List ℕ) N) where
   module _ (ports : ℕ → Port (List ℕ)) (time : ℕ) where
-    -- one at which what is sent neither waits nor is dropped
+    -- one at which what is sent does not wait
     sent_stays : (came : Option (ℕ × List ℕ)) (n : N) (sent : Option (ℕ × List ℕ)) (follows : Option (ℕ × ℕ × List ℕ)) (i : ℕ) → queued_at (offering_of net ports sent) ≢ Some i
         → waits_at (turned ports (sent_on net ports time came n sent follows).turn i) ≡ waits_at (ports i)
     sent_stays came n None follows i other = refl

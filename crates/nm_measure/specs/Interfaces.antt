@@ -34,19 +34,18 @@ pub record AreSeen (t : TopologyValue) (first n : ℕ) (all : List Seen) : Type 
   pub each : (i : ℕ) (x : Seen) → slice_get all i ≡ Some x
       → IsSeen (net_of t) i first n t.stop x × (x.usage.rate ≡ (far_of t i).rate)
 
--- the interface at which a packet waits behind others, or was dropped
+-- the interface at which a packet waits behind others
 abbrev pub queued_at : Offering → Option ℕ
 queued_at became.Nothing = None
 queued_at (became.Started i) = None
 queued_at (became.Waits i) = Some i
-queued_at (became.Dropped i) = Some i
+queued_at (became.Dropped i) = None
 
--- what waits at a port, and how many were dropped there
+-- what waits at a port
 abbrev pub waits_at : Port (List ℕ) → Waits
 waits_at port = record {
   packets = in_packets (waiting_of port.busy);
   octets = in_octets (waiting_of port.busy);
-  dropped = saturated port.dropped;
 }
 
 -- at interface i in this state of a run
@@ -78,6 +77,7 @@ StartsNone t n = (e : Key × Event (List ℕ)) → least (one_list (net_of t) n)
 
 -- The interface whose queue an event at this place may change, by what happened. A packet that
 -- starts at once finds an empty queue and leaves one; so does a completion behind which none starts.
+-- A packet that is dropped leaves a full one as it is.
 abbrev pub queue_turned : Place → Happened → Option ℕ
 queue_turned (Complete i) what = option_map (λ s. s.iface) what.started
 queue_turned (Arrive i) what = queued_at what.offering

@@ -1,6 +1,5 @@
 -- What is seen of an interface of a network, event by event.
 use Rattle.std.specs.Prelude.{◌≡◌, ℕ, ◌-◌, ◌≤◌, ◌^◌, List, min}
-use Rattle.nm_base.specs.Count.{saturated}
 use Rattle.nm_base.specs.declared.record.Dir.TheVariants.{Out}
 use Rattle.nm_model.specs.Network.{Net}
 use Rattle.nm_model.specs.Run.{one_list}
@@ -28,7 +27,6 @@ module _ {N : Type 0} (net : Net (List ℕ) N) (i first n : ℕ) where
   pub record IsQueue (q : Queue) : Type 0 where
     pub packets : IsLevel net in_packets i first n q.packets
     pub octets : IsLevel net in_octets i first n q.octets
-    pub dropped : q.dropped ≡ saturated ((one_list net n).port i).dropped
 
   -- and of its transmissions before `stop`
   pub record IsSeen (stop : ℕ) (x : Seen) : Type 0 where

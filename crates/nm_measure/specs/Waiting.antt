@@ -23,26 +23,24 @@ level_later l waiting now = record {
 abbrev pub level_begun : Level → Level
 level_begun l = record l { recent = l.waiting }
 
--- nothing waited yet, and nothing was dropped
+-- nothing waited yet
 abbrev pub queue_empty : Queue
-queue_empty = record { packets = level_empty; octets = level_empty; dropped = 0 }
+queue_empty = record { packets = level_empty; octets = level_empty }
 
--- this waits from now on, and so many were dropped
+-- this waits from now on
 abbrev pub queue_later : Queue → Waits → (now : ℕ) → Queue
 queue_later q waits now = record {
   packets = level_later q.packets waits.packets now;
   octets = level_later q.octets waits.octets now;
-  dropped = waits.dropped;
 }
 
 -- the count of the most that wait starts again
 abbrev pub queue_begun : Queue → Queue
 queue_begun q = record q { packets = level_begun q.packets; octets = level_begun q.octets }
 
--- what waits now, and how many were dropped
+-- what waits now
 abbrev pub waits_of : Queue → Waits
 waits_of q = record {
   packets = q.packets.waiting;
   octets = q.octets.waiting;
-  dropped = q.dropped;
 }

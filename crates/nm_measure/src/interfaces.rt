@@ -49,7 +49,7 @@ fn none_seen(alloc: Global, topology: &Topology) -> Result<Vec<Seen>, AllocError
     Ok(all)
 }
 
-/// What waits at an interface, and how many were dropped there.
+/// What waits at an interface.
 fn queue_of(part: &Part<HeapList>, iface: IfaceNo) -> Waits
     ensures { (t : TopologyValue) (s : State (List ℕ) NodeStateValue)
         → Represents pending_of t None part.now s → iface < length t.ifaces
@@ -58,22 +58,22 @@ fn queue_of(part: &Part<HeapList>, iface: IfaceNo) -> Waits
     Waits {
         packets: part.waiting(iface).unwrap_or(0) as u64,
         octets: u64::from(part.waiting_octets(iface).unwrap_or(0)),
-        dropped: part.dropped(iface).unwrap_or(0),
     }
 }
 
-/// The interface at which a packet that was offered waits behind others, or was dropped.
+/// The interface at which a packet that was offered waits behind others.
 fn queued_at(offering: Offering) -> Option<IfaceNo>
     ensures { result ≡ queued_at offering }
 {
     match offering {
-        Offering::Nothing | Offering::Started(_) => None,
-        Offering::Waits(iface) | Offering::Dropped(iface) => Some(iface),
+        Offering::Nothing | Offering::Started(_) | Offering::Dropped(_) => None,
+        Offering::Waits(iface) => Some(iface),
     }
 }
 
 /// The interface whose queue an event at this place may have changed. A packet that starts at once
-/// finds an empty queue and leaves one; so does a completion behind which none starts.
+/// finds an empty queue and leaves one; so does a completion behind which none starts. A packet that
+/// is dropped leaves a full one as it is.
 fn queue_turned(place: &Place, happened: &Happened) -> Option<IfaceNo>
     ensures { result ≡ queue_turned place.now happened.now }
 {

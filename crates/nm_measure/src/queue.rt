@@ -1,20 +1,17 @@
 //! The queue of an interface, over time.
 
-ghost use Rattle.std.specs.Prelude.{◌≡◌, ◌≢◌, true, false};
-ghost use Rattle.nm_measure.specs.Waiting.{queue_begun, queue_empty, queue_later, waits_of};
+ghost use Rattle.std.specs.Prelude.{◌≡◌};
+ghost use Rattle.nm_measure.specs.Waiting.{queue_begun, queue_empty, queue_later};
 
 use crate::level::Level;
 use nm_base::Time;
 
-/// What waits at an interface, behind the packet that it transmits, and how many were dropped
-/// there.
+/// What waits at an interface, behind the packet that it transmits.
 #[derive(Clone, Copy, Drop)]
 pub struct Waits {
     pub packets: u64,
     /// How many octets the packets that wait have.
     pub octets: u64,
-    /// How many packets were dropped, up to 2^64 - 1.
-    pub dropped: u64,
 }
 
 /// The queue of an interface, over time.
@@ -22,8 +19,6 @@ pub struct Waits {
 pub struct Queue {
     pub packets: Level,
     pub octets: Level,
-    /// How many packets were dropped, up to 2^64 - 1.
-    dropped: u64,
 }
 
 impl Queue {
@@ -34,18 +29,7 @@ impl Queue {
         Queue {
             packets: Level::new(),
             octets: Level::new(),
-            dropped: 0,
         }
-    }
-
-    /// Whether the queue was last seen like this.
-    pub(crate) fn is_as(&self, waits: Waits) -> bool
-        ensures yes { result ≡ true → waits ≡ waits_of self.now }
-        ensures no { result ≡ false → waits ≢ waits_of self.now }
-    {
-        waits.packets == self.packets.waiting()
-            && waits.octets == self.octets.waiting()
-            && waits.dropped == self.dropped
     }
 
     /// Starts the count of the most that wait at one time again.
@@ -56,12 +40,11 @@ impl Queue {
         self.octets.begin_recent();
     }
 
-    /// Notes what waits from now on, and how many were dropped.
+    /// Notes what waits from now on.
     pub(crate) fn change(&mut self, waits: Waits, now: Time)
         ensures { self.new ≡ queue_later self.old waits now }
     {
         self.packets.change(waits.packets, now);
         self.octets.change(waits.octets, now);
-        self.dropped = waits.dropped;
     }
 }

@@ -16,7 +16,7 @@ pub struct Seen {
 }
 
 impl Seen {
-    /// Notes what waits from now on, and how many were dropped.
+    /// Notes what waits from now on.
     pub(crate) fn change(&mut self, waits: Waits, now: Time)
         ensures { HasQueue now waits self.old self.new }
     {
