@@ -5,7 +5,7 @@ use Rattle.nm_pcap.specs.Writer.{Writer}
 use Rattle.nm_replica.specs.Recording.{WroteAsCounted}
 use Rattle.nm_replica.specs.Served.{AllWereFinished, HasStayed, WasFinished}
 use Rattle.nm_replica.specs.Turns.{Links, WaitsAndServes}
-use Rattle.nm_replica.specs.declared.serving.Polled.{Polled}
+use Rattle.nm_replica.specs.declared.polling.Polled.{Polled}
 use Rattle.nm_replica.specs.declared.serving.Serving.{Serving}
 
 -- The connections waited and had their turns, records were written, and the book did events or not.
