@@ -1,13 +1,12 @@
 //! What a replica does after a wait: its connections have turns before and after its own part.
 
-ghost use Rattle.std.specs.Prelude.{◌+◌, ◌==◌, ◌||◌, ◌≡◌, IfErr, IfOk, IfSome, OnOk, false};
+ghost use Rattle.std.specs.Prelude.{◌+◌, ◌==◌, ◌||◌, ◌≡◌, IfErr, IfOk, IfSome, Ok, OnOk};
 ghost use Rattle.std.specs.Prelude.{is_some, length, not, position};
 ghost use Rattle.nm_base.specs.Count.{saturated};
-ghost use Rattle.nm_replica.specs.Connections.{IsNoneReady};
-ghost use Rattle.nm_replica.specs.Polls.{RunsOwn, is_merge_due};
+ghost use Rattle.nm_replica.specs.Polls.{RunsOwn, is_merge_due, runs_on};
 ghost use Rattle.nm_replica.specs.Served.{IsInterrupted, WasSeen};
 ghost use Rattle.nm_replica.specs.Sisters.{MergesSister, is_sister_of, replica_name};
-ghost use Rattle.nm_replica.specs.Turns.{ServesTwice, links};
+ghost use Rattle.nm_replica.specs.Turns.{MayDoMore, ServesTwice, links};
 
 use crate::acts::Standing;
 use crate::own_part::act_alone;
@@ -31,6 +30,10 @@ pub(crate) struct Acted {
     pub was_run: bool,
     /// What moved, and whether more may be done at once.
     pub moves: Moves,
+    /// What moved in the turns in which connections also wrote.
+    pub said: Moves,
+    /// Its book may run on at once.
+    pub runs_on: bool,
     /// The answer of its book's run, if it ran.
     pub ran: Option<Ran>,
     /// What was merged, if that was due.
@@ -52,7 +55,7 @@ fn may_do_more(said: &Moves, runs_on: bool, have_more: bool) -> bool
 /// # Errors
 ///
 /// How serving ends, if it ends early.
-#[tactic(auto, using(crate::proofs::Polls::saturated_twice, crate::proofs::Turns::serves_twice))]
+#[tactic(auto, using(crate::proofs::Polls::saturated_twice, crate::proofs::Turns::serves_twice, crate::proofs::Turns::may_do_more))]
 pub(crate) fn serve_and_act<C: Counts, S, T: Transport, R: Wait>(
     rt: &R,
     alloc: Global,
@@ -83,7 +86,7 @@ pub(crate) fn serve_and_act<C: Counts, S, T: Transport, R: Wait>(
     ensures counted { IfOk result
         (λ a. serving.new.counted ≡ saturated (serving.old.counted + a.moves.octets)) }
     ensures served { IfOk result (λ a. ServesTwice (links T.Connection.seen C.exact C.home)
-        serving.old.connections serving.new.connections a.moves.moved a.moves.octets) }
+        serving.old.connections serving.new.connections a.moves.moved a.moves.octets a.said) }
     ensures run { IfOk result (λ a. (serving.new.events ≡ a.standing.events)
         × (a.was_run ≡ not (a.standing.events == serving.old.events))) }
 
@@ -100,9 +103,11 @@ pub(crate) fn serve_and_act<C: Counts, S, T: Transport, R: Wait>(
         (length holdings.old.passes.items))) }
     ensures polls { OnOk result (serving.new.polls ≡ saturated (serving.old.polls + 1)) }
 
-    // If no more is to be done at once, there is nothing to read on any connection.
-    ensures more { IfOk result (λ a. a.moves.has_more ≡ false
-        → IsNoneReady serving.new.connections.open) }
+    // The second turns decide whether more is to be done at once, unless the book runs on, or there
+    // is something to read on a connection.
+    ensures more { IfOk result (λ a. MayDoMore a.said a.runs_on serving.new.connections.open
+        a.moves.has_more) }
+    ensures on { IfOk result (λ a. runs_on service.now.lending.now a.ran ≡ Ok a.runs_on) }
 {
     let heard = serve_all(
         rt,
@@ -131,6 +136,8 @@ pub(crate) fn serve_and_act<C: Counts, S, T: Transport, R: Wait>(
         standing,
         was_run,
         moves,
+        said,
+        runs_on: own.runs_on,
         ran: own.ran,
         merged,
     })

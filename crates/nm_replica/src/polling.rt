@@ -1,18 +1,18 @@
 //! One poll of a replica, and what follows it.
 
 ghost use Rattle.std.specs.Prelude.{◌&&◌, ◌*◌, ◌+◌, ◌==◌, ◌||◌, ◌≡◌, ◌≤◌, ◌⊎◌, IfErr, IfOk, IfSome};
-ghost use Rattle.std.specs.Prelude.{OnOk, false, is_some, length, nat_lt, not, position, true};
+ghost use Rattle.std.specs.Prelude.{Ok, OnOk, false, is_some, length, nat_lt, not, position, true};
 ghost use Rattle.nm_base.specs.Count.{saturated};
 ghost use Rattle.nm_replica.specs.Connections.{IsNoneReady};
 ghost use Rattle.nm_replica.specs.Noted.{IsAwaitedName};
 ghost use Rattle.nm_replica.specs.declared.limits.TheConstants.{MAX_HANDED, MAX_HAND_OUTS};
-ghost use Rattle.nm_replica.specs.Polls.{IsNews, RunsOwn, is_active, is_merge_due};
+ghost use Rattle.nm_replica.specs.Polls.{IsNews, RunsOwn, is_active, is_merge_due, runs_on};
 ghost use Rattle.nm_replica.specs.Recording.{Streamed, Streams, WasEmptied, WroteAsCounted};
 ghost use Rattle.nm_replica.specs.Seats.{AreKept, StandOnBoard};
 ghost use Rattle.nm_replica.specs.Served.{AllWereFinished, EndsEarly, HasStayed, WasFinished};
 ghost use Rattle.nm_replica.specs.Sisters.{MergesSister, is_sister_of, replica_name};
 ghost use Rattle.nm_replica.specs.Staying.{HasOneLeft, StaysOn, WasFound, stay_after};
-ghost use Rattle.nm_replica.specs.Turns.{WaitsAndServes, links};
+ghost use Rattle.nm_replica.specs.Turns.{MayDoMore, WaitsAndServes, links};
 ghost use Rattle.nm_replica.specs.declared.served.Served.TheVariants.{Net};
 ghost use Rattle.nm_transport.specs.Transport.{elapsed_after};
 
@@ -27,6 +27,7 @@ use crate::serving::Serving;
 use crate::sisters::Merged;
 use crate::staying::{is_served, may_end};
 use crate::telling::tell_all;
+use crate::turning::Moves;
 use crate::waiting::await_transport;
 use nm_base::Sink;
 use nm_book::Ran;
@@ -55,6 +56,9 @@ pub(crate) struct Polled {
     pub news: Option<News>,
     /// For which peer the replica waits, if that was noted.
     pub awaited: Option<NotedAwaited>,
+    /// What moved in the turns in which connections also wrote, and whether its book may run on.
+    pub said: Moves,
+    pub runs_on: bool,
     /// Records may be left to hand out, and more may be done on connections or with the book.
     pub has_records: bool,
     pub has_more: bool,
@@ -107,7 +111,7 @@ pub(crate) fn poll<C: Counts, S: Sink, T: Transport, R: Wait>(
     ensures counted { IfOk result
         (λ p. serving.new.counted ≡ saturated (serving.old.counted + p.octets)) }
     ensures served { IfOk result (λ p. WaitsAndServes (links T.Connection.seen C.exact C.home)
-        p.ran_out serving.old.connections serving.new.connections p.moved p.octets) }
+        p.ran_out serving.old.connections serving.new.connections p.moved p.octets p.said) }
     ensures run { IfOk result
         (λ p. p.was_run ≡ not (serving.new.events == serving.old.events)) }
     ensures written { IfOk result (λ p. WroteAsCounted S.seen C.exact C.home p.written
@@ -138,6 +142,9 @@ pub(crate) fn poll<C: Counts, S: Sink, T: Transport, R: Wait>(
         → (service.now.keeps_records ≡ true) ⊎ WasEmptied C.exact C.home) }
     ensures busy_if { IfOk result
         (λ p. serving.new.is_busy ≡ (p.has_records || p.has_more)) }
+    ensures more { IfOk result
+        (λ p. MayDoMore p.said p.runs_on serving.new.connections.open p.has_more) }
+    ensures on { IfOk result (λ p. runs_on service.now.lending.now p.ran ≡ Ok p.runs_on) }
     ensures all_written { IfOk result (λ p. p.has_records ≡ true
         → MAX_HAND_OUTS * MAX_HANDED ≤ p.written) }
 
@@ -197,6 +204,8 @@ pub(crate) fn poll<C: Counts, S: Sink, T: Transport, R: Wait>(
         was_run: acted.was_run,
         ran: acted.ran,
         merged: acted.merged,
+        said: acted.said,
+        runs_on: acted.runs_on,
         news,
         awaited,
         has_records: recorded.has_more,

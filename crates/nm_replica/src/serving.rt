@@ -103,7 +103,7 @@ pub(crate) fn serve_all<T: Transport, C: Counts, R: Wait>(
     ensures short { serving.new.short ≡ serving.old.short }
     ensures failed { serving.new.failed_waits ≡ serving.old.failed_waits }
     ensures served { IfOk result (λ m. ServesAll (links T.Connection.seen C.exact C.home) does
-        serving.old.connections serving.new.connections m.moved m.octets) }
+        serving.old.connections serving.new.connections m) }
 {
     let talk = Talk {
         alloc: serving.alloc,

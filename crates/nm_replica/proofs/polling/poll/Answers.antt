@@ -1,4 +1,4 @@
-use Rattle.std.proofs.Common.{rules, ◌≡◌, ◌&&◌, inl, inr, Bool, false, not, length, ap, refl, subst, sym, ◌∙◌}
+use Rattle.std.proofs.Common.{rules, ◌≡◌, ◌&&◌, inl, inr, Bool, true≢false, false, not, length, ap, refl, subst, sym, ◌∙◌}
 use Rattle.std.specs.Prelude.{nat_lt}
 use Rattle.nm_replica.specs.Polls.{IsNews}
 use Rattle.nm_replica.specs.Seats.{StandOnBoard}
@@ -38,7 +38,7 @@ returns-in_err-recorded-clause-so_far g c =
 
 pub returns-clause-served : goal.returns-clause-served
 returns-clause-served g c =
-    waits_and_serves _ _ c.args.serving.now.connections _ _ _ _ _ c.in_ok-ran_out.ensures.waits c.in_ok-ran_out.ensures.ready c.in_ok-acted.ensures.served refl
+    waits_and_serves _ _ c.args.serving.now.connections _ _ _ _ _ _ c.in_ok-ran_out.ensures.waits c.in_ok-ran_out.ensures.ready c.in_ok-acted.ensures.served refl
 
 pub returns-in_err-ran_out-clause-net : goal.returns-in_err-ran_out-clause-net
 returns-in_err-ran_out-clause-net g c =
@@ -110,3 +110,11 @@ returns-in_err-recorded-clause-net g c =
     c.in_err-recorded.ensures.net
     in
     search (rules, streams)
+
+pub returns-clause-busy : goal.returns-clause-busy
+returns-clause-busy g c = λ quiet.
+    let no_more : c.in_ok-acted.acted.moves.has_more ≡ false = elim c.if-recorded.branch [
+      | then-recorded w ↦ absurd (true≢false (sym w.if-recorded.true ∙ sym w.serving-is ∙ quiet))
+      | else-recorded w ↦ sym w.serving-is ∙ quiet
+    ] in
+    (c.in_ok-acted.ensures.more.none no_more).3
