@@ -8,7 +8,7 @@ use Rattle.nm_replica.specs.Polls.{ending_of, idle_after, is_active}
 use Rattle.nm_transport.specs.Transport.{elapsed_after}
 use Rattle.nm_replica.specs.Served.{EndsWith, PolledOnce, WasFinished}
 use Rattle.nm_replica.specs.declared.served.Served.{Served}
-use Rattle.nm_replica.specs.declared.serving.Polled.{Polled}
+use Rattle.nm_replica.specs.declared.polling.Polled.{Polled}
 use Rattle.nm_replica.specs.declared.served.Served.TheVariants.{Ended, File, Memory, Net, Stalled}
 
 -- there are no more idle periods in a row than waits that ran out

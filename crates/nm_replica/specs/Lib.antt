@@ -1,9 +1,9 @@
 pub mod Breaks
 pub mod Connections
-pub mod Figured
 pub mod Finished
 pub mod Happened
 pub mod Moved
+pub mod Noted
 pub mod Polls
 pub mod Recording
 pub mod Seats

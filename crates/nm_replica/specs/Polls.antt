@@ -6,8 +6,8 @@ use Rattle.nm_book.specs.declared.running.Ran.{Ran}
 use Rattle.nm_book.specs.declared.running.Ran.TheVariants.{All, Limit, Memory}
 use Rattle.nm_replica.specs.declared.served.Served.{Served}
 use Rattle.nm_replica.specs.declared.limits.TheConstants.{MAX_FAILED_WAITS, MERGE_POLLS}
-use Rattle.nm_replica.specs.declared.serving.News.{News}
-use Rattle.nm_replica.specs.declared.serving.News.TheVariants.{Done, Written}
+use Rattle.nm_replica.specs.declared.news.News.{News}
+use Rattle.nm_replica.specs.declared.news.News.TheVariants.{Done, Written}
 use Rattle.nm_shared.specs.Pool.{IsRunAnswer}
 use Rattle.nm_replica.specs.declared.served.Served.TheVariants.{Ended, Net, Stalled}
 use Rattle.nm_replica.specs.declared.serving.Serving.{Serving}

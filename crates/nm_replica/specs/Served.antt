@@ -12,7 +12,7 @@ use Rattle.nm_sim.specs.Network.{net_of}
 use Rattle.nm_transport.specs.Transport.{elapsed_after}
 use Rattle.nm_replica.specs.declared.acts.Standing.{Standing}
 use Rattle.nm_replica.specs.declared.served.Served.{Served}
-use Rattle.nm_replica.specs.declared.serving.Polled.{Polled}
+use Rattle.nm_replica.specs.declared.polling.Polled.{Polled}
 use Rattle.nm_replica.specs.declared.served.Served.TheVariants.{Ended, Net, Memory, File, Stalled}
 use Rattle.nm_policy.specs.Contacts.{ContactsValue}
 use Rattle.nm_policy.specs.Stays.{leaves, stayed}

@@ -1,5 +1,5 @@
 -- Connections that have their turns, one key after another.
-use Rattle.std.specs.Prelude.{◌≡◌, ◌≢◌, ◌⊎◌, ℕ, suc, zero, ◌+◌, ◌<◌, ◌≤◌, length, Bool, true, false, Option, Some, None, IsSomeAnd, if◌then◌else◌}
+use Rattle.std.specs.Prelude.{◌≡◌, ◌≢◌, ◌⊎◌, ℕ, suc, zero, ◌+◌, ◌<◌, ◌≤◌, length, Bool, true, false, ◌||◌, Option, Some, None, IsSomeAnd, if◌then◌else◌}
 use Rattle.nm_base.specs.Count.{saturated}
 use Rattle.nm_base.specs.Wire.{WireSeen}
 use Rattle.nm_engine.specs.Link.{LinkValue}
@@ -12,7 +12,7 @@ use Rattle.nm_policy.specs.Contacts.{contact_at, is_slot}
 use Rattle.nm_shared.specs.Home.{Home}
 use Rattle.slab.specs.Slab.{Slab, get}
 use Rattle.nm_replica.specs.Breaks.{goes_after}
-use Rattle.nm_replica.specs.Connections.{AreAllReady, SettlesAs, WaitsOnce, is_abandoned, known_after, sessions_if}
+use Rattle.nm_replica.specs.Connections.{AreAllReady, IsNoneReady, SettlesAs, WaitsOnce, is_abandoned, is_ready, known_after, sessions_if}
 use Rattle.nm_replica.specs.Moved.{CountsMovesAt}
 use Rattle.nm_replica.specs.declared.connection.Connection.{Connection}
 use Rattle.nm_replica.specs.declared.connections.Connections.{Connections}
@@ -110,37 +110,61 @@ module _ {W : Type 0} (key : ℕ) (old new : Connections W) where
         (known_after key has_heard (get old.open key) old.contacts).connections key)
         (get old.open key) old.sessions
 
+-- nothing moved, and no connection may want more
+abbrev pub HasMovedNothing : Moves → Type 0
+HasMovedNothing m =
+    (m.moved ≡ 0) × (m.octets ≡ 0) × (m.has_heard ≡ false) × (m.has_more ≡ false)
+
+-- what turns came to with those of one more connection: how many octets moved with peers, and how
+-- many of them count as activity; whether any were received; and whether one may want more
+pub record AddsUp (before more all : Moves) : Type 0 where
+  pub moved : all.moved ≡ saturated (before.moved + more.moved)
+  pub octets : all.octets ≡ saturated (before.octets + more.octets)
+  pub has_heard : all.has_heard ≡ (before.has_heard || more.has_heard)
+  pub has_more : all.has_more ≡ (before.has_more || more.has_more)
+
 module _ {W : Type 0} (l : Links W) where
   -- a key is served: its connection has its turns, and what the last one requires is done
   abbrev pub ServesKey : Does → ℕ → (old new : Connections W) → Moves → Type 0
   ServesKey does key old new m =
       (turned : Connections W) × (last : Turn)
-      × GivesTurns key old turned l does (m, last) × SettlesKey key turned new last m.has_heard
+      × GivesTurns key old turned l does (m, last) × (m.has_more ≡ has_moved last)
+      × SettlesKey key turned new last m.has_heard
 
-  -- So many keys are served, one after another. So many octets moved with peers in all, and so many
-  -- of them count as activity.
-  abbrev pub ServesKeys : Does → ℕ → (old new : Connections W) → (moved octets : ℕ) → Type 0
-  ServesKeys does zero old new moved octets = (new ≡ old) × (moved ≡ 0) × (octets ≡ 0)
-  ServesKeys does (suc n) old new moved octets =
-      (mid : Connections W) × (told : ℕ) × (counted : ℕ) × (m : Moves)
-      × ServesKeys does n old mid told counted × ServesKey does n mid new m
-      × (moved ≡ saturated (told + m.moved)) × (octets ≡ saturated (counted + m.octets))
+  -- so many keys are served, one after another; what all these turns came to
+  abbrev pub ServesKeys : Does → ℕ → (old new : Connections W) → (all : Moves) → Type 0
+  ServesKeys does zero old new all = (new ≡ old) × HasMovedNothing all
+  ServesKeys does (suc n) old new all =
+      (mid : Connections W) × (before : Moves) × (m : Moves)
+      × ServesKeys does n old mid before × ServesKey does n mid new m × AddsUp before m all
 
   -- all keys are served: no connection has a greater one
-  abbrev pub ServesAll : Does → (old new : Connections W) → (moved octets : ℕ) → Type 0
-  ServesAll does old new moved octets =
-      (n : ℕ) × (length old.open.slots ≤ n) × ServesKeys does n old new moved octets
+  abbrev pub ServesAll : Does → (old new : Connections W) → (all : Moves) → Type 0
+  ServesAll does old new all =
+      (n : ℕ) × (length old.open.slots ≤ n) × ServesKeys does n old new all
 
-  -- all keys are served twice: connections first only read, and then also write
-  abbrev pub ServesTwice : (old new : Connections W) → (moved octets : ℕ) → Type 0
-  ServesTwice old new moved octets =
-      (heard : Connections W) × (told : ℕ) × (counted : ℕ) × (told' : ℕ) × (counted' : ℕ)
-      × ServesAll Hear old heard told counted × ServesAll Speak heard new told' counted'
-      × (moved ≡ saturated (told + told')) × (octets ≡ saturated (counted + counted'))
+  -- all keys are served twice: connections first only read, and then also write; what these second
+  -- turns came to, and how many octets moved in both
+  abbrev pub ServesTwice : (old new : Connections W) → (moved octets : ℕ) → (said : Moves) → Type 0
+  ServesTwice old new moved octets said =
+      (mid : Connections W) × (heard : Moves)
+      × ServesAll Hear old mid heard × ServesAll Speak mid new said
+      × (moved ≡ saturated (heard.moved + said.moved))
+      × (octets ≡ saturated (heard.octets + said.octets))
 
   -- a wait, after which all keys are served twice; all are read if a period was over
   abbrev pub WaitsAndServes : (ran_out : Bool) → (old new : Connections W) → (moved octets : ℕ)
-      → Type 0
-  WaitsAndServes ran_out old new moved octets =
+      → (said : Moves) → Type 0
+  WaitsAndServes ran_out old new moved octets said =
       (waited : Connections W) × WaitsOnce ran_out old.contacts waited.contacts
-      × (ran_out ≡ true → AreAllReady waited.open) × ServesTwice waited new moved octets
+      × (ran_out ≡ true → AreAllReady waited.open) × ServesTwice waited new moved octets said
+
+module _ {W : Type 0} (said : Moves) (runs_on : Bool) (slab : Slab (Connection W)) where
+  -- After all keys were served twice more may be done without a report of a connection exactly if
+  -- octets were received in the second turns, a connection had all of these and may want more, the
+  -- book runs on, or there may be something to read on a connection.
+  pub record MayDoMore (has_more : Bool) : Type 0 where
+    pub some : has_more ≡ true → (said.has_heard ≡ true) ⊎ (said.has_more ≡ true)
+        ⊎ (runs_on ≡ true) ⊎ ((key : ℕ) × (is_ready (get slab key) ≡ true))
+    pub none : has_more ≡ false → (said.has_heard ≡ false) × (said.has_more ≡ false)
+        × (runs_on ≡ false) × IsNoneReady slab

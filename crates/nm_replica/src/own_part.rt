@@ -4,14 +4,15 @@ ghost use Rattle.std.specs.Prelude.{◌&&◌};
 ghost use Rattle.std.specs.Prelude.{◌≡◌, ◌≤◌, IfOk, IfSome, Ok, if◌then◌else◌, is_some, length};
 ghost use Rattle.std.specs.Prelude.{not};
 ghost use Rattle.std.specs.Prelude.{position, true};
-ghost use Rattle.nm_replica.specs.Figured.{NotesProgress};
+ghost use Rattle.nm_replica.specs.Noted.{NotesProgress};
 ghost use Rattle.nm_replica.specs.Polls.{RunsOwn, is_merge_due, runs_on};
 ghost use Rattle.nm_replica.specs.Served.{WasSeen};
 ghost use Rattle.nm_replica.specs.Sisters.{MergesSister, is_sister_of, replica_name};
 
 use crate::acts::{Stand, Standing};
-use crate::figuring::{NotedProgress, note_loan, note_progress};
+use crate::figuring::note_loan;
 use crate::limits::MERGE_POLLS;
+use crate::noting::{NotedProgress, note_progress};
 use crate::replica::{Holdings, Service};
 use crate::sisters::{Merged, merge_sister};
 use nm_book::Ran;

@@ -1,13 +1,16 @@
 //! The records of a replica, written to its trace files while it runs.
 
-ghost use Rattle.std.specs.Prelude.{◌*◌, ◌≡◌, ◌≤◌, ◌⊎◌, IfErr, IfOk, OnOk, false, nat_le, true};
+ghost use Rattle.std.specs.Prelude.{◌*◌, ◌≡◌, ◌≤◌, ◌⊎◌, IfErr, IfOk, OnOk, false, nat_le, nat_lt};
+ghost use Rattle.std.specs.Prelude.{true};
 ghost use Rattle.nm_replica.specs.Recording.{Streamed, Streams, WasEmptied, Wrote};
 ghost use Rattle.nm_replica.specs.Recording.{WroteAsCounted};
-ghost use Rattle.nm_replica.specs.Served.{WasFinished};
+ghost use Rattle.nm_replica.specs.Served.{EndsEarly, WasFinished};
+ghost use Rattle.nm_replica.specs.declared.served.Served.TheVariants.{Net};
 
-use crate::acts::{HandOutSome, HandedOut};
+use crate::acts::{HandOutSome, HandedOut, Standing};
 use crate::limits::{MAX_HAND_OUTS, MAX_HANDED};
-use crate::replica::Service;
+use crate::replica::{Holdings, Service};
+use crate::served::{Served, file_served};
 use nm_base::Sink;
 use nm_files::{FilesFault, TraceFiles};
 use nm_shared::{Counts, Pass};
@@ -97,4 +100,49 @@ pub(crate) fn write_records<C: Counts, S: Sink, R: Wait>(
         }
     }
     Ok(all)
+}
+
+/// Writes the records that were left when the state of the book was read. A replica that is done
+/// makes no more records: those that it has are written now.
+///
+/// # Errors
+///
+/// How serving ends, if a file failed or memory was refused.
+pub(crate) fn record<C: Counts, S: Sink, R: Wait>(
+    rt: &R,
+    alloc: Global,
+    service: &Service<'_, C>,
+    holdings: &mut Holdings<'_, C, S>,
+    standing: &Standing,
+) -> Result<Recorded, Served>
+    ensures streams { OnOk result (Streams S.seen C.exact C.home
+        holdings.old.files.files.items holdings.new.files.files.items) }
+    ensures wrote { IfOk result (λ r. WroteAsCounted S.seen C.exact C.home r.written
+        holdings.old.files.files.items holdings.new.files.files.items) }
+    ensures so_far { IfErr result (λ _. Streamed S.seen C.exact C.home
+        holdings.old.files.files.items holdings.new.files.files.items) }
+    ensures net { IfErr result (λ s. s ≡ Net → Streams S.seen C.exact C.home
+        holdings.old.files.files.items holdings.new.files.files.items) }
+    ensures last { IfOk result (λ r. r.is_last ≡ true → WasFinished C.exact C.home false) }
+    ensures all { IfOk result (λ r. r.has_more ≡ false → (service.now.keeps_records ≡ true)
+        ⊎ (nat_lt standing.now.handed standing.now.records ≡ false)
+        ⊎ WasEmptied C.exact C.home) }
+    ensures more { IfOk result
+        (λ r. r.has_more ≡ true → MAX_HAND_OUTS * MAX_HANDED ≤ r.written) }
+    ensures early { IfErr result EndsEarly }
+    ensures seats { holdings.new.seats ≡ holdings.old.seats }
+    ensures passes { holdings.new.passes ≡ holdings.old.passes }
+{
+    let is_left = standing.records > standing.handed;
+    match write_records(
+        rt,
+        alloc,
+        service,
+        &mut holdings.pass,
+        &mut holdings.files,
+        is_left,
+    ) {
+        Ok(recorded) => Ok(recorded),
+        Err(fault) => Err(file_served(fault)),
+    }
 }

@@ -12,9 +12,10 @@ ghost use Rattle.nm_replica.specs.declared.served.Served.TheVariants.{Net, Stall
 
 use crate::limits::MAX_POLLS;
 use crate::neighbours::Neighbours;
+use crate::polling::{Polled, poll};
 use crate::seats::OwnSeats;
 use crate::served::Served;
-use crate::serving::{Polled, Serving, poll};
+use crate::serving::Serving;
 use nm_base::{PartNo, Sink};
 use nm_files::TraceFiles;
 use nm_frames::ReplicaName;

@@ -15,5 +15,5 @@ invariant-loop-key g l = record {
   short : l.serving.short ≡ l.fn.serving.short;
   failed : l.serving.failed_waits ≡ l.fn.serving.failed_waits;
   does : l.talk.does ≡ l.fn.does;
-  served : ServesKeys (links g.T.Connection.Wire.seen g.C.Counts.exact g.C.Counts.home) l.fn.does l.key l.fn.serving.connections l.serving.connections l.all.moved l.all.octets;
+  served : ServesKeys (links g.T.Connection.Wire.seen g.C.Counts.exact g.C.Counts.home) l.fn.does l.key l.fn.serving.connections l.serving.connections l.all;
 }

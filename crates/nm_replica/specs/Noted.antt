@@ -14,7 +14,7 @@ use Rattle.nm_progress.specs.declared.peers.PeerName.{PeerName}
 use Rattle.nm_progress.specs.declared.peers.PeerName.TheVariants as peer
 use Rattle.nm_replica.specs.declared.acts.Standing.{Standing}
 use Rattle.nm_replica.specs.declared.connection.Connection.{Connection}
-use Rattle.nm_replica.specs.declared.figuring.NotedProgress.{NotedProgress}
+use Rattle.nm_replica.specs.declared.noting.NotedProgress.{NotedProgress}
 
 -- a replica that calls
 abbrev pub caller_name : ReplicaName → PeerName

@@ -1,7 +1,7 @@
 use Rattle.std.proofs.Common.{◌≡◌, Ok, rules, sym, subst, ◌∙◌}
 use Rattle.nm_replica.specs.Polls.{failed_waits}
 use Rattle.nm_replica.proofs.Hands.{asks_between}
-use Rattle.nm_replica.proofs.serving.await_transport.Goals as goal
+use Rattle.nm_replica.proofs.waiting.await_transport.Goals as goal
 
 pub returns-clause-failed : goal.returns-clause-failed
 returns-clause-failed g c = (

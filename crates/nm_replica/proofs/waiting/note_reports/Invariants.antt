@@ -1,7 +1,7 @@
 use Rattle.std.proofs.Common.{◌≡◌, ◌<◌, ℕ, Some}
 use Rattle.nm_replica.specs.Connections.{KeepsUnreported}
 use Rattle.nm_replica.proofs.Readiness.{IsReadyAt}
-use Rattle.nm_replica.proofs.serving.note_reports.Given as goal
+use Rattle.nm_replica.proofs.waiting.note_reports.Given as goal
 
 abbrev pub invariant-loop-number : goal.invariant-loop-number
 invariant-loop-number g l = record {

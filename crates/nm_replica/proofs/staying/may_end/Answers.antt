@@ -1,6 +1,6 @@
 use Rattle.std.proofs.Common.{inl, inr, sym, ◌∙◌}
 use Rattle.nm_replica.proofs.Finishing.{all_finished}
-use Rattle.nm_replica.proofs.serving.may_end.Goals as goal
+use Rattle.nm_replica.proofs.staying.may_end.Goals as goal
 
 pub returns-then-may_leave-clause-ends : goal.returns-then-may_leave-clause-ends
 returns-then-may_leave-clause-ends g c = λ _. (c.if-not-is_done.false, inl (sym c.may_leave.ensures.leaves ∙ c.if-may_leave.true))

@@ -4,7 +4,7 @@ use Rattle.std.proofs.lemmas.Bool.{cases_lt}
 use Rattle.std.proofs.lemmas.Option.{same_Some}
 use Rattle.nm_replica.proofs.Readiness.{IsReadyAt, now_looked, still_looked, unreported_fewer, unreported_more}
 use Rattle.nm_transport.specs.declared.limits.TheConstants.{MAX_REPORTS}
-use Rattle.nm_replica.proofs.serving.note_reports.Goals as goal
+use Rattle.nm_replica.proofs.waiting.note_reports.Goals as goal
 
 pub loop-number-preserved : goal.loop-number-preserved
 loop-number-preserved g c =
