@@ -9,8 +9,8 @@ abbrev pub pass_count : Passes → ℕ
 pass_count passes = sum_by (λ list. length list.items) passes.lists.items
 
 -- how many there are of each book
-abbrev pub counts_of : Passes → List ℕ
-counts_of passes = map (λ list. length list.items) passes.lists.items
+abbrev pub pass_counts : Passes → List ℕ
+pass_counts passes = map (λ list. length list.items) passes.lists.items
 
 -- one more of each of these books, which are numbers of places
 abbrev pub one_more : (counts : List ℕ) → (book : ℕ) → List ℕ

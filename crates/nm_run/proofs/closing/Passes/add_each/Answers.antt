@@ -1,7 +1,7 @@
 use Rattle.std.proofs.Common.{◌≡◌, ◌+◌, length, rules, sym, ap, ◌∙◌, arith}
 use Rattle.std.specs.List.{range_with_len}
 use Rattle.std.proofs.lemmas.List.{length_push}
-use Rattle.nm_run.specs.Passes.{counts_of, more_of, one_more}
+use Rattle.nm_run.specs.Passes.{pass_counts, more_of, one_more}
 use Rattle.nm_run.proofs.Passing.{more_in_order}
 use Rattle.nm_run.proofs.closing.Passes.add_each.Goals as goal
 
@@ -9,7 +9,7 @@ pub loop-book-preserved : goal.loop-book-preserved
 loop-book-preserved c =
     let was = c.loop-book.invariant in
     let n = length c.loop-book.yielded in
-    let counts = counts_of c.args.self.now in
+    let counts = pass_counts c.args.self.now in
     let longer = length_push c.loop-book.yielded (c.in-Some.book, c.in-Some.pass) in
     let steps = c.in-Some.ensures.steps in
     let book : c.in-Some.book ≡ n = search rules in
