@@ -8,3 +8,4 @@ pub mod Words
 pub mod Watching
 pub mod Dealing
 pub mod Passing
+pub mod Noting

@@ -1,8 +1,8 @@
 -- The replicas of a run, kept and remembered in their order.
 use Rattle.std.proofs.Common.{◌≡◌, ℕ, zero, suc, ◌+◌, ◌<◌, All, List, [], ◌∷◌, ◌++◌, length, map, get_or, None, Some, option_map, sym, ◌∙◌, ap, subst, arith}
 use Rattle.std.specs.Prelude.{slice_get, slice_set}
-use Rattle.std.proofs.lemmas.List.{length-map, map-append}
-use Rattle.std.proofs.lemmas.Option.{slice_get-get_or, slice_get-map}
+use Rattle.std.proofs.lemmas.List.{append_assoc, length-map, map-append}
+use Rattle.std.proofs.lemmas.Option.{get_or_from_slice_get, slice_get-get_or, slice_get-map}
 use Rattle.nm_shared.proofs.Pools.{all_more}
 use Rattle.nm_run.specs.Watching.{AreOwns, IsOwnAt, owns_of}
 use Rattle.nm_run.specs.declared.jobs.Watched.{Watched}
@@ -13,6 +13,10 @@ pub owns_more : {X : Type 0} (f : X → Own) (names : List (ℕ × ℕ)) (old ne
 owns_more f names old new x last here before =
     subst (AreOwns names) (sym (ap (map f) last ∙ map-append f old (x ∷ [])))
     (all_more (IsOwnAt names) (map f old) (f x) before (subst (λ n. IsOwnAt names n (f x)) (sym (length-map old f)) here))
+
+-- one more of some, before others
+pub one_placed : {X Y : Type 0} (f : X → Y) (xs : List X) (x : X) (y : Y) (ys : List Y) → f x ≡ y → map f (xs ++ x ∷ []) ++ ys ≡ map f xs ++ y ∷ ys
+one_placed f xs x y ys is = ap (λ l. l ++ ys) (map-append f xs (x ∷ [])) ∙ append_assoc (map f xs) (f x ∷ []) ys ∙ ap (λ z. map f xs ++ z ∷ ys) is
 
 -- what is remembered at a place is of the replica with this number
 pub own_there : (names : List (ℕ × ℕ)) (watched : List Watched) (n : ℕ) (w : Watched) → AreOwns names (owns_of watched) → n < length watched → w ≡ get_or watched n w → w.own.index ≡ n
@@ -27,6 +31,10 @@ pub get_is_within : {A : Type 0} (xs : List A) (k : ℕ) (a : A) → slice_get x
 get_is_within [] k a e = absurd (let none : None ≡ Some a = e in cc)
 get_is_within (x ∷ xs) zero a e = omega arith
 get_is_within (x ∷ xs) (suc k) a e = let rest : k < length xs = get_is_within xs k a e in omega (arith, rest)
+
+-- what holds of all holds of one that is there
+pub all_at : {A : Type 0} (P : A → Type 0) (xs : List A) (k : ℕ) (a : A) → All P xs → slice_get xs k ≡ Some a → P a
+all_at P xs k a all at = subst P (get_or_from_slice_get xs k a a at) (all k a (get_is_within xs k a at))
 
 -- what holds of those below a place holds with that there, which is another one now
 pub one_more_by_place : {A : Type 0} (P : A → Type 0) (xs : List A) (n : ℕ) (y : A) → ((k : ℕ) (a : A) → k < n → slice_get xs k ≡ Some a → P a) → P y

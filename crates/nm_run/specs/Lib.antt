@@ -1,9 +1,11 @@
 pub mod Report
 pub mod Faults
 pub mod Endings
+pub mod Going
 pub mod Files
 pub mod Leaving
 pub mod Passes
+pub mod Posts
 pub mod Sides
 pub mod Took
 pub mod Replicas

@@ -1,11 +1,13 @@
 //! The books of a run that is over, with all passes back.
 
-ghost use Rattle.std.specs.Prelude.{◌≡◌, ◌+◌, All, IfOk, OnOk, Option, true, vec_len};
+ghost use Rattle.std.specs.Prelude.{◌≡◌, ◌+◌, All, IfOk, OnOk, Option, length, map, true};
+ghost use Rattle.std.specs.Prelude.{vec_len};
 ghost use Rattle.std.specs.Arc.{arc_value};
-ghost use Rattle.std.specs.List.{sum_by};
+ghost use Rattle.std.specs.List.{flat_map, range_with_len, sum_by};
 ghost use Rattle.nm_files.specs.Files.{AreCounted};
 ghost use Rattle.nm_files.specs.Outputs.{Files};
-ghost use Rattle.nm_run.specs.Passes.{given_back, pass_count};
+ghost use Rattle.nm_run.specs.Passes.{pass_counts, given_back, more_of, one_more, pass_count};
+ghost use Rattle.nm_run.specs.Passes.{side_books};
 ghost use Rattle.nm_run.specs.Report.{AreOfRun, AreInPlace, CertifiesRun, IsInPlace};
 
 use crate::fault::{RunCause, RunFault};
@@ -46,9 +48,10 @@ impl Passes {
     /// # Errors
     ///
     /// `Broken` if there is no such book. `Memory` if memory was refused.
-    #[tactic(auto, using(crate::proofs::Passing::one_pass_more))]
+    #[tactic(auto, using(crate::proofs::Passing::one_pass_more, crate::proofs::Passing::one_at_place))]
     fn add(&mut self, book: usize, pass: Pass<Plain>) -> Result<(), Stop>
         ensures one { OnOk result (pass_count self.new ≡ pass_count self.old + 1) }
+        ensures at { OnOk result (pass_counts self.new ≡ one_more (pass_counts self.old) book) }
         ensures books { OnOk result (vec_len self.new.lists ≡ vec_len self.old.lists) }
     {
         let Some(list) = self.lists.get_mut(book) else {
@@ -65,6 +68,8 @@ impl Passes {
     /// Those of `add`.
     fn add_each(&mut self, passes: Vec<Pass<Plain>>) -> Result<(), Stop>
         ensures all { OnOk result (pass_count self.new ≡ pass_count self.old + vec_len passes) }
+        ensures each { OnOk result (pass_counts self.new
+            ≡ more_of (pass_counts self.old) (range_with_len 0 (length passes.items))) }
         ensures books { OnOk result (vec_len self.new.lists ≡ vec_len self.old.lists) }
     {
         for (book, pass) in passes.into_iter().enumerate() {
@@ -87,6 +92,8 @@ fn gather_sides<S: Sink + Drop>(
 ) -> Result<Vec<TraceFiles<S>>, Stop>
     ensures passes { OnOk result
         (pass_count passes.new ≡ pass_count passes.old + sum_by given_back ends.items) }
+    ensures each { OnOk result (pass_counts passes.new
+        ≡ more_of (pass_counts passes.old) (flat_map side_books ends.items)) }
     ensures books { OnOk result (vec_len passes.new.lists ≡ vec_len passes.old.lists) }
     ensures files { (made : Option Files)
         → All (λ end. AreCounted S.seen made end.files.files.items) ends.items
@@ -115,6 +122,8 @@ fn gather_sides<S: Sink + Drop>(
 /// Those of `Passes::add`.
 fn gather_others(passes: &mut Passes, others: Vec<BookPass<Plain>>) -> Result<(), Stop>
     ensures all { OnOk result (pass_count passes.new ≡ pass_count passes.old + vec_len others) }
+    ensures each { OnOk result (pass_counts passes.new
+        ≡ more_of (pass_counts passes.old) (map (λ p. p.book) others.items)) }
     ensures books { OnOk result (vec_len passes.new.lists ≡ vec_len passes.old.lists) }
 {
     for other in others {

@@ -1,19 +1,23 @@
 //! The dispatcher, which gives jobs to a pool as long as there are any.
 
-ghost use Rattle.std.specs.Prelude.{◌≡◌, ◌==◌, ◌+◌, ◌<◌, ◌≤◌, All, IfErr, IfOk, OnOk, is_some};
-ghost use Rattle.std.specs.Prelude.{length, true, vec_len};
-ghost use Rattle.std.specs.List.{list_all};
+ghost use Rattle.std.specs.Prelude.{◌≡◌, ◌==◌, ◌+◌, ◌*◌, ◌<◌, ◌≤◌, All, IfErr, IfOk, IsSomeAnd};
+ghost use Rattle.std.specs.Prelude.{OnOk, is_some, length, true, vec_len};
+ghost use Rattle.std.specs.Duration.{as_nanos};
+ghost use Rattle.std.specs.List.{list_all, sum_by};
+ghost use Rattle.nm_base.specs.Count.{saturated};
 ghost use Rattle.nm_run.specs.Watching.{Answers, AreOwns, names_of, owns_of};
+ghost use Rattle.nm_shared.specs.Known.{ran};
 ghost use Rattle.nm_shared.specs.Board.{IsSeatOf};
-ghost use Rattle.nm_shared.specs.Pool.{IsRunAnswer};
 ghost use Rattle.mio.specs.Events.{items};
 ghost use Rattle.nm_run.specs.declared.stop.Stop.TheVariants.{Memory};
 
 use crate::jobs::{Answered, Watched, jobs_for};
+use crate::placing::{FirstDone, Placed};
 use crate::stations::{FirstEnded, Own, Woken};
 use crate::stop::Stop;
 use crate::threads::{AllWoken, Threaded};
 use crate::told::Stopped;
+use crate::waiting::Waited;
 use mio::{Events, Poll};
 use nm_base::Time;
 use nm_book::Ran;
@@ -104,69 +108,50 @@ fn note_all<G>(
     jobs: &[Job],
     answers: &[Ran],
 ) -> Result<u64, AllocError>
-    requires { AreOwns (names_of threaded.now) (owns_of dispatcher.old.watched.items) }
+    requires owns { AreOwns (names_of threaded.now) (owns_of dispatcher.old.watched.items) }
+    requires named { All (λ j. j.book < length dispatcher.old.watched.items) jobs.now }
+    requires all { length answers.now ≡ length jobs.now }
     ensures seat { dispatcher.new.seat ≡ dispatcher.old.seat }
     ensures owns { OnOk result
         (owns_of dispatcher.new.watched.items ≡ owns_of dispatcher.old.watched.items) }
     ensures passes { dispatcher.new.passes ≡ dispatcher.old.passes }
-{
-    let mut events = 0u64;
-    for (job, answer) in jobs.iter().zip(answers) {
-        if let Some(watched) = dispatcher.watched.get_mut(job.book) {
-            events = events.saturating_add(note(threaded, watched, job, *answer)?.answered.events);
-        }
-    }
-    Ok(events)
-}
-
-/// Does jobs one after another, in this thread. Answers how many events they did.
-fn do_in_turn<G: Gate, R: Wait>(
-    rt: &R,
-    threaded: &Threaded<'_, G>,
-    dispatcher: &mut Dispatcher<'_>,
-    jobs: &[Job],
-) -> Result<u64, AllocError>
-    requires { AreOwns (names_of threaded.now) (owns_of dispatcher.old.watched.items) }
-    ensures seat { dispatcher.new.seat ≡ dispatcher.old.seat }
-    ensures owns { OnOk result
-        (owns_of dispatcher.new.watched.items ≡ owns_of dispatcher.old.watched.items) }
+    ensures events { IfOk result (λ n. n ≡ saturated (sum_by ran answers.now)) }
 {
     let mut events = 0u64;
     for number in 0..jobs.len() {
-        let job = &jobs[number];
+        let (job, answer) = (&jobs[number], answers[number]);
         if let Some(watched) = dispatcher.watched.get_mut(job.book) {
-            let GatedRun { answer, .. } = run_at(rt, threaded, watched, job, number);
             events = events.saturating_add(note(threaded, watched, job, answer)?.answered.events);
         }
     }
     Ok(events)
 }
 
-/// A job was done between the two calls of its gate, which were told its place in the list.
-#[derive(Clone, Copy)]
-struct GatedRun {
-    place: usize,
-    answer: Ran,
-}
-
-/// Does the job of a book that has this place in the list. The gate is told.
-fn run_at<G: Gate, R: Wait>(
+/// Does jobs one after another, in this thread.
+fn do_in_turn<G: Gate, R: Wait>(
     rt: &R,
     threaded: &Threaded<'_, G>,
-    watched: &mut Watched<'_>,
-    job: &Job,
-    place: usize,
-) -> GatedRun
-    requires { watched.old.own.index ≡ job.now.book }
-    ensures own { watched.new.own ≡ watched.old.own }
-    ensures place { result.place ≡ place }
-    ensures answer { IsRunAnswer job.now.limit result.answer }
+    dispatcher: &mut Dispatcher<'_>,
+    jobs: &[Job],
+) -> Result<FirstDone, AllocError>
+    requires owns { AreOwns (names_of threaded.now) (owns_of dispatcher.old.watched.items) }
+    requires named { All (λ j. j.book < length dispatcher.old.watched.items) jobs.now }
+    ensures seat { dispatcher.new.seat ≡ dispatcher.old.seat }
+    ensures owns { OnOk result
+        (owns_of dispatcher.new.watched.items ≡ owns_of dispatcher.old.watched.items) }
+    ensures all { IfOk result (λ done. done.count ≡ length jobs.now) }
 {
-    let entered = threaded.gate.enter(place);
-    let place = entered.job;
-    let answer = watched.run(rt, threaded.alloc, job);
-    threaded.gate.leave(entered);
-    GatedRun { place, answer }
+    let mut done = FirstDone::none();
+    for number in 0..jobs.len() {
+        let placed = Placed::at(jobs, number);
+        let job = placed.job();
+        if let Some(watched) = dispatcher.watched.get_mut(job.book) {
+            let run = placed.run(rt, threaded, watched);
+            let noted = note(threaded, watched, job, run.answer)?;
+            done = done.and(jobs, &run, &noted.answered);
+        }
+    }
+    Ok(done)
 }
 
 /// Keeps the passes of jobs.
@@ -188,6 +173,7 @@ fn give_to_pool<G: Gate + Sync, R: Threads + Wait + Sync>(
 ) -> Result<u64, AllocError>
     requires workers { (1 ≤ threaded.now.plan.now.workers) × (threaded.now.plan.now.workers ≤ 64) }
     requires named { All (λ j. j.book < length threaded.now.books.now) jobs.now }
+    requires watched { All (λ j. j.book < length dispatcher.old.watched.items) jobs.now }
     requires owns { AreOwns (names_of threaded.now) (owns_of dispatcher.old.watched.items) }
     ensures seat { dispatcher.new.seat ≡ dispatcher.old.seat }
     ensures owns { OnOk result
@@ -224,7 +210,7 @@ fn give_jobs<G: Gate + Sync, R: Threads + Wait + Sync>(
         dispatcher.looks_at_all,
     )?;
     if threaded.plan.workers == 1 || jobs.len() == 1 {
-        return do_in_turn(rt, threaded, dispatcher, jobs.as_slice());
+        return Ok(do_in_turn(rt, threaded, dispatcher, jobs.as_slice())?.events());
     }
     give_to_pool(rt, threaded, dispatcher, jobs.as_slice())
 }
@@ -261,18 +247,20 @@ fn idle_after(events: u64) -> Option<Idle>
 
 /// Waits until it is woken, or the time limit, since there was nothing to do. If all books are
 /// done, all replicas were woken before, so that none sleeps on.
-fn listen(dispatcher: &mut Dispatcher<'_>, woken: Option<AllWoken>, _: Idle)
+fn listen(dispatcher: &mut Dispatcher<'_>, woken: Option<AllWoken>, _: Idle) -> Waited
     requires { list_all (λ w. w.is_done) dispatcher.old.watched.items ≡ true
         → is_some woken ≡ true }
     ensures seat { dispatcher.new.seat ≡ dispatcher.old.seat }
     ensures watched { dispatcher.new.watched ≡ dispatcher.old.watched }
     ensures looks { dispatcher.new.looks_at_all
         ≡ (length (items dispatcher.new.events) == 0) }
+    ensures limit { IsSomeAnd result.limit
+        (λ limit. as_nanos limit ≡ PERIOD_MILLISECONDS * 1_000_000) }
 {
     let limit = Duration::from_millis(PERIOD_MILLISECONDS);
-    // If it can't wait nothing is reported.
-    let _ = dispatcher.poll.poll(&mut dispatcher.events, Some(limit));
+    let waited = Waited::on(&mut dispatcher.poll, &mut dispatcher.events, Some(limit));
     dispatcher.looks_at_all = dispatcher.events.is_empty();
+    waited
 }
 
 /// Whether all books are done.
@@ -328,7 +316,7 @@ pub(crate) fn dispatch<G: Gate + Sync, R: Threads + Wait + Sync>(
         woken = wake_done(threaded, dispatcher.watched.as_slice(), woken);
         dispatcher.looks_at_all = false;
         if let Some(idle) = idle_after(events) {
-            listen(dispatcher, woken, idle);
+            let _waited = listen(dispatcher, woken, idle);
         }
     }
     Err(Stopped::of(Stop::Memory, threaded.fail(rt)))

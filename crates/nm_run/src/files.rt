@@ -15,7 +15,7 @@ ghost use Rattle.nm_run.specs.Files.{AreAsMany, AreClosed, AreOwnFiles, HoldsSom
 use crate::report::IfaceTotals;
 use crate::run::RunPlan;
 use crate::stop::Stop;
-use nm_base::{IfaceNo, Sink};
+use nm_base::{IfaceNo, PartNo, Sink};
 use nm_book::channels::partition_of;
 use nm_files::{Choice, ClosedFiles, Folder, Outputs, TraceFiles, place_all};
 use nm_frames::ReplicaName;
@@ -38,6 +38,19 @@ impl Choice for Every {
     }
 }
 
+/// The folder of a run, with the trace files of a partition's interfaces.
+fn folder_of<'a>(plan: &RunPlan<'a>, partition: PartNo) -> Folder<'a, OfPartition>
+    ensures name { result.name.now ≡ plan.now.folder.now }
+    ensures topology { result.topology.now ≡ arc_value plan.now.topology.now }
+    ensures choice { result.choice.partition ≡ partition }
+{
+    Folder {
+        topology: plan.topology,
+        name: plan.folder,
+        choice: OfPartition { partition },
+    }
+}
+
 /// Makes the trace files of a replica: those of its partition's interfaces if it is the first
 /// replica of that, else none.
 pub(crate) fn files_of<F: Outputs>(
@@ -55,14 +68,7 @@ pub(crate) fn files_of<F: Outputs>(
     if name.replica > 0 {
         return Ok(TraceFiles::new(alloc));
     }
-    let folder = Folder {
-        topology: plan.topology,
-        name: plan.folder,
-        choice: OfPartition {
-            partition: name.partition,
-        },
-    };
-    Ok(folder.open(alloc, outputs)?)
+    Ok(folder_of(plan, name.partition).open(alloc, outputs)?)
 }
 
 /// The trace file of an interface, if there is one. The first replica of its partition has it; its

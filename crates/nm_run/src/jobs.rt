@@ -1,7 +1,7 @@
 //! Which books have something to do.
 
-ghost use Rattle.std.specs.Prelude.{◌≡◌, ◌↔◌, ℕ, ◌-◌, ◌<◌, ◌≤◌, All, IfOk, IsTrue, MatchResult};
-ghost use Rattle.std.specs.Prelude.{OnOk, false, length, true};
+ghost use Rattle.std.specs.Prelude.{◌≡◌, ◌↔◌, ℕ, ◌-◌, ◌<◌, ◌≤◌, All, IfOk, IfSome, IsTrue};
+ghost use Rattle.std.specs.Prelude.{MatchResult, None, OnOk, false, length, true};
 ghost use Rattle.nm_book.specs.declared.running.Ran.TheVariants.{Memory};
 ghost use Rattle.nm_run.specs.Replicas.{AreWordsOf};
 ghost use Rattle.nm_run.specs.Watching.{Answers, AreOwns, WasLookedAt, names_of, owns_of};
@@ -9,6 +9,7 @@ ghost use Rattle.nm_shared.specs.Board.{IsSeatOf};
 ghost use Rattle.nm_run.specs.declared.jobs.TheConstants.{JOB_EVENTS};
 ghost use Rattle.nm_shared.specs.Pool.{IsRunAnswer};
 
+use crate::loans::LoanSeen;
 use crate::stations::Own;
 use crate::threads::Threaded;
 use nm_base::PartNo;
@@ -43,6 +44,12 @@ pub(crate) struct Watched<'a> {
     /// The book has done events since then.
     is_stale: bool,
     pub is_done: bool,
+}
+
+/// A book is to have a job, since it was seen to be lent: only `Watched::wants` makes it.
+#[derive(Clone, Copy)]
+struct Wanted {
+    loan: LoanSeen,
 }
 
 /// A job was done: how many events it did, and that its book was given back, if it left none.
@@ -94,13 +101,13 @@ fn is_full(standing: Standing) -> bool
 }
 
 /// Whether a book in this state is to have a job, if it is lent or not.
-fn has_job(is_lent: bool, standing: Standing) -> bool
-    ensures only { result ≡ true → (is_lent ≡ true) × (standing.is_done ≡ false)
+fn has_job(loan: LoanSeen, standing: Standing) -> bool
+    ensures only { result ≡ true → (loan.is_lent ≡ true) × (standing.is_done ≡ false)
         × (standing.records - standing.handed ≤ MAX_KEPT) }
-    ensures all { is_lent ≡ true → standing.is_done ≡ false
+    ensures all { loan.is_lent ≡ true → standing.is_done ≡ false
         → standing.records - standing.handed ≤ MAX_KEPT → result ≡ true }
 {
-    is_lent && !standing.is_done && !is_full(standing)
+    loan.is_lent() && !standing.is_done && !is_full(standing)
 }
 
 impl<'a> Watched<'a> {
@@ -144,24 +151,31 @@ impl<'a> Watched<'a> {
         board: &ClockBoard,
         seat: &mut Seat,
         looks_at_all: bool,
-    ) -> bool
+    ) -> Option<Wanted>
         requires { IsSeatOf board.now seat.old }
         ensures seat { IsSeatOf board.now seat.new }
         ensures own { self.new.own ≡ self.old.own }
         ensures looked { WasLookedAt self.new }
-        ensures wanted { result ≡ true → self.new.is_done ≡ false }
+        ensures wanted { IfSome result
+            (λ w. (w.loan.is_lent ≡ true) × (self.new.is_done ≡ false)) }
+
+        // Without a pool it never has one.
+        ensures alone { self.old.own.station.now.lending ≡ false → result ≡ None }
     {
         if self.is_done {
-            return false;
+            return None;
         }
-        let is_lent = self.own.station.lending.is_lent();
-        let is_due = is_lent || self.is_stale || looks_at_all;
+        let loan = LoanSeen::of(&self.own.station.lending);
+        let is_due = loan.is_lent() || self.is_stale || looks_at_all;
         if !is_due && !has_news(board, seat, self.words.as_slice(), self.safe) {
-            return false;
+            return None;
         }
         let standing = self.own.book.act(rt, &mut self.pass, Stand);
         self.note_standing(&standing);
-        has_job(is_lent, standing)
+        if !has_job(loan, standing) {
+            return None;
+        }
+        Some(Wanted { loan })
     }
 
     /// Notes the state of its book, which was just read.
@@ -178,8 +192,8 @@ impl<'a> Watched<'a> {
         self.is_stale = false;
     }
 
-    /// A job of its book.
-    fn job(&self) -> Job
+    /// A job of its book, which is to have one.
+    fn job(&self, _: Wanted) -> Job
         ensures { (result.book ≡ self.now.own.index) × (result.limit ≡ JOB_EVENTS) }
     {
         Job {
@@ -237,6 +251,8 @@ pub(crate) fn jobs_for<G, R: Wait>(
     ensures seat { IsSeatOf threaded.now.board.now seat.new }
     ensures named { IfOk result
         (λ jobs. All (λ j. j.book < length threaded.now.books.now) jobs.items) }
+    ensures watched { IfOk result
+        (λ jobs. All (λ j. j.book < length watched.new.items) jobs.items) }
     ensures owns { OnOk result (owns_of watched.new.items ≡ owns_of watched.old.items) }
 
     // Each book was read that was noted to have changed.
@@ -248,8 +264,8 @@ pub(crate) fn jobs_for<G, R: Wait>(
         let Some(one) = watched.get_mut(number) else {
             break;
         };
-        if one.wants(rt, threaded.board, seat, looks_at_all) {
-            jobs.push(one.job())?;
+        if let Some(wanted) = one.wants(rt, threaded.board, seat, looks_at_all) {
+            jobs.push(one.job(wanted))?;
         }
     }
     Ok(jobs)

@@ -3,22 +3,22 @@
 ghost use Rattle.std.specs.Prelude.{◌==◌, ◌≡◌, ◌+◌, ◌∷◌, [], IfOk, OnOk, length, map, not};
 ghost use Rattle.std.specs.Prelude.{vec_len};
 ghost use Rattle.std.specs.Net.Addr.{ipv4_octets};
+ghost use Rattle.std.specs.Net.Socket.{v4_ip, v4_port};
 ghost use Rattle.std.specs.declared.net.socket_addr.SocketAddr.TheVariants.{V4};
+ghost use Rattle.nm_run.specs.Posts.{ArePosted};
 ghost use Rattle.nm_run.specs.Replicas.{IsNextListener, listener_pair};
 
 use crate::stations::Station;
 use crate::stop::Stop;
-use mio::{Poll, Token, Waker};
+use crate::waking::woken_poll;
+use mio::Poll;
 use nm_peers::Listener;
 use nm_shared::{Lending, Plain, SharedBook};
 use nm_transport::Bound;
 use std::alloc::Global;
 use std::io;
-use std::net::{Ipv4Addr, Net, SocketAddr};
+use std::net::{Ipv4Addr, Net, SocketAddr, SocketAddrV4};
 use std::sync::OnceLock;
-
-/// The token of wakers. Connections have their keys, and the listener the greatest token.
-const WOKEN: Token = Token(usize::MAX - 1);
 
 /// A socket that listens, and the poll on which its replica will wait.
 #[derive(Drop)]
@@ -36,19 +36,35 @@ pub(crate) struct Posts {
     pub listeners: Vec<Listener>,
 }
 
-/// A poll, and its waker.
-pub(crate) fn woken_poll<R: Net>(net: &R) -> io::Result<(Poll, Waker)> {
-    let poll = Poll::new(net)?;
-    let waker = Waker::new(poll.registry(), WOKEN)?;
-    Ok((poll, waker))
-}
-
 /// The host at which the replicas of a run listen: 127.0.0.1 (RFC 1122, section 3.2.1.3), which no
 /// other machine reaches.
 fn own_host() -> Ipv4Addr
     ensures { ipv4_octets result ≡ 127 ∷ 0 ∷ 0 ∷ 1 ∷ [] }
 {
     Ipv4Addr::LOCALHOST
+}
+
+/// Where a replica of a run asks to listen: only `ListenAt::own` makes it.
+#[derive(Clone, Copy)]
+struct ListenAt {
+    address: SocketAddrV4,
+}
+
+impl ListenAt {
+    /// At its own host, and a port that the system chooses.
+    fn own() -> Self
+        ensures host { ipv4_octets (v4_ip result.address) ≡ 127 ∷ 0 ∷ 0 ∷ 1 ∷ [] }
+        ensures port { v4_port result.address ≡ 0 }
+    {
+        ListenAt {
+            address: SocketAddrV4::new(own_host(), 0),
+        }
+    }
+
+    /// Listens there.
+    fn open<R: Net>(self, net: &R) -> io::Result<Bound> {
+        Bound::listen(net, SocketAddr::V4(self.address))
+    }
 }
 
 /// A socket that listens at a free port of 127.0.0.1, and the listener of this book's replica at
@@ -58,7 +74,7 @@ fn listen<R: Net>(net: &R, book: &SharedBook<Plain>) -> io::Result<(Bound, Liste
         × (opened.1.replica ≡ book.now.replica)) }
     ensures address { IfOk result (λ opened. opened.0 ≡ V4 opened.1.address) }
 {
-    let bound = Bound::listen(net, SocketAddr::from((own_host(), 0)))?;
+    let bound = ListenAt::own().open(net)?;
     match bound.at() {
         SocketAddr::V4(address) => Ok((
             bound,
@@ -83,6 +99,7 @@ fn open_one<R: Net>(
         posts.new.listeners.items (book.now.partition, book.now.replica)) }
     ensures one { OnOk result ((vec_len posts.new.stations ≡ vec_len posts.old.stations + 1)
         × (vec_len posts.new.posts ≡ vec_len posts.old.posts + 1)) }
+    ensures posted { ArePosted posts.old → OnOk result (ArePosted posts.new) }
 {
     let (bound, listener) = listen(net, book)?;
     let (poll, waker) = woken_poll(net)?;
@@ -90,7 +107,7 @@ fn open_one<R: Net>(
     posts.listeners.push(listener)?;
     posts.stations.push(Station {
         lending,
-        waker,
+        waker: waker.into_waker(),
         ended: OnceLock::new(),
     })?;
     Ok(())
@@ -123,6 +140,7 @@ pub(crate) fn open_posts<R: Net>(
         ≡ map (λ b. (b.partition, b.replica)) books.now) }
     ensures all { IfOk result (λ p. (vec_len p.stations ≡ length books.now)
         × (vec_len p.posts ≡ length books.now)) }
+    ensures posted { IfOk result ArePosted }
 {
     let mut posts = Posts {
         stations: Vec::new(alloc),

@@ -26,13 +26,14 @@ use crate::fault::RunFault;
 use crate::files::{close_all, files_of, place_files};
 use crate::jobs::Watched;
 use crate::keeping::{keep_books, place_known};
-use crate::posts::{Post, Posts, open_posts, woken_poll};
+use crate::posts::{Post, Posts, open_posts};
 use crate::report::{Report, report_of};
 use crate::runtime::Runtime;
 use crate::sides::{Side, SideEnd, run_threads};
 use crate::stations::Own;
 use crate::stop::Stop;
 use crate::threads::Threaded;
+use crate::waking::{DispatcherWaker, woken_poll};
 use mio::{Events, Poll};
 use nm_base::PartNo;
 use nm_book::{Book, BookFault};
@@ -147,6 +148,7 @@ fn side_of<'a, F: Outputs, G, R: Wait>(
     outputs: &mut F,
 ) -> Result<Side<'a, F::File>, Stop>
     ensures own { IfOk result (λ s. s.own ≡ own.entry) }
+    ensures post { IfOk result (λ s. s.post ≡ post) }
     ensures peers { IfOk result (λ s. ArePeers (arc_value threaded.now.plan.now.topology.now)
         own.entry.book.now.partition threaded.now.listeners.now s.peers) }
     ensures seats { IfOk result (λ s. s.holdings.seats ≡ seats.entry) }
@@ -186,6 +188,7 @@ fn sides_of<'a, F: Outputs, G, R: Wait>(
     ensures all { IfOk result (λ sides. vec_len sides ≡ length threaded.now.books.now) }
     ensures own { IfOk result (λ sides. AreOwns (names_of threaded.now)
         (map (λ s. s.own) sides.items)) }
+    ensures posts { IfOk result (λ sides. map (λ s. s.post) sides.items ≡ posts.items) }
     ensures board { IfOk result
         (λ sides. All (λ s. board_of s.holdings.seats ≡ threaded.now.board.now) sides.items) }
 
@@ -243,6 +246,7 @@ fn dispatcher_of<'a, G, R: Wait>(
 ) -> Result<Dispatcher<'a>, AllocError>
     requires { length threaded.now.stations.now ≡ length threaded.now.books.now }
     ensures seat { IfOk result (λ d. d.seat ≡ seat) }
+    ensures poll { IfOk result (λ d. d.poll ≡ poll) }
     ensures owns { IfOk result (λ d. AreOwns (names_of threaded.now) (owns_of d.watched.items)) }
     ensures all { IfOk result (λ d. vec_len d.watched ≡ length threaded.now.books.now) }
 {
@@ -285,6 +289,7 @@ where
         listeners,
     } = open_posts(rt, alloc, plan.topology.partitions(), books)?;
     let (poll, waker) = woken_poll(rt)?;
+    let waker = DispatcherWaker::new(waker);
     let has_failed = OnceLock::new();
     let threaded = Threaded {
         alloc,

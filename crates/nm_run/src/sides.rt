@@ -6,13 +6,13 @@ ghost use Rattle.nm_files.specs.Files.{AreCounted};
 ghost use Rattle.nm_files.specs.Outputs.{Files};
 ghost use Rattle.std.specs.IoError.{error_kind};
 ghost use Rattle.nm_run.specs.Faults.{IsToldAs};
-ghost use Rattle.nm_run.specs.Sides.{StillCounts};
+ghost use Rattle.nm_run.specs.Sides.{IsStartFault, StillCounts};
 ghost use Rattle.nm_run.specs.Took.{TookSome};
 ghost use Rattle.nm_run.specs.Watching.{AreOwns, names_of, owns_of};
 ghost use Rattle.nm_shared.specs.Board.{IsSeatOf};
 
 use crate::dispatching::{Dispatcher, dispatch};
-use crate::gates::SideGate;
+use crate::gates::gate_of;
 use crate::posts::Post;
 use crate::runtime::Runtime;
 use crate::stations::{Counted, Own};
@@ -113,12 +113,7 @@ fn serve_as<S: Sink, G: Gate, R: Net + Wait + Clock + Drop + Copy>(
     ensures took { result ≡ Ended → TookSome S.seen
         holdings.old.files.files.items holdings.new.files.files.items }
 {
-    let gate = SideGate {
-        gate: threaded.gate,
-        has_failed: threaded.has_failed,
-        dispatcher: threaded.dispatcher,
-        lending: &role.own.station.lending,
-    };
+    let gate = gate_of(threaded, &role.own);
     run_replica(rt, threaded.alloc, service, holdings, transport, &gate)
 }
 
@@ -247,6 +242,7 @@ pub(crate) fn run_threads<S: Sink + Drop + Send, G: Gate + Sync, R: Runtime>(
         → All (λ s. AreCounted S.seen made s.holdings.files.files.items) sides.entry.items
         → IfOk result (λ run. All (StillCounts S.seen made) run.0.items) }
     ensures told { IfErr result (λ stopped. stopped.told.are_all ≡ true) }
+    ensures stop { IfErr result (λ stopped. IsStartFault stopped.stop) }
 {
     thread::scope(
         thread::scope_env(),
@@ -260,6 +256,7 @@ pub(crate) fn run_threads<S: Sink + Drop + Send, G: Gate + Sync, R: Runtime>(
                 → All (λ s. AreCounted S.seen made s.holdings.files.files.items) sides.entry.items
                 → IfOk result (λ run. All (StillCounts S.seen made) run.0.items) }
             ensures told { IfErr result (λ stopped. stopped.told.are_all ≡ true) }
+            ensures stop { IfErr result (λ stopped. IsStartFault stopped.stop) }
         {
             let mut dispatcher = dispatcher;
             let mut threads = Vec::new(threaded.alloc);

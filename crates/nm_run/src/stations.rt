@@ -2,6 +2,7 @@
 
 ghost use Rattle.std.specs.Prelude.{◌≡◌, ◌+◌, ◌<◌, IsSomeAnd, Some, length, slice_get};
 
+use crate::waking::EndPassed;
 use mio::Waker;
 use nm_frames::ReplicaName;
 use nm_shared::{Lending, Plain, SharedBook};
@@ -117,23 +118,23 @@ impl<'a> Own<'a> {
     }
 
     /// Notes that it has ended.
-    pub(crate) fn end<R: Wait>(&self, rt: &R) -> Counted
-        ensures { result.index ≡ self.now.index }
+    pub(crate) fn end<R: Wait>(&self, rt: &R) -> OnceToken<'a, ()>
+        ensures { result.of ≡ self.now.station.now.ended.id }
     {
-        Counted::at(self, &self.station.ended.init(rt, || ()))
+        self.station.ended.init(rt, || ())
     }
 }
 
-/// The replica with this number is among those that have ended: only `Own::end` makes it.
+/// The replica with this number is among those that have ended: only `Counted::at` makes it.
 #[derive(Clone, Copy)]
 pub(crate) struct Counted {
     index: usize,
 }
 
 impl Counted {
-    /// The end of the replica was noted at its station.
-    fn at(own: &Own<'_>, noted: &OnceToken<'_, ()>) -> Self
-        requires { noted.now.of ≡ own.now.station.now.ended.id }
+    /// The end of the replica was noted at its station, and the dispatcher was told.
+    pub(crate) fn at(own: &Own<'_>, passed: &EndPassed<'_>) -> Self
+        requires { passed.now.noted.of ≡ own.now.station.now.ended.id }
         ensures { result.index ≡ own.now.index }
     {
         Counted { index: own.index }

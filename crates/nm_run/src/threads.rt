@@ -6,7 +6,7 @@ ghost use Rattle.nm_run.specs.Watching.{IsOwnAt, names_of};
 use crate::run::RunPlan;
 use crate::stations::{Counted, FirstEnded, FirstWoken, Own, Station};
 use crate::told::Told;
-use mio::Waker;
+use crate::waking::DispatcherWaker;
 use nm_peers::Listener;
 use nm_shared::{ClockBoard, Plain, SharedBook};
 use std::alloc::Global;
@@ -26,7 +26,7 @@ pub(crate) struct Threaded<'a, G> {
     pub listeners: &'a [Listener],
     pub board: &'a ClockBoard,
     /// Wakes the dispatcher.
-    pub dispatcher: &'a Waker,
+    pub dispatcher: &'a DispatcherWaker,
     /// Set once a replica has ended before it was done, or the dispatcher was refused memory.
     /// Nothing clears it.
     pub has_failed: &'a OnceLock<()>,
@@ -71,13 +71,12 @@ impl<'a, G> Threaded<'a, G> {
         Told::all(self.has_failed, &noted, self.wake_all())
     }
 
-    /// Notes that one more replica has ended.
+    /// Notes that one more replica has ended, and tells the dispatcher.
     pub(crate) fn count_end<R: Wait>(&self, rt: &R, own: &Own<'_>) -> Counted
         ensures { result.index ≡ own.now.index }
     {
-        let counted = own.end(rt);
-        let _ = self.dispatcher.wake();
-        counted
+        let passed = self.dispatcher.pass_end(own.end(rt));
+        Counted::at(own, &passed)
     }
 
     /// A witness that all replicas have ended, if they have.

@@ -7,7 +7,7 @@ use Rattle.nm_run.specs.declared.stations.Own.{Own}
 use Rattle.nm_run.proofs.Watching.{all_by_place, get_is_within, one_more_by_place, own_there}
 use Rattle.std.proofs.lemmas.List.{length-set}
 use Rattle.nm_run.proofs.jobs.jobs_for.Goals as goal
-use Rattle.nm_run.proofs.jobs.jobs_for.Goals.{then-wants+in_ok-push, else-wants, else-loop-number-test, then-loop-number-test+in_default}
+use Rattle.nm_run.proofs.jobs.jobs_for.Goals.{in-Some-wants+in_ok-push, in_default-wants, else-loop-number-test, then-loop-number-test+in_default}
 
 pub loop-number-preserved : goal.loop-number-preserved
 loop-number-preserved g c =
@@ -23,28 +23,38 @@ loop-number-preserved g c =
     let here = ap (λ (o : Own). o.index) c.wants.ensures.own ∙ own_there names watched n w owns long there in
     record {
       seat = c.wants.ensures.seat;
-      named = elim c.if-wants.branch [
-        | then-wants+in_ok-push w ↦
+      named = elim c.match-wants.branch [
+        | in-Some-wants+in_ok-push w ↦
             subst (λ v. All (λ j. j.book < length books) v.items) (sym w.jobs-is)
             (subst (All (λ j. j.book < length books)) (sym w.in_ok-push.ensures.items)
             (All-push (λ j. j.book < length books) c.loop-number.jobs.items w.job.result c.loop-number.invariant.named (subst (λ (i : ℕ). i < length books) (sym (w.job.ensures.0 ∙ here)) low)))
-        | else-wants w ↦ subst (λ v. All (λ j. j.book < length books) v.items) (sym w.jobs-is) c.loop-number.invariant.named
+        | in_default-wants w ↦ subst (λ v. All (λ j. j.book < length books) v.items) (sym w.jobs-is) c.loop-number.invariant.named
       ];
+      watched =
+          let more : length watched ≡ length c.args.watched.now.items = c.loop-number.invariant.long in
+          elim c.match-wants.branch [
+            | in-Some-wants+in_ok-push w ↦
+                subst (λ v. All (λ j. j.book < length c.args.watched.now.items) v.items) (sym w.jobs-is)
+                (subst (All (λ j. j.book < length c.args.watched.now.items)) (sym w.in_ok-push.ensures.items)
+                (All-push (λ j. j.book < length c.args.watched.now.items) c.loop-number.jobs.items w.job.result c.loop-number.invariant.watched
+                (let book = w.job.ensures.0 ∙ here in omega (arith, book, more, long))))
+            | in_default-wants w ↦ subst (λ v. All (λ j. j.book < length c.args.watched.now.items) v.items) (sym w.jobs-is) c.loop-number.invariant.watched
+          ];
       owns =
           let kept = map-set_same (λ x. x.own) watched n c.wants.new.self w (c.wants.ensures.own ∙ ap (λ x. x.own) there) ∙ c.loop-number.invariant.owns in
-          elim c.if-wants.branch [
-            | then-wants+in_ok-push w ↦ ap (λ v. owns_of v.items) w.watched-is ∙ kept
-            | else-wants w ↦ ap (λ v. owns_of v.items) w.watched-is ∙ kept
+          elim c.match-wants.branch [
+            | in-Some-wants+in_ok-push w ↦ ap (λ v. owns_of v.items) w.watched-is ∙ kept
+            | in_default-wants w ↦ ap (λ v. owns_of v.items) w.watched-is ∙ kept
           ];
-      long = elim c.if-wants.branch [
-        | then-wants+in_ok-push w ↦ ap (λ v. length v.items) w.watched-is ∙ length-set watched n c.wants.new.self ∙ c.loop-number.invariant.long
-        | else-wants w ↦ ap (λ v. length v.items) w.watched-is ∙ length-set watched n c.wants.new.self ∙ c.loop-number.invariant.long
+      long = elim c.match-wants.branch [
+        | in-Some-wants+in_ok-push w ↦ ap (λ v. length v.items) w.watched-is ∙ length-set watched n c.wants.new.self ∙ c.loop-number.invariant.long
+        | in_default-wants w ↦ ap (λ v. length v.items) w.watched-is ∙ length-set watched n c.wants.new.self ∙ c.loop-number.invariant.long
       ];
       looked =
           let more = one_more_by_place WasLookedAt watched n c.wants.new.self c.loop-number.invariant.looked c.wants.ensures.looked in
-          elim c.if-wants.branch [
-            | then-wants+in_ok-push w ↦ λ k a low is. more k a low (ap (λ v. slice_get v.items k) (sym w.watched-is) ∙ is)
-            | else-wants w ↦ λ k a low is. more k a low (ap (λ v. slice_get v.items k) (sym w.watched-is) ∙ is)
+          elim c.match-wants.branch [
+            | in-Some-wants+in_ok-push w ↦ λ k a low is. more k a low (ap (λ v. slice_get v.items k) (sym w.watched-is) ∙ is)
+            | in_default-wants w ↦ λ k a low is. more k a low (ap (λ v. slice_get v.items k) (sym w.watched-is) ∙ is)
           ];
     }
 

@@ -9,6 +9,7 @@ abbrev pub invariant-loop-number : goal.invariant-loop-number
 invariant-loop-number g l = record {
   seat : IsSeatOf l.threaded.board.now l.seat;
   named : All (λ j. j.book < length l.threaded.books.now) l.jobs.items;
+  watched : All (λ j. j.book < length l.fn.watched.items) l.jobs.items;
   owns : owns_of l.watched.items ≡ owns_of l.fn.watched.items;
   long : length l.watched.items ≡ length l.fn.watched.items;
   looked : (k : ℕ) (w : Watched) → k < l.number → slice_get l.watched.items k ≡ Some w → WasLookedAt w;

@@ -9,7 +9,8 @@ use Rattle.nm_replica.specs.Words.{is_word_of}
 use Rattle.nm_shared.specs.Board.{owned_word}
 use Rattle.nm_run.specs.Watching.{IsOwnAt, names_of}
 use Rattle.nm_run.proofs.Dealing.{AreLeft, left_more, own_left, same_words}
-use Rattle.nm_run.proofs.Watching.{owns_more}
+use Rattle.std.specs.Vec.Iter.{into_iter_items}
+use Rattle.nm_run.proofs.Watching.{one_placed, owns_more}
 use Rattle.nm_run.proofs.run.sides_of.Goals as goal
 
 pub loop-post-preserved : goal.loop-post-preserved
@@ -33,6 +34,9 @@ loop-post-preserved g c =
     let is = c.in_ok-side_of.ensures in
     record {
       all = search rules;
+      posts =
+          let more = into_iter_items c.next.new.self in
+          ap (λ l. map (λ s. s.post) l ++ more) last ∙ one_placed (λ s. s.post) sides side c.in-Some.post more (is.post) ∙ ap (λ l. map (λ s. s.post) sides ++ l) (sym c.in-Some.ensures.steps.0) ∙ was.posts;
       rest = c.in_ok-seats.ensures.board.1 ∙ was.rest;
       left = subst (λ n. AreLeft t names n (words_of c.in_ok-seats.field-0.others) words) (sym (ap length last ∙ length_push sides side))
           (left_more t names (length sides) p r rest (words_of c.in_ok-seats.field-0.others) words c.requires.names at.1 others was.left);

@@ -1,4 +1,4 @@
-use Rattle.std.proofs.Common.{◌≡◌, ◌+◌, All, length, map, vec_len}
+use Rattle.std.proofs.Common.{◌≡◌, ◌+◌, ◌++◌, All, length, map, vec_len}
 use Rattle.std.specs.Vec.Iter.{into_iter_items}
 use Rattle.std.specs.Arc.{arc_value}
 use Rattle.std.specs.List.{filter}
@@ -13,6 +13,7 @@ use Rattle.nm_run.proofs.run.sides_of.Given as goal
 abbrev pub invariant-loop-post : goal.invariant-loop-post
 invariant-loop-post g l = record {
   all : vec_len l.sides + length (into_iter_items l.post-iterator) ≡ vec_len l.fn.posts;
+  posts : map (λ s. s.post) l.sides.items ++ into_iter_items l.post-iterator ≡ l.fn.posts.items;
   rest : board_of l.rest ≡ l.threaded.board.now;
   left : AreLeft (arc_value l.threaded.plan.now.topology.now) (names_of l.threaded) (length l.sides.items) (words_of l.rest) (map owned_word l.fn.owners.items);
   own : AreOwns (names_of l.threaded) (map (λ s. s.own) l.sides.items);

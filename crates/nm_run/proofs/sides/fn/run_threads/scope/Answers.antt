@@ -65,4 +65,5 @@ returns-in-Ok-into_passes g c =
           (c.loop-thread.invariant.counted made
           (subst (All (λ h. AreCounted seen made h.promise.0.value.files.items)) (sym c.into_iter-thread-iterator.ensures.into_iter_gives.0) begun.1)).1;
       told = search rules;
+      stop = search rules;
     }
