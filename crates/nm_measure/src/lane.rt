@@ -52,11 +52,11 @@ impl Lane {
     }
 
     /// A packet's transmission starts at once. No packet waits.
-    pub(crate) fn send(&mut self, tag: Tag) -> Result<(), AllocError>
-        ensures line { OnOk result (self.new.line.items ≡ self.old.line.items ++ tag ∷ []) }
+    pub(crate) fn send(&mut self, tag: &Tag) -> Result<(), AllocError>
+        ensures line { OnOk result (self.new.line.items ≡ self.old.line.items ++ tag.now ∷ []) }
         ensures waiting { self.new.waiting ≡ self.old.waiting }
     {
-        self.line.push_back(tag)?;
+        self.line.push_back(tag.again())?;
         Ok(())
     }
 
@@ -69,11 +69,11 @@ impl Lane {
     }
 
     /// A packet waits, behind all others.
-    pub(crate) fn wait(&mut self, tag: Tag) -> Result<(), AllocError>
-        ensures line { OnOk result (self.new.line.items ≡ self.old.line.items ++ tag ∷ []) }
+    pub(crate) fn wait(&mut self, tag: &Tag) -> Result<(), AllocError>
+        ensures line { OnOk result (self.new.line.items ≡ self.old.line.items ++ tag.now ∷ []) }
         ensures waiting { OnOk result (self.new.waiting ≡ self.old.waiting + 1) }
     {
-        self.line.push_back(tag)?;
+        self.line.push_back(tag.again())?;
         self.waiting += 1;
         Ok(())
     }

@@ -56,14 +56,6 @@ pub(crate) struct Watched {
     courses: Option<Courses>,
 }
 
-/// A packet that a node offers to an interface.
-#[derive(Drop)]
-struct Offer {
-    node: NodeNo,
-    tag: Tag,
-    now: Time,
-}
-
 /// The direction of each interface, without packets.
 fn lanes_of(alloc: Global, topology: &Topology) -> Result<Vec<Lane>, AllocError>
     ensures count { IfOk result (λ all. length all.items ≡ length topology.now.ifaces) }
@@ -351,12 +343,8 @@ impl Watched {
             now,
         };
         self.see_end(&tag, fate, reason, arrival)?;
-        let offer = Offer {
-            node,
-            tag: answer_to(fate, tag),
-            now,
-        };
-        self.see_offer(offer, happened.offering)
+        let answer = answer_to(fate, tag);
+        self.see_offer(&answer, now, happened.offering)
     }
 
     /// The packet that is longest on the link from an interface leaves it.
@@ -455,53 +443,53 @@ impl Watched {
             };
             return self.see_loss(&tag, end);
         }
-        self.see_offer(Offer { node, tag, now }, happened.offering)
+        self.see_offer(&tag, now, happened.offering)
     }
 
     /// Sees what becomes of a packet that a node sends: it starts, waits, or is dropped.
-    fn see_offer(&mut self, offer: Offer, offering: Offering) -> Result<(), AllocError>
+    fn see_offer(&mut self, tag: &Tag, now: Time, offering: Offering) -> Result<(), AllocError>
         ensures watches { OnOk result ((count : ℕ) (all : ℕ → List Tag × List Tag)
-            (ends : List WayEnd) (end : ℕ → WayEnd) → IsDropOf offer.tag end
-            → CanBe count all offering → ((j : ℕ) → offering ≡ Nothing → one_of j offer.tag ≡ 0)
-            → Watches count all (offer.tag ∷ []) ends self.old
-            → Watches count (with_offer offering offer.tag all) [] (ends ++ dropped_as end offering)
+            (ends : List WayEnd) (end : ℕ → WayEnd) → IsDropOf tag.now end
+            → CanBe count all offering → ((j : ℕ) → offering ≡ Nothing → one_of j tag.now ≡ 0)
+            → Watches count all (tag.now ∷ []) ends self.old
+            → Watches count (with_offer offering tag.now all) [] (ends ++ dropped_as end offering)
             self.new) }
         ensures sent { sent_numbers self.new.flows.counts.items
             ≡ sent_numbers self.old.flows.counts.items }
         ensures starts { OnOk result (map start_of self.new.flows.times.items
             ≡ map start_of self.old.flows.times.items) }
         ensures courses { OnOk result (NumbersRise self.old.courses → self.new.courses
-            ≡ option_map (went_out offering offer.tag offer.now) self.old.courses) }
+            ≡ option_map (went_out offering tag.now now) self.old.courses) }
     {
         match offering {
-            Offering::Started(iface) => self.see_start(offer, iface),
+            Offering::Started(iface) => self.see_start(tag, iface, now),
             Offering::Waits(iface) => match self.lanes.get_mut(iface.index()) {
-                Some(lane) => lane.wait(offer.tag),
+                Some(lane) => lane.wait(tag),
                 None => Ok(()),
             },
-            Offering::Dropped(iface) => self.see_drop(&offer.tag, iface, offer.now),
+            Offering::Dropped(iface) => self.see_drop(tag, iface, now),
             Offering::Nothing => Ok(()),
         }
     }
 
     /// Sees the transmission of a packet start that was offered to this interface.
-    fn see_start(&mut self, offer: Offer, iface: IfaceNo) -> Result<(), AllocError>
+    fn see_start(&mut self, tag: &Tag, iface: IfaceNo, now: Time) -> Result<(), AllocError>
         ensures flows { self.new.flows ≡ self.old.flows }
         ensures watches { OnOk result ((count : ℕ) (all : ℕ → List Tag × List Tag)
-            (ends : List WayEnd) → Watches count all (offer.tag ∷ []) ends self.old → iface < count
+            (ends : List WayEnd) → Watches count all (tag.now ∷ []) ends self.old → iface < count
             → (all iface).1 ≡ []
-            → Watches count (with_start iface offer.tag all) [] ends self.new) }
+            → Watches count (with_start iface tag.now all) [] ends self.new) }
         ensures courses { OnOk result (NumbersRise self.old.courses → self.new.courses
-            ≡ option_map (went_out (Started iface) offer.tag offer.now) self.old.courses) }
+            ≡ option_map (went_out (Started iface) tag.now now) self.old.courses) }
     {
         let hop = Hop {
             iface,
             dir: Dir::Out,
-            time: offer.now,
+            time: now,
         };
-        self.pass(&offer.tag, hop)?;
+        self.pass(tag, hop)?;
         match self.lanes.get_mut(iface.index()) {
-            Some(lane) => lane.send(offer.tag),
+            Some(lane) => lane.send(tag),
             None => Ok(()),
         }
     }

@@ -57,10 +57,10 @@ returns-clause-watches c =
     let four = answer_to_hand count popped c.said_of-fate.result.0 tag (ends ++ ended_as how (outcome_by c.said_of-fate.result.0)) w3.lanes.items w3.flows.counts.items w3.flows.times.items three in
     let answer = answer_tag (fate_at t v x.1) x.0 in
     let answers : answer_tag c.said_of-fate.result.0 tag ≡ answer = (λ j. answer_tag (fate j) (left.0 j)) in
-    let five : Watches count popped (c.answer_to.result ∷ []) (ends ++ ended_as how (outcome_by (fate_at t v x.1))) w3 =
-    subst (λ f. Watches count popped (c.answer_to.result ∷ []) (ends ++ ended_as how (outcome_by f)) w3) fate
-    (subst (λ g. Watches count popped (g ∷ []) (ends ++ ended_as how (outcome_by c.said_of-fate.result.0)) w3) (sym c.answer_to.ensures) four) in
-    let is = c.answer_to.ensures ∙ answers in
+    let five : Watches count popped (c.answer_to-answer.result ∷ []) (ends ++ ended_as how (outcome_by (fate_at t v x.1))) w3 =
+    subst (λ f. Watches count popped (c.answer_to-answer.result ∷ []) (ends ++ ended_as how (outcome_by f)) w3) fate
+    (subst (λ g. Watches count popped (g ∷ []) (ends ++ ended_as how (outcome_by c.said_of-fate.result.0)) w3) (sym c.answer_to-answer.ensures) four) in
+    let is = c.answer_to-answer.ensures ∙ answers in
     let dropped = drop_at c.args.now (answer, x.1) in
     let new = c.see_offer.new.self in
     let six = offers count popped (ends ++ ended_as how (outcome_by (fate_at t v x.1))) dropped (λ i. (sym is, refl, refl)) step.can (λ j none. ap (one_of j) is ∙ step.nothing j none) five in
@@ -97,7 +97,7 @@ returns-clause-followed c =
     let octets : c.from.result ≡ length x.1 = c.from.ensures ∙ ap (λ (a : Arrived). a.octets) (sym told) ∙ step.told.3 in
     let kept = c.leave_link-tag.ensures.courses in
     let hop : Hop = record { iface = c.args.number; dir = In; time = c.args.now } in
-    let is : c.answer_to.result ≡ answer_tag (fate_at t v x.1) x.0 = c.answer_to.ensures ∙ (λ q. answer_tag (fate q) (left.0 q)) in
+    let is : c.answer_to-answer.result ≡ answer_tag (fate_at t v x.1) x.0 = c.answer_to-answer.ensures ∙ (λ q. answer_tag (fate q) (left.0 q)) in
     arrival_goes t j taken n c.args.now c.args.number p h next step far c.args.self.now.courses c.pass.new.self.courses c.see_end.new.self.courses c.see_offer.new.self.courses
     (λ r. c.in_ok-pass.ensures.courses (subst NumbersRise (sym kept) r) ∙ (λ q. option_map (gone_past (left.0 q) hop) (kept q)))
     (λ r. c.in_ok-see_end.ensures.courses r ∙ (λ q. option_map (came_to_end (left.0 q) (outcome_by (fate q)) (said.1 q) (record { node = home q; octets = octets q; now = c.args.now })) c.pass.new.self.courses))

@@ -11,8 +11,8 @@ returns-in-Started-clause-watches c =
     let new = c.see_start.new.self in
     on_ok c.see_start.result _ _ (λ starts count all ends end drops can none was.
     let may = subst (CanBe count all) c.in-Started.is can in
-    offered_as count all ends c.args.offering _ c.in-Started.is c.args.offer.tag end new.lanes.items new.flows.counts.items new.flows.times.items
-    (subst (λ l. AreWatched count (with_offer (Started c.in-Started.iface) c.args.offer.tag all) [] l new.lanes.items new.flows.counts.items new.flows.times.items) (sym (append-nil ends))
+    offered_as count all ends c.args.offering _ c.in-Started.is c.args.tag.now end new.lanes.items new.flows.counts.items new.flows.times.items
+    (subst (λ l. AreWatched count (with_offer (Started c.in-Started.iface) c.args.tag.now all) [] l new.lanes.items new.flows.counts.items new.flows.times.items) (sym (append-nil ends))
     (starts count all ends was may.0 may.1))) c.see_start.ensures.watches
 
 pub returns-in-Some-clause-watches : goal.returns-in-Some-clause-watches
@@ -24,22 +24,22 @@ returns-in-Some-clause-watches c =
     let there : c.index.result < length w.lanes.items = search rules in
     let at = read_at w.lanes.items i c.index.result x c.index.ensures there c.in-Some.ensures.value in
     ok_both c.wait.result _ _ _ (λ line waiting count all ends end drops can none was.
-    offered_as count all ends c.args.offering _ c.in-Waits.is c.args.offer.tag end (slice_set w.lanes.items c.index.result y) w.flows.counts.items w.flows.times.items
-    (subst (λ l. AreWatched count (with_wait i c.args.offer.tag all) [] l (slice_set w.lanes.items c.index.result y) w.flows.counts.items w.flows.times.items) (sym (append-nil ends))
-    (subst (λ k. AreWatched count (with_wait i c.args.offer.tag all) [] ends (slice_set w.lanes.items k y) w.flows.counts.items w.flows.times.items) (sym c.index.ensures)
-    (waits_behind count all ends w.lanes.items w.flows.counts.items w.flows.times.items i x y at c.args.offer.tag was line waiting)))) c.wait.ensures.line c.wait.ensures.waiting
+    offered_as count all ends c.args.offering _ c.in-Waits.is c.args.tag.now end (slice_set w.lanes.items c.index.result y) w.flows.counts.items w.flows.times.items
+    (subst (λ l. AreWatched count (with_wait i c.args.tag.now all) [] l (slice_set w.lanes.items c.index.result y) w.flows.counts.items w.flows.times.items) (sym (append-nil ends))
+    (subst (λ k. AreWatched count (with_wait i c.args.tag.now all) [] ends (slice_set w.lanes.items k y) w.flows.counts.items w.flows.times.items) (sym c.index.ensures)
+    (waits_behind count all ends w.lanes.items w.flows.counts.items w.flows.times.items i x y at c.args.tag.now was line waiting)))) c.wait.ensures.line c.wait.ensures.waiting
 
 pub returns-in-Dropped-clause-watches : goal.returns-in-Dropped-clause-watches
 returns-in-Dropped-clause-watches c =
     let new = c.see_drop.new.self in
     on_ok c.see_drop.result _ _ (λ loses count all ends end drops can none was.
-    offered_as count all ends c.args.offering _ c.in-Dropped.is c.args.offer.tag end new.lanes.items new.flows.counts.items new.flows.times.items
+    offered_as count all ends c.args.offering _ c.in-Dropped.is c.args.tag.now end new.lanes.items new.flows.counts.items new.flows.times.items
     (let z = drops c.in-Dropped.iface in loses count all ends (end c.in-Dropped.iface) z.0 z.1 z.2 was)) c.see_drop.ensures.watches
 
 pub returns-in-Nothing-clause-watches : goal.returns-in-Nothing-clause-watches
 returns-in-Nothing-clause-watches c =
     let w = c.args.self.now in
     λ count all ends end drops can none was.
-    offered_as count all ends c.args.offering _ c.in-Nothing.is c.args.offer.tag end w.lanes.items w.flows.counts.items w.flows.times.items
+    offered_as count all ends c.args.offering _ c.in-Nothing.is c.args.tag.now end w.lanes.items w.flows.counts.items w.flows.times.items
     (subst (λ l. AreWatched count all [] l w.lanes.items w.flows.counts.items w.flows.times.items) (sym (append-nil ends))
-    (nothing_in_hand count all c.args.offer.tag ends w.lanes.items w.flows.counts.items w.flows.times.items was (λ j. none j c.in-Nothing.is)))
+    (nothing_in_hand count all c.args.tag.now ends w.lanes.items w.flows.counts.items w.flows.times.items was (λ j. none j c.in-Nothing.is)))

@@ -13,10 +13,10 @@ returns-in-Some-clause-watches c =
     let there : c.index.result < length w.lanes.items = search rules in
     let at = read_at w.lanes.items c.args.iface c.index.result x c.index.ensures there c.in-Some.ensures.value in
     ok_with c.send.result _ _ _ (λ line waiting count all ends was low none.
-    let here = subst (λ v. AreWatched count all (c.args.offer.tag ∷ []) ends v.items w.flows.counts.items w.flows.times.items) (sym c.pass.ensures.lanes)
-    (subst (λ f. AreWatched count all (c.args.offer.tag ∷ []) ends c.args.self.now.lanes.items f.counts.items f.times.items) (sym c.pass.ensures.flows) was) in
-    subst (λ k. AreWatched count (with_start c.args.iface c.args.offer.tag all) [] ends (slice_set w.lanes.items k y) w.flows.counts.items w.flows.times.items) (sym c.index.ensures)
-    (starts_at_once count all ends w.lanes.items w.flows.counts.items w.flows.times.items c.args.iface x y at c.args.offer.tag here none line waiting)) c.send.ensures.line c.send.ensures.waiting
+    let here = subst (λ v. AreWatched count all (c.args.tag.now ∷ []) ends v.items w.flows.counts.items w.flows.times.items) (sym c.pass.ensures.lanes)
+    (subst (λ f. AreWatched count all (c.args.tag.now ∷ []) ends c.args.self.now.lanes.items f.counts.items f.times.items) (sym c.pass.ensures.flows) was) in
+    subst (λ k. AreWatched count (with_start c.args.iface c.args.tag.now all) [] ends (slice_set w.lanes.items k y) w.flows.counts.items w.flows.times.items) (sym c.index.ensures)
+    (starts_at_once count all ends w.lanes.items w.flows.counts.items w.flows.times.items c.args.iface x y at c.args.tag.now here none line waiting)) c.send.ensures.line c.send.ensures.waiting
 
 pub returns-in-Some-clause-courses : goal.returns-in-Some-clause-courses
 returns-in-Some-clause-courses c = ok_of c.send.result _ c.in_ok-pass.ensures.courses
