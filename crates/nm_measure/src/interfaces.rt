@@ -72,8 +72,8 @@ fn queued_at(offering: Offering) -> Option<IfaceNo>
 }
 
 /// The interface whose queue an event at this place may have changed. A packet that starts at once
-/// finds an empty queue and leaves one; so does a completion behind which none starts. A packet that
-/// is dropped leaves a full one as it is.
+/// finds an empty queue and leaves one; so does a completion behind which none starts. A packet
+/// that is dropped leaves a full one as it is.
 fn queue_turned(place: &Place, happened: &Happened) -> Option<IfaceNo>
     ensures { result ≡ queue_turned place.now happened.now }
 {

@@ -1,6 +1,7 @@
 //! Connections that are closed: to make room, since they are stale, or since they broke.
 
-ghost use Rattle.std.specs.Prelude.{◌≡◌, IfErr, None, OnOk, Option, if◌then◌else◌, is_some, true, ℕ};
+ghost use Rattle.std.specs.Prelude.{◌≡◌, ℕ, IfErr, None, OnOk, Option, is_some, true};
+ghost use Rattle.std.specs.Prelude.{if◌then◌else◌};
 ghost use Rattle.slab.specs.Slab.{Updates, get};
 ghost use Rattle.nm_transport.specs.Asked.{after_unwatch};
 ghost use Rattle.nm_policy.specs.Contacts.{after, contact_at};

@@ -14,11 +14,11 @@ one_pass_more count lists book new old low at more =
     omega (arith, set, same, more)
 
 -- what is counted of some lists, where one has one more
-pub one_at_place : {V : Type 0} (count : V → ℕ) (lists : List V) (book : ℕ) (new old : V) → book < length lists → slice_index_or lists book old ≡ old → count new ≡ count old + 1
+pub one_there : {V : Type 0} (count : V → ℕ) (lists : List V) (book : ℕ) (new old : V) → book < length lists → slice_index_or lists book old ≡ old → count new ≡ count old + 1
     → map count (slice_set lists book new) ≡ slice_set (map count lists) book (slice_index (map count lists) book + 1)
-one_at_place count [] book new old low at more = absurd (omega (arith, low))
-one_at_place count (list ∷ lists) zero new old low at more = ap (λ n. n ∷ map count lists) (more ∙ ap (λ l. count l + 1) (sym at))
-one_at_place count (list ∷ lists) (suc book) new old low at more = ap (λ l. count list ∷ l) (one_at_place count lists book new old (omega (arith, low)) at more)
+one_there count [] book new old low at more = absurd (omega (arith, low))
+one_there count (list ∷ lists) zero new old low at more = ap (λ n. n ∷ map count lists) (more ∙ ap (λ l. count l + 1) (sym at))
+one_there count (list ∷ lists) (suc book) new old low at more = ap (λ l. count list ∷ l) (one_there count lists book new old (omega (arith, low)) at more)
 
 -- behind some, one more
 pub more_behind : (counts books : List ℕ) (book : ℕ) → more_of counts (books ++ book ∷ []) ≡ one_more (more_of counts books) book

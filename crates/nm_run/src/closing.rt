@@ -48,7 +48,7 @@ impl Passes {
     /// # Errors
     ///
     /// `Broken` if there is no such book. `Memory` if memory was refused.
-    #[tactic(auto, using(crate::proofs::Passing::one_pass_more, crate::proofs::Passing::one_at_place))]
+    #[tactic(auto, using(crate::proofs::Passing::one_pass_more, crate::proofs::Passing::one_there))]
     fn add(&mut self, book: usize, pass: Pass<Plain>) -> Result<(), Stop>
         ensures one { OnOk result (pass_count self.new ≡ pass_count self.old + 1) }
         ensures at { OnOk result (pass_counts self.new ≡ one_more (pass_counts self.old) book) }
