@@ -25,7 +25,7 @@ use Rattle.nm_measure.specs.declared.seen.Seen.{Seen}
 use Rattle.nm_measure.specs.Queues.{in_octets, in_packets}
 use Rattle.nm_measure.specs.Seen.{IsSeen}
 use Rattle.nm_measure.specs.Usage.{span_after}
-use Rattle.nm_measure.specs.Waiting.{queue_later, waits_of}
+use Rattle.nm_measure.specs.Waiting.{queue_later}
 
 -- of each interface after n events; the most that waited recently count since `first` events
 pub record AreSeen (t : TopologyValue) (first n : ℕ) (all : List Seen) : Type 0 where
@@ -51,10 +51,6 @@ waits_at port = record {
 -- at interface i in this state of a run
 abbrev pub queue_in : ℕ → State (List ℕ) NodeStateValue → Waits
 queue_in i s = waits_at (s.port i)
-
--- as was seen last
-abbrev pub seen_queue : Seen → Waits
-seen_queue x = waits_of x.queue
 
 -- the part is the whole network after event n, which happened now and at this place, and in which
 -- this happened

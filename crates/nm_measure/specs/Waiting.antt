@@ -37,10 +37,3 @@ queue_later q waits now = record {
 -- the count of the most that wait starts again
 abbrev pub queue_begun : Queue → Queue
 queue_begun q = record q { packets = level_begun q.packets; octets = level_begun q.octets }
-
--- what waits now
-abbrev pub waits_of : Queue → Waits
-waits_of q = record {
-  packets = q.packets.waiting;
-  octets = q.octets.waiting;
-}

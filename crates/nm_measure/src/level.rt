@@ -44,13 +44,6 @@ impl Level {
         }
     }
 
-    /// How many wait.
-    pub(crate) fn waiting(&self) -> u64
-        ensures { result ≡ self.now.waiting }
-    {
-        self.waiting
-    }
-
     /// The most that waited at one time.
     pub(crate) fn longest(&self) -> u64
         ensures { result ≡ self.now.longest }
