@@ -1,5 +1,5 @@
 -- The lanes of interfaces, one step later.
-use Rattle.std.proofs.Common.{◌≡◌, ◌≢◌, ℕ, suc, ◌+◌, ◌-◌, ◌<◌, List, [], ◌∷◌, ◌++◌, length, Option, Some, slice_get, slice_set, refl, sym, ap, ◌∙◌, subst, arith, ⊎_elim, length-set, append_assoc, append-nil, length-append}
+use Rattle.std.proofs.Common.{◌≡◌, ◌≢◌, ℕ, suc, ◌+◌, ◌-◌, ◌<◌, List, [], ◌∷◌, ◌++◌, length, Option, None, Some, IsSomeAnd, slice_get, slice_set, refl, sym, ap, ◌∙◌, subst, arith, ⊎_elim, length-set, append_assoc, append-nil, length-append}
 use Rattle.std.proofs.lemmas.List.Sums.{sum_by_push, sum_by-cons, sum_by-set}
 use Rattle.std.proofs.lemmas.Option.{get_or_from_slice_get, slice_get_within}
 use Rattle.nm_model.proofs.ListLemmas.{same_number, set_here, set_there, some_inj}
@@ -78,22 +78,29 @@ module _ (count : ℕ) (all : ℕ → List Tag × List Tag) (ends : List WayEnd)
     numbers = numbers_as old new was same;
   }
 
+  -- the first packet on the link is the first in line
+  line_of : (tag : Tag) (on : List Tag) → AreWatched count all [] ends lanes counts times → (all k).0 ≡ tag ∷ on → x.line.items ≡ tag ∷ (on ++ (all k).1)
+  line_of tag on was first = (was.each k x at).line ∙ ap (λ l. l ++ (all k).1) first
+
+  is_on_link : (tag : Tag) (on : List Tag) → AreWatched count all [] ends lanes counts times → (all k).0 ≡ tag ∷ on → x.waiting < length x.line.items
+  is_on_link tag on was first =
+      let long = (was.each k x at).waiting in
+      let count_all = ap length (line_of tag on was first) in
+      let more = length-append on (all k).1 in
+      omega (arith, long, count_all, more)
+
   -- the first packet on the link arrives
-  pub leaves_link : (r tag : Tag) (on : List Tag) → AreWatched count all [] ends lanes counts times → (all k).0 ≡ tag ∷ on
-      → (x.waiting < length x.line.items → x.line.items ≡ r ∷ y.line.items) → y.waiting ≡ x.waiting
-      → (r ≡ tag) × AreWatched count (set_at all k (on, (all k).1)) (tag ∷ []) ends (slice_set lanes k y) counts times
-  leaves_link r tag on was first takes same =
-      let h = was.each k x at in
+  pub leaves_link : (r : Option Tag) (tag : Tag) (on : List Tag) → AreWatched count all [] ends lanes counts times → (all k).0 ≡ tag ∷ on
+      → (x.waiting < length x.line.items → IsSomeAnd r (λ z. x.line.items ≡ z ∷ y.line.items)) → y.waiting ≡ x.waiting
+      → (r ≡ Some tag) × AreWatched count (set_at all k (on, (all k).1)) (tag ∷ []) ends (slice_set lanes k y) counts times
+  leaves_link None tag on was first takes same = absurd (takes (is_on_link tag on was first))
+  leaves_link (Some r) tag on was first takes same =
       let w = (all k).1 in
-      let line : x.line.items ≡ tag ∷ (on ++ w) = h.line ∙ ap (λ l. l ++ w) first in
-      let long = h.waiting in
-      let count_all = ap length line in
-      let more = length-append on w in
-      let split : r ∷ y.line.items ≡ tag ∷ (on ++ w) = sym (takes (omega (arith, long, count_all, more))) ∙ line in
-      let is : r ≡ tag = head_is r tag y.line.items (on ++ w) split in
+      let line = line_of tag on was first in
+      let split : r ∷ y.line.items ≡ tag ∷ (on ++ w) = sym (takes (is_on_link tag on was first)) ∙ line in
       let rest : y.line.items ≡ on ++ w = tail_is r tag y.line.items (on ++ w) split in (
-        is,
-        lane_is (on, w) (record { line = rest; waiting = same ∙ h.waiting }) [] (tag ∷ []) was
+        ap Some (head_is r tag y.line.items (on ++ w) split),
+        lane_is (on, w) (record { line = rest; waiting = same ∙ (was.each k x at).waiting }) [] (tag ∷ []) was
             (λ j. let a = ap (own_among j) line in let b = ap (own_among j) rest in let c = sum_by-cons (one_of j) tag (on ++ w) in omega (arith, a, b, c)),
       )
 

@@ -1,11 +1,12 @@
 //! One direction of a link.
 
-ghost use Rattle.std.specs.Prelude.{◌≡◌, ◌≤◌, ◌<◌, ◌+◌, ◌-◌, ◌∷◌, ◌++◌, OnOk, [], length};
+ghost use Rattle.std.specs.Prelude.{◌≡◌, ◌≤◌, ◌<◌, ◌+◌, ◌-◌, ◌∷◌, ◌++◌, OnOk, IsSomeAnd, None};
+ghost use Rattle.std.specs.Prelude.{[], length};
 ghost use Rattle.std.specs.Option.{option_map};
 ghost use Rattle.std.specs.Prelude.{slice_get};
 ghost use Rattle.std.specs.VecDeque.{deque_len};
-ghost use Rattle.nm_measure.specs.Ways.{nobodys};
 
+use crate::boxed_tag::BoxedTag;
 use crate::tag::Tag;
 use std::alloc::{AllocError, Global};
 use std::collections::VecDeque;
@@ -17,7 +18,7 @@ use std::collections::VecDeque;
 pub(crate) struct Lane {
     /// The packets on the link, from the start of their transmission on, and behind them those that
     /// wait.
-    line: VecDeque<Tag>,
+    line: VecDeque<BoxedTag>,
     /// How many packets wait at the interface.
     waiting: usize,
     ghost within: { waiting ≤ deque_len line },
@@ -40,23 +41,15 @@ impl Lane {
         ensures { option_map (λ x. x.now) result ≡ slice_get self.now.line.items
             (length self.now.line.items - self.now.waiting) }
     {
-        self.line.get(self.line.len() - self.waiting)
-    }
-
-    /// The packet that has been on the link longest, if there is one.
-    pub(crate) fn front(&self) -> Option<&Tag> {
-        if self.line.len() <= self.waiting {
-            return None;
-        }
-        self.line.front()
+        Some(self.line.get(self.line.len() - self.waiting)?.get())
     }
 
     /// A packet's transmission starts at once. No packet waits.
-    pub(crate) fn send(&mut self, tag: &Tag) -> Result<(), AllocError>
-        ensures line { OnOk result (self.new.line.items ≡ self.old.line.items ++ tag.now ∷ []) }
+    pub(crate) fn send(&mut self, tag: BoxedTag) -> Result<(), AllocError>
+        ensures line { OnOk result (self.new.line.items ≡ self.old.line.items ++ tag ∷ []) }
         ensures waiting { self.new.waiting ≡ self.old.waiting }
     {
-        self.line.push_back(tag.again())?;
+        self.line.push_back(tag)?;
         Ok(())
     }
 
@@ -69,26 +62,26 @@ impl Lane {
     }
 
     /// A packet waits, behind all others.
-    pub(crate) fn wait(&mut self, tag: &Tag) -> Result<(), AllocError>
-        ensures line { OnOk result (self.new.line.items ≡ self.old.line.items ++ tag.now ∷ []) }
+    pub(crate) fn wait(&mut self, tag: BoxedTag) -> Result<(), AllocError>
+        ensures line { OnOk result (self.new.line.items ≡ self.old.line.items ++ tag ∷ []) }
         ensures waiting { OnOk result (self.new.waiting ≡ self.old.waiting + 1) }
     {
-        self.line.push_back(tag.again())?;
+        self.line.push_back(tag)?;
         self.waiting += 1;
         Ok(())
     }
 
     /// The packet that has been on the link longest arrives, if there is one.
-    pub(crate) fn arrive(&mut self) -> Tag
+    pub(crate) fn arrive(&mut self) -> Option<BoxedTag>
         ensures waiting { self.new.waiting ≡ self.old.waiting }
         ensures line { self.old.waiting < length self.old.line.items
-            → self.old.line.items ≡ result ∷ self.new.line.items }
+            → IsSomeAnd result (λ tag. self.old.line.items ≡ tag ∷ self.new.line.items) }
         ensures none { length self.old.line.items ≤ self.old.waiting
-            → (self.new.line.items ≡ self.old.line.items) × (result ≡ nobodys) }
+            → (self.new.line.items ≡ self.old.line.items) × (result ≡ None) }
     {
         if self.line.len() <= self.waiting {
-            return Tag::of_nobody();
+            return None;
         }
-        self.line.pop_front().unwrap_or(Tag::of_nobody())
+        self.line.pop_front()
     }
 }

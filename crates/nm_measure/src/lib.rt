@@ -2,6 +2,7 @@
 //! and what becomes of the packets of sources.
 #![tactic(auto)]
 
+mod boxed_tag;
 pub mod courses;
 pub mod delays;
 mod fates;

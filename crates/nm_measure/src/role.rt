@@ -44,13 +44,6 @@ impl RoleWord {
         RoleWord { word }
     }
 
-    /// The same word.
-    pub(crate) fn again(&self) -> Self
-        ensures { result ≡ self.now }
-    {
-        RoleWord { word: self.word }
-    }
-
     /// The role.
     pub(crate) fn get(&self) -> Role
         ensures { result ≡ self.now }

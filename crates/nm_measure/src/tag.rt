@@ -49,20 +49,6 @@ impl Tag {
         }
     }
 
-    /// The same tag. It is copied word by word: as one value it would be read in larger pieces than
-    /// it was written in, for which a processor has to wait.
-    pub(crate) fn again(&self) -> Tag
-        ensures { result ≡ self.now }
-    {
-        Tag {
-            role: self.role.again(),
-            source: self.source,
-            home: self.home,
-            number: self.number,
-            at: self.at,
-        }
-    }
-
     /// The tag of the echo reply to this packet.
     pub(crate) fn of_reply(&self) -> Tag
         ensures { result ≡ reply_tag self.now }

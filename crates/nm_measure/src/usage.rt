@@ -10,25 +10,31 @@ use crate::share::thousandths;
 use nm_base::Time;
 use nm_iface::transmission_time;
 
+/// How long a packet of so many octets takes, in nanoseconds.
+#[derive(Clone, Copy, Drop)]
+struct Taken {
+    octets: usize,
+    time: u64,
+}
+
 /// How an interface transmits.
 #[derive(Drop)]
 pub struct Usage {
-    /// Bits per second.
-    rate: u64,
-    /// The octets of the last packet.
-    octets: usize,
-    /// How long a packet of so many takes, in nanoseconds. Most packets have as many octets as the
-    /// one before, which saves a division.
-    time: u64,
     /// For how many nanoseconds before `stop` it transmitted.
     busy: u64,
     /// For how many of these it transmitted the last packet.
     last_busy: u64,
     /// When the first packet started and when the last.
     starts: Option<(Time, Time)>,
+    /// How long packets of the last two sizes take. Most have one of them, which saves a division.
+    last: Taken,
+    other: Taken,
+    /// Bits per second.
+    rate: u64,
     ghost least: { 1 ≤ rate },
     ghost greatest: { rate ≤ MAX_RATE },
-    ghost takes: { time ≡ time_of rate octets },
+    ghost takes: { last.time ≡ time_of rate last.octets },
+    ghost took: { other.time ≡ time_of rate other.octets },
 }
 
 impl Usage {
@@ -40,13 +46,17 @@ impl Usage {
         ensures busy { result.busy ≡ 0 }
         ensures starts { result.starts ≡ None }
     {
-        Usage {
-            rate,
+        let none = Taken {
             octets: 0,
             time: transmission_time(rate, 0),
+        };
+        Usage {
             busy: 0,
             last_busy: 0,
             starts: None,
+            last: none,
+            other: none,
+            rate,
         }
     }
 
@@ -91,11 +101,16 @@ impl Usage {
         ensures busy { self.new.busy ≡ self.old.busy }
         ensures starts { self.new.starts ≡ self.old.starts }
     {
-        if octets != self.octets {
-            self.time = transmission_time(self.rate, octets);
-            self.octets = octets;
+        if octets != self.last.octets {
+            let last = self.last;
+            self.last = self.other;
+            self.other = last;
         }
-        self.time
+        if octets != self.last.octets {
+            let time = transmission_time(self.rate, octets);
+            self.last = Taken { octets, time };
+        }
+        self.last.time
     }
 
     /// The transmission of a packet of so many octets starts, `left` nanoseconds before `stop`.

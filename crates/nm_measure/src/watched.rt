@@ -32,6 +32,7 @@ ghost use Rattle.nm_measure.specs.Followed.{NumbersRise, FollowsOn, IsFollowed, 
 ghost use Rattle.nm_measure.specs.Followed.{begun, came_to_end, gone_past, over, went_out};
 ghost use Rattle.nm_measure.specs.Sent.{AreSent, sent_later, with_sent};
 
+use crate::boxed_tag::BoxedTag;
 use crate::courses::{Course, Courses, End, EndPlace, Ended, Hop, Reason};
 use crate::fates::{Fate, fate_of, unsent_by};
 use crate::flow_counts::{FlowCounts, PacketOutcome};
@@ -49,6 +50,7 @@ use std::alloc::{AllocError, Global};
 /// What is seen of the packets of sources.
 #[derive(Drop)]
 pub(crate) struct Watched {
+    alloc: Global,
     flows: Flows,
     /// The direction of each interface's link that it sends on.
     lanes: Vec<Lane>,
@@ -105,13 +107,13 @@ fn outcome_of(fate: Fate) -> Option<PacketOutcome>
 }
 
 /// The tag of what a node sends in reaction to a packet, by what it did with that.
-fn answer_to(fate: Fate, tag: Tag) -> Tag
+fn answer_to(fate: Fate, tag: BoxedTag) -> BoxedTag
     ensures { result ≡ answer_tag fate tag }
 {
     match fate {
         Fate::SentOn => tag,
-        Fate::Requested => tag.of_reply(),
-        Fate::Delivered | Fate::Told | Fate::Refused | Fate::Discarded => Tag::of_nobody(),
+        Fate::Requested => tag.into_reply(),
+        Fate::Delivered | Fate::Told | Fate::Refused | Fate::Discarded => tag.into_nobodys(),
     }
 }
 
@@ -142,6 +144,7 @@ impl Watched {
         ensures followed { IfOk result (λ w. IsFollowed topology.now followed 0 [] w.courses) }
     {
         Ok(Watched {
+            alloc,
             flows: Flows::new(alloc, topology)?,
             lanes: lanes_of(alloc, topology)?,
             courses: courses_of(alloc, followed),
@@ -326,13 +329,15 @@ impl Watched {
         tags_change_no_run(topology); // law: tags are those of the one event list
         let iface = topology.iface(number);
         let node = iface.node();
-        let tag = self.leave_link(iface.far().iface);
+        let Some(tag) = self.leave_link(iface.far().iface) else {
+            return Ok(());
+        };
         let hop = Hop {
             iface: number,
             dir: Dir::In,
             time: now,
         };
-        self.pass(&tag, hop)?;
+        self.pass(tag.get(), hop)?;
         let Some(arrived) = &happened.arrived else {
             return Ok(());
         };
@@ -342,23 +347,23 @@ impl Watched {
             octets: u64::from(arrived.octets),
             now,
         };
-        self.see_end(&tag, fate, reason, arrival)?;
+        self.see_end(tag.get(), fate, reason, arrival)?;
         let answer = answer_to(fate, tag);
-        self.see_offer(&answer, now, happened.offering)
+        self.see_offer(answer, now, happened.offering)
     }
 
     /// The packet that is longest on the link from an interface leaves it.
-    fn leave_link(&mut self, from: IfaceNo) -> Tag
+    fn leave_link(&mut self, from: IfaceNo) -> Option<BoxedTag>
         ensures flows { self.new.flows ≡ self.old.flows }
         ensures courses { self.new.courses ≡ self.old.courses }
         ensures watches { (count : ℕ) (all : ℕ → List Tag × List Tag) (tag : Tag) (on : List Tag)
             (ends : List WayEnd) → Watches count all [] ends self.old → from < count
-            → (all from).0 ≡ tag ∷ on → (result ≡ tag)
+            → (all from).0 ≡ tag ∷ on → (result ≡ Some tag)
             × Watches count (set_at all from (on, (all from).1)) (tag ∷ []) ends self.new }
     {
         match self.lanes.get_mut(from.index()) {
             Some(lane) => lane.arrive(),
-            None => Tag::of_nobody(),
+            None => None,
         }
     }
 
@@ -443,23 +448,24 @@ impl Watched {
             };
             return self.see_loss(&tag, end);
         }
-        self.see_offer(&tag, now, happened.offering)
+        let boxed = BoxedTag::new(self.alloc, tag)?;
+        self.see_offer(boxed, now, happened.offering)
     }
 
     /// Sees what becomes of a packet that a node sends: it starts, waits, or is dropped.
-    fn see_offer(&mut self, tag: &Tag, now: Time, offering: Offering) -> Result<(), AllocError>
+    fn see_offer(&mut self, tag: BoxedTag, now: Time, offering: Offering) -> Result<(), AllocError>
         ensures watches { OnOk result ((count : ℕ) (all : ℕ → List Tag × List Tag)
-            (ends : List WayEnd) (end : ℕ → WayEnd) → IsDropOf tag.now end
-            → CanBe count all offering → ((j : ℕ) → offering ≡ Nothing → one_of j tag.now ≡ 0)
-            → Watches count all (tag.now ∷ []) ends self.old
-            → Watches count (with_offer offering tag.now all) [] (ends ++ dropped_as end offering)
+            (ends : List WayEnd) (end : ℕ → WayEnd) → IsDropOf tag end
+            → CanBe count all offering → ((j : ℕ) → offering ≡ Nothing → one_of j tag ≡ 0)
+            → Watches count all (tag ∷ []) ends self.old
+            → Watches count (with_offer offering tag all) [] (ends ++ dropped_as end offering)
             self.new) }
         ensures sent { sent_numbers self.new.flows.counts.items
             ≡ sent_numbers self.old.flows.counts.items }
         ensures starts { OnOk result (map start_of self.new.flows.times.items
             ≡ map start_of self.old.flows.times.items) }
         ensures courses { OnOk result (NumbersRise self.old.courses → self.new.courses
-            ≡ option_map (went_out offering tag.now now) self.old.courses) }
+            ≡ option_map (went_out offering tag now) self.old.courses) }
     {
         match offering {
             Offering::Started(iface) => self.see_start(tag, iface, now),
@@ -467,27 +473,27 @@ impl Watched {
                 Some(lane) => lane.wait(tag),
                 None => Ok(()),
             },
-            Offering::Dropped(iface) => self.see_drop(tag, iface, now),
+            Offering::Dropped(iface) => self.see_drop(tag.get(), iface, now),
             Offering::Nothing => Ok(()),
         }
     }
 
     /// Sees the transmission of a packet start that was offered to this interface.
-    fn see_start(&mut self, tag: &Tag, iface: IfaceNo, now: Time) -> Result<(), AllocError>
+    fn see_start(&mut self, tag: BoxedTag, iface: IfaceNo, now: Time) -> Result<(), AllocError>
         ensures flows { self.new.flows ≡ self.old.flows }
         ensures watches { OnOk result ((count : ℕ) (all : ℕ → List Tag × List Tag)
-            (ends : List WayEnd) → Watches count all (tag.now ∷ []) ends self.old → iface < count
+            (ends : List WayEnd) → Watches count all (tag ∷ []) ends self.old → iface < count
             → (all iface).1 ≡ []
-            → Watches count (with_start iface tag.now all) [] ends self.new) }
+            → Watches count (with_start iface tag all) [] ends self.new) }
         ensures courses { OnOk result (NumbersRise self.old.courses → self.new.courses
-            ≡ option_map (went_out (Started iface) tag.now now) self.old.courses) }
+            ≡ option_map (went_out (Started iface) tag now) self.old.courses) }
     {
         let hop = Hop {
             iface,
             dir: Dir::Out,
             time: now,
         };
-        self.pass(tag, hop)?;
+        self.pass(tag.get(), hop)?;
         match self.lanes.get_mut(iface.index()) {
             Some(lane) => lane.send(tag),
             None => Ok(()),

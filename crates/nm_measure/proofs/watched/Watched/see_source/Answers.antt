@@ -86,11 +86,13 @@ returns-clause-watches c =
     let discarded = end_at (unsent_at t j) v c.args.now (own, step.packet) Discarded in
     let dropped = drop_at c.args.now (own, step.packet) in
     let other = c.in_default-offering.not-Nothing in
-    let three = offers count all ends dropped (λ i. (sym owned, refl, refl)) step.can (λ i none. absurd (other none)) two in
+    let boxed = c.in_ok-boxed.boxed in
+    let kept : boxed ≡ own = c.in_ok-boxed.ensures ∙ owned in
+    let three = offers count all ends dropped (λ i. (sym kept, refl, refl)) step.can (λ i none. absurd (other none)) (subst (λ g. Watches count all (g ∷ []) ends begun) (sym c.in_ok-boxed.ensures) two) in
     subst (λ l. AreWatched count (lanes_in t (tagged_list t (suc n))) [] l new.lanes.items new.flows.counts.items new.flows.times.items)
     (ap (λ l. ends ++ l) (sym (made_dropped discarded dropped h.offering other)) ∙ step.ends)
     (watched_as count (with_offer h.offering (own) all) (lanes_in t (tagged_list t (suc n))) [] (ends ++ dropped_as dropped h.offering) new.lanes.items new.flows.counts.items new.flows.times.items step.lanes
-    (subst (λ g. AreWatched count (with_offer h.offering g all) [] (ends ++ dropped_as dropped h.offering) new.lanes.items new.flows.counts.items new.flows.times.items) owned three))) c.see_offer.ensures.watches
+    (subst (λ g. AreWatched count (with_offer h.offering g all) [] (ends ++ dropped_as dropped h.offering) new.lanes.items new.flows.counts.items new.flows.times.items) kept three))) c.see_offer.ensures.watches
 
 pub returns-in-Nothing-clause-starts : goal.returns-in-Nothing-clause-starts
 returns-in-Nothing-clause-starts c = on_ok c.see_loss.result _ _ (λ same first n p next starts.
@@ -130,7 +132,7 @@ returns-clause-followed c =
     let owned : tag ≡ own_tag j v k c.args.now = c.send-tag.ensures.tag k at.0 ∙ ap (λ v. own_tag j v k c.args.now) (sym home) in
     offer_goes t i taken n c.args.now j p h next step timed c.in_default-offering.not-Nothing w.courses c.begin.new.self.courses c.see_offer.new.self.courses
     (c.in_ok-begin.ensures.courses ∙ ap (λ g. option_map (begun g) w.courses) owned)
-    (λ r. offers r ∙ ap (λ g. option_map (went_out h.offering g c.args.now) c.begin.new.self.courses) owned)
+    (λ r. offers r ∙ ap (λ g. option_map (went_out h.offering g c.args.now) c.begin.new.self.courses) (c.in_ok-boxed.ensures ∙ owned))
     old) c.see_offer.ensures.courses
 
 pub returns-in-Nothing-clause-followed : goal.returns-in-Nothing-clause-followed
