@@ -67,3 +67,40 @@ impl BoxedTag {
         BoxedTag { tag: block }
     }
 }
+
+/// The blocks of packets whose ways are over. The packets to come get them again.
+#[derive(Drop)]
+pub(crate) struct SpareBlocks {
+    alloc: Global,
+    blocks: Vec<BoxedTag>,
+}
+
+impl SpareBlocks {
+    /// No blocks.
+    pub(crate) fn new(alloc: Global) -> Self {
+        SpareBlocks {
+            alloc,
+            blocks: Vec::new(alloc),
+        }
+    }
+
+    /// A block with this tag.
+    ///
+    /// # Errors
+    ///
+    /// If memory was refused.
+    pub(crate) fn block(&mut self, tag: Tag) -> Result<BoxedTag, AllocError>
+        ensures { IfOk result (λ b. b ≡ tag) }
+    {
+        match self.blocks.pop() {
+            Some(block) => Ok(block.with(tag)),
+            None => BoxedTag::new(self.alloc, tag),
+        }
+    }
+
+    /// The way of a packet is over. Where memory for one block more is refused, its block is given
+    /// back to the system.
+    pub(crate) fn take_back(&mut self, block: BoxedTag) {
+        let _kept = self.blocks.push(block);
+    }
+}

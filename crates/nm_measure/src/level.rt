@@ -9,16 +9,16 @@ use nm_base::Time;
 /// How much waits at an interface, over time, in packets or in octets.
 #[derive(Drop)]
 pub struct Level {
+    /// For how many nanoseconds they waited, all together, up to `since`. From then on `waiting`
+    /// wait.
+    waited: u128,
+    since: Time,
     /// How many wait, behind the packet that is transmitted.
     waiting: u64,
     /// The most that waited at one time.
     longest: u64,
     /// The most that waited at one time since `begin_recent`.
     recent: u64,
-    /// For how many nanoseconds they waited, all together, up to `since`. From then on `waiting`
-    /// wait.
-    waited: u128,
-    since: Time,
 }
 
 /// For how many nanoseconds packets, or octets, waited up to `now`, all together: `waited` up to
@@ -36,11 +36,11 @@ impl Level {
         ensures { result ≡ level_empty }
     {
         Level {
+            waited: 0,
+            since: Time::from_nanoseconds(0),
             waiting: 0,
             longest: 0,
             recent: 0,
-            waited: 0,
-            since: Time::from_nanoseconds(0),
         }
     }
 

@@ -123,10 +123,11 @@ impl Usage {
         ensures starts { self.new.starts ≡ span_after self.old.starts now }
     {
         let busy = self.time_of(octets).min(left);
-        self.starts = match self.starts {
-            Some((first, _)) => Some((first, now)),
-            None => Some((now, now)),
-        };
+        if let Some((_, last)) = &mut self.starts {
+            *last = now;
+        } else {
+            self.starts = Some((now, now));
+        }
         self.last_busy = busy;
         self.busy = self.busy.saturating_add(busy);
     }

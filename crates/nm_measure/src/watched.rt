@@ -32,7 +32,7 @@ ghost use Rattle.nm_measure.specs.Followed.{NumbersRise, FollowsOn, IsFollowed, 
 ghost use Rattle.nm_measure.specs.Followed.{begun, came_to_end, gone_past, over, went_out};
 ghost use Rattle.nm_measure.specs.Sent.{AreSent, sent_later, with_sent};
 
-use crate::boxed_tag::BoxedTag;
+use crate::boxed_tag::{BoxedTag, SpareBlocks};
 use crate::courses::{Course, Courses, End, EndPlace, Ended, Hop, Reason};
 use crate::fates::{Fate, fate_of, unsent_by};
 use crate::flow_counts::{FlowCounts, PacketOutcome};
@@ -50,12 +50,12 @@ use std::alloc::{AllocError, Global};
 /// What is seen of the packets of sources.
 #[derive(Drop)]
 pub(crate) struct Watched {
-    alloc: Global,
     flows: Flows,
     /// The direction of each interface's link that it sends on.
     lanes: Vec<Lane>,
     /// The ways of one source's packets, if they are asked for.
     courses: Option<Courses>,
+    spare: SpareBlocks,
 }
 
 /// The direction of each interface, without packets.
@@ -144,10 +144,10 @@ impl Watched {
         ensures followed { IfOk result (λ w. IsFollowed topology.now followed 0 [] w.courses) }
     {
         Ok(Watched {
-            alloc,
             flows: Flows::new(alloc, topology)?,
             lanes: lanes_of(alloc, topology)?,
             courses: courses_of(alloc, followed),
+            spare: SpareBlocks::new(alloc),
         })
     }
 
@@ -448,7 +448,7 @@ impl Watched {
             };
             return self.see_loss(&tag, end);
         }
-        let boxed = BoxedTag::new(self.alloc, tag)?;
+        let boxed = self.spare.block(tag)?;
         self.see_offer(boxed, now, happened.offering)
     }
 
@@ -473,8 +473,15 @@ impl Watched {
                 Some(lane) => lane.wait(tag),
                 None => Ok(()),
             },
-            Offering::Dropped(iface) => self.see_drop(tag.get(), iface, now),
-            Offering::Nothing => Ok(()),
+            Offering::Dropped(iface) => {
+                self.see_drop(tag.get(), iface, now)?;
+                self.spare.take_back(tag);
+                Ok(())
+            }
+            Offering::Nothing => {
+                self.spare.take_back(tag);
+                Ok(())
+            }
         }
     }
 

@@ -29,15 +29,15 @@ returns-in-Some-clause-watches c =
     (subst (λ k. AreWatched count (with_wait i c.args.tag all) [] ends (slice_set w.lanes.items k y) w.flows.counts.items w.flows.times.items) (sym c.index.ensures)
     (waits_behind count all ends w.lanes.items w.flows.counts.items w.flows.times.items i x y at c.args.tag was line waiting)))) c.wait.ensures.line c.wait.ensures.waiting
 
-pub returns-in-Dropped-clause-watches : goal.returns-in-Dropped-clause-watches
-returns-in-Dropped-clause-watches c =
+pub returns-in_ok-see_drop-in-Dropped-clause-watches : goal.returns-in_ok-see_drop-in-Dropped-clause-watches
+returns-in_ok-see_drop-in-Dropped-clause-watches c =
+    let w = c.args.self.now in
     let new = c.see_drop.new.self in
-    on_ok c.see_drop.result _ _ (λ loses count all ends end drops can none was.
+    λ count all ends end drops can none was.
     offered_as count all ends c.args.offering _ c.in-Dropped.is c.args.tag end new.lanes.items new.flows.counts.items new.flows.times.items
     (let z = drops c.in-Dropped.iface in
-    let w = c.args.self.now in
-    loses count all ends (end c.in-Dropped.iface) (z.0 ∙ sym c.get.ensures) z.1 z.2
-    (subst (λ g. AreWatched count all (g ∷ []) ends w.lanes.items w.flows.counts.items w.flows.times.items) (sym c.get.ensures) was))) c.see_drop.ensures.watches
+    c.in_ok-see_drop-in-Dropped.ensures.watches count all ends (end c.in-Dropped.iface) (z.0 ∙ sym c.get.ensures) z.1 z.2
+    (subst (λ g. AreWatched count all (g ∷ []) ends w.lanes.items w.flows.counts.items w.flows.times.items) (sym c.get.ensures) was))
 
 pub returns-in-Nothing-clause-watches : goal.returns-in-Nothing-clause-watches
 returns-in-Nothing-clause-watches c =
