@@ -1,5 +1,4 @@
 pub mod Drops
-pub mod Roles
 pub mod Flows
 pub mod Added
 pub mod Delays

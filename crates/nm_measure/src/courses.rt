@@ -121,7 +121,7 @@ impl Courses {
     fn is_followed(&self, tag: &Tag) -> bool
         ensures { result ≡ counts_for self.now.source tag.now }
     {
-        match tag.role.get() {
+        match tag.role {
             Role::Sent => tag.source == self.source,
             Role::Reply | Role::Nothing => false,
         }

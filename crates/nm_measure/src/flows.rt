@@ -174,7 +174,7 @@ impl Flows {
         ensures astray { map (λ f. f.astray) self.new.counts.items
             ≡ map (λ f. f.astray) self.old.counts.items }
     {
-        let Role::Sent = tag.role.get() else {
+        let Role::Sent = tag.role else {
             return false;
         };
         match self.counts.get_mut(tag.source.index()) {
@@ -218,7 +218,7 @@ impl Flows {
             → AreFlows (ends ++ end ∷ []) under_way self.new.counts.items self.new.times.items) }
         ensures sent { sent_numbers self.new.counts.items ≡ sent_numbers self.old.counts.items }
     {
-        match tag.role.get() {
+        match tag.role {
             Role::Reply => self.answer(tag, arrival),
             Role::Sent | Role::Nothing => self.deliver(tag, arrival),
         }

@@ -3,14 +3,14 @@
 ghost use Rattle.std.specs.Prelude.{◌≡◌};
 ghost use Rattle.nm_measure.specs.Ways.{nobodys, own_tag, reply_tag};
 
-use crate::role::{Role, RoleWord};
+use crate::role::Role;
 use nm_base::{NodeNo, SourceNo, Time};
 
 /// The source of a packet. A tag is kept beside its packet and is no part of it, so that no field
 /// of the packet can assign it to another source.
 #[derive(Drop)]
 pub(crate) struct Tag {
-    pub role: RoleWord,
+    pub role: Role,
     /// Source 0 if it counts for none.
     pub source: SourceNo,
     /// The source's node.
@@ -28,7 +28,7 @@ impl Tag {
         ensures { result ≡ own_tag source home number at }
     {
         Tag {
-            role: RoleWord::of(Role::Sent),
+            role: Role::Sent,
             source,
             home,
             number,
@@ -41,7 +41,7 @@ impl Tag {
         ensures { result ≡ nobodys }
     {
         Tag {
-            role: RoleWord::of(Role::Nothing),
+            role: Role::Nothing,
             source: SourceNo::new(0),
             home: NodeNo::new(0),
             number: 0,
@@ -53,9 +53,9 @@ impl Tag {
     pub(crate) fn of_reply(&self) -> Tag
         ensures { result ≡ reply_tag self.now }
     {
-        match self.role.get() {
+        match self.role {
             Role::Sent => Tag {
-                role: RoleWord::of(Role::Reply),
+                role: Role::Reply,
                 source: self.source,
                 home: self.home,
                 number: self.number,
