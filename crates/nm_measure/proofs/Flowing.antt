@@ -23,7 +23,7 @@ use Rattle.nm_measure.specs.declared.fates.Fate.TheVariants as fate
 use Rattle.nm_measure.specs.declared.role.Role.{Role}
 use Rattle.nm_measure.specs.declared.role.Role.TheVariants.{Sent, Reply, Nothing as NothingRole}
 use Rattle.nm_measure.specs.declared.tag.Tag.{Tag}
-use Rattle.nm_measure.specs.Counted.{AreArrivals, AreAstray, AreFlows, AreOutcomes, HasArrivals, HasEnds, HasOutcomes, FitsReason, comes_home, astray_of, delays_of, ended_so, how_many, counts_for, is_answer, is_at_home, is_reply, is_sent, is_told, outcome_number, strays, trips_of}
+use Rattle.nm_measure.specs.Counted.{AreArrivals, AreAstray, AreFlows, AreOutcomes, HasArrivals, HasOutcomes, FitsReason, comes_home, astray_of, delays_of, ended_so, how_many, counts_for, is_answer, is_at_home, is_reply, is_sent, is_told, outcome_number, strays, trips_of}
 use Rattle.nm_measure.specs.Delays.{AreDelays}
 use Rattle.nm_measure.specs.Sums.{last_of}
 use Rattle.nm_measure.specs.Flows.{Ends, counts_of, ended_of, sent_numbers}
@@ -515,9 +515,6 @@ flows_times_as ends u counts times k x y was at delays trips octets ended = reco
 
 -- a source makes a packet
 module _ (k : ℕ) where
-  own_at : (j v number at : ℕ) → counts_for j (own_tag k v number at) ≡ (k == j)
-  own_at j v number at = refl
-
   pub outcomes_sent : (ends : List WayEnd) (u : ℕ → ℕ) (counts : List FlowCounts) (f g : FlowCounts) → AreOutcomes ends u counts → slice_get counts k ≡ Some f
       → g.under_way ≡ f.under_way + 1 → ended_of g ≡ ended_of f → AreOutcomes ends (λ j. one_of j (own_tag k 0 0 0) + u j) (slice_set counts k g)
   outcomes_sent ends u counts f g was at more is j z found = ⊎_elim
@@ -589,13 +586,6 @@ flows_recent ends u counts old new turned count was = record {
   astray = was.astray;
   same = count ∙ was.same;
 }
-
--- what became of a source's packets is what one finds
-pub ends_found : (ends : List WayEnd) (u : ℕ → ℕ) (counts : List FlowCounts) (times : List FlowTimes) → AreFlows ends u counts times → (j : ℕ) → j < length counts → IsSomeAnd (slice_get counts j) (HasEnds j ends)
-ends_found ends u counts times h j low = ⊎_elim
-    (λ g. subst (λ o. IsSomeAnd o (HasEnds j ends)) (sym g.2) (let z = h.outcomes j g.0 g.2 in record { outcomes = record { delivered = z.delivered; refused = z.refused; dropped = z.dropped; discarded = z.discarded; on_way = refl }; astray = h.astray j g.0 g.2 }))
-    (λ g. absurd (omega (arith, low, g.0)))
-    ((slice_get_cases counts j).1)
 
 pub arrivals_found : (ends : List WayEnd) (u : ℕ → ℕ) (counts : List FlowCounts) (times : List FlowTimes) → AreFlows ends u counts times → (j : ℕ) → j < length counts → IsSomeAnd (slice_get times j) (HasArrivals j ends)
 arrivals_found ends u counts times h j low = ⊎_elim

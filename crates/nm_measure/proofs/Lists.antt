@@ -18,15 +18,6 @@ module _ {X : Type 0} where
   set_other (x ∷ xs) (suc k) zero y h = refl
   set_other (x ∷ xs) (suc k) (suc i) y h = set_other xs k i y (λ e. h (ap suc e))
 
-  pub push_last : (xs : List X) (y : X) → slice_get (xs ++ y ∷ []) (length xs) ≡ Some y
-  push_last [] y = refl
-  push_last (x ∷ xs) y = push_last xs y
-
-  pub push_front : (xs : List X) (y x : X) (i : ℕ) → slice_get xs i ≡ Some x → slice_get (xs ++ y ∷ []) i ≡ Some x
-  push_front [] y x i h = absurd (not_some x h)
-  push_front (z ∷ xs) y x zero h = h
-  push_front (z ∷ xs) y x (suc i) h = push_front xs y x i h
-
   -- what stands in a list with one more element is that element, or stood there before
   pub pushed_is : (xs : List X) (v : X) (i : ℕ) (x : X) → slice_get (xs ++ v ∷ []) i ≡ Some x → (slice_get xs i ≡ Some x) ⊎ ((i ≡ length xs) × (x ≡ v))
   pushed_is [] v zero x h = inr (refl, sym (some_inj v x h))
@@ -57,54 +48,6 @@ none_set Changes old k past = record {
   here = λ z e. absurd (let w = slice_get_within old k z e in omega (arith, w, past));
   others = λ i h. refl;
 }
-
--- an interface more among those of its node
-pub record HasOwn {X : Type 0} (items : X → List ℕ) (all : List X) (v i : ℕ) : Type 0 where
-  pub row : X
-  pub at : slice_get all v ≡ Some row
-  pub place : ℕ
-  pub is : slice_get (items row) place ≡ Some i
-
-module _ {X : Type 0} (items : X → List ℕ) (all : List X) (v k number : ℕ) (old new : X) (same : k ≡ v) (at : slice_get all v ≡ Some old)
-    (more : items new ≡ items old ++ number ∷ []) where
-  pub own_kept : (w i : ℕ) → HasOwn items all w i → HasOwn items (slice_set all k new) w i
-  own_kept w i h = ⊎_elim
-      (λ e.
-      let row : old ≡ h.row = some_inj old h.row (sym at ∙ ap (slice_get all) (sym e) ∙ h.at) in
-      record {
-        row = new;
-        at = ap (slice_get (slice_set all k new)) e ∙ ap (λ m. slice_get (slice_set all m new) v) same ∙ set_same all v new (slice_get_within all v old at);
-        place = h.place;
-        is = ap (λ l. slice_get l h.place) more ∙ push_front (items old) number i h.place (ap (λ r. slice_get (items r) h.place) row ∙ h.is);
-      })
-      (λ apart. record { row = h.row; at = set_other all k w new (λ e. apart (e ∙ same)) ∙ h.at; place = h.place; is = h.is })
-      (same_number w v)
-
-  pub own_new : HasOwn items (slice_set all k new) v number
-  own_new = record {
-    row = new;
-    at = ap (λ m. slice_get (slice_set all m new) v) same ∙ set_same all v new (slice_get_within all v old at);
-    place = length (items old);
-    is = ap (λ l. slice_get l (length (items old))) more ∙ push_last (items old) number;
-  }
-
-pub mapped_own : {X : Type 0} (items : X → List ℕ) (all : List X) (v i : ℕ) → HasOwn items all v i
-    → (l : List ℕ) × (slice_get (map items all) v ≡ Some l) × (k : ℕ) × (slice_get l k ≡ Some i)
-mapped_own items all v i h = (items h.row, row_at all v h.row h.at, h.place, h.is)
-  where
-    row_at : (xs : List _) (v : ℕ) (x : _) → slice_get xs v ≡ Some x → slice_get (map items xs) v ≡ Some (items x)
-    row_at [] v x e = absurd (not_some x e)
-    row_at (y ∷ xs) zero x e = ap (λ z. Some (items z)) (some_inj y x e)
-    row_at (y ∷ xs) (suc v) x e = row_at xs v x e
-
--- a row that was read
-pub mapped_is : {X : Type 0} (items : X → List ℕ) (all : List X) (v j : ℕ) → j ≡ v → (x : X) (l : List ℕ) → slice_get all j ≡ Some x → slice_get (map items all) v ≡ Some l → items x ≡ l
-mapped_is items all v j same x l at is = some_inj (items x) l (sym (mapped all j x at) ∙ ap (slice_get (map items all)) same ∙ is)
-  where
-    mapped : (xs : List _) (k : ℕ) (y : _) → slice_get xs k ≡ Some y → slice_get (map items xs) k ≡ Some (items y)
-    mapped [] k y e = absurd (not_some y e)
-    mapped (z ∷ xs) zero y e = ap (λ w. Some (items w)) (some_inj z y e)
-    mapped (z ∷ xs) (suc k) y e = mapped xs k y e
 
 -- the first n of these turned so
 abbrev pub AreTurned : {X : Type 0} → (X → X → Type 0) → List X → List X → ℕ → Type 0

@@ -1,9 +1,9 @@
 -- How many packets sources have made, one event later.
-use Rattle.std.proofs.Common.{◌≡◌, ◌≢◌, ℕ, suc, ◌+◌, ◌<◌, ◌≤◌, if◌then◌else◌, List, length, replicate, get_or, Option, Some, None, slice_get, slice_set, sym, ap, ◌∙◌, subst, arith, refl, length-set, ⊎_elim}
+use Rattle.std.proofs.Common.{◌≡◌, ◌≢◌, ℕ, suc, ◌+◌, ◌<◌, if◌then◌else◌, List, length, replicate, get_or, Option, Some, None, slice_get, slice_set, sym, ap, ◌∙◌, subst, arith, refl, length-set, ⊎_elim}
 use Rattle.std.specs.Prelude.{IsSomeAnd}
 use Rattle.std.specs.Option.{option_map, unwrap_or}
 use Rattle.std.proofs.Math.Seq.{map-set_same}
-use Rattle.std.proofs.lemmas.List.{get_or-map, get_or-replicate, length-map, length-replicate, map-set, set_past}
+use Rattle.std.proofs.lemmas.List.{get_or-map, get_or-replicate, length-map, length-replicate, map-set}
 use Rattle.std.proofs.lemmas.Bool.Decides.{nat_tests}
 use Rattle.std.proofs.lemmas.Option.{get_or_from_slice_get, slice_get-get_or, slice_get-map, slice_get_cases, slice_get_within}
 use Rattle.nm_base.specs.Count.{saturated}
@@ -92,11 +92,6 @@ sent_more all i before after there at more =
     let had : get_or (sent_numbers all) i 0 ≡ before.sent = get_or_from_slice_get (sent_numbers all) i before.sent 0
     (slice_get-map (λ f. f.sent) all i ∙ ap (option_map (λ f. f.sent)) (slice_get-get_or all i before there ∙ ap Some (sym at))) in
     map-set (λ f. f.sent) all i after ∙ ap (slice_set (sent_numbers all) i) (more ∙ ap (λ n. saturated (n + 1)) (sym had))
-
--- there is no such source
-pub sent_past : (all : List FlowCounts) (i : ℕ) → length all ≤ i → sent_numbers all ≡ with_sent i (sent_numbers all)
-sent_past all i past = sym (set_past (sent_numbers all) i (saturated (get_or (sent_numbers all) i 0 + 1))
-    (let m = length-map all (λ (f : FlowCounts). f.sent) in omega (arith, m, past)))
 
 -- at the begin
 pub sent_first : (t : TopologyValue) (all : List FlowCounts) (n : ℕ) (none : FlowCounts) → all ≡ replicate n none → n ≡ length t.sources → none.sent ≡ 0 → AreSent t 0 (sent_numbers all)

@@ -1,7 +1,6 @@
 -- The nodes of interfaces and of sources.
-use Rattle.std.proofs.Common.{◌≡◌, ℕ, ◌<◌, List, length, Some, get_or, slice_get, sym, ap, ◌∙◌, subst, All}
+use Rattle.std.proofs.Common.{◌≡◌, ℕ, ◌<◌, List, length, Some, get_or, slice_get, sym, ap, ◌∙◌}
 use Rattle.std.proofs.lemmas.List.{get_or-map}
-use Rattle.std.proofs.lemmas.List.Elements.{All-get_or}
 use Rattle.std.proofs.lemmas.Option.{get_or_from_slice_get, slice_get-get_or, slice_get_within}
 use Rattle.nm_topology.specs.declared.traffic.Source.{Source}
 use Rattle.nm_topology.specs.PartValues.{IfaceValue}
@@ -27,7 +26,3 @@ source_read t j k l d same at within =
 
 pub source_there : (t : TopologyValue) (j k : ℕ) (l : List Source) (d : Source) → l ≡ t.sources → k ≡ j → j < length t.sources → d ≡ get_or l k d → slice_get t.sources j ≡ Some d
 source_there t j k l d same at within is = slice_get-get_or t.sources j d within ∙ ap Some ((λ i. get_or (sym same i) (sym at i) d) ∙ sym is)
-
--- what holds of all interfaces
-pub all_at : {X : Type 0} (P : X → Type 0) (xs : List X) (i : ℕ) (x : X) → slice_get xs i ≡ Some x → All P xs → P x
-all_at P xs i x e h = subst P (get_or_from_slice_get xs i x x e) (All-get_or P xs i x (slice_get_within xs i x e) h)

@@ -1,5 +1,5 @@
 -- Lists whose numbers rise.
-use Rattle.std.proofs.Common.{◌≡◌, ℕ, zero, suc, ◌<◌, ◌≤◌, List, [], ◌∷◌, map, length, get_or, set, insert, ap, arith, refl}
+use Rattle.std.proofs.Common.{ℕ, zero, suc, ◌<◌, ◌≤◌, List, [], ◌∷◌, map, length, get_or, insert, arith}
 use Rattle.std.specs.List.Sorted.{IsNonDecreasingBy}
 use Rattle.nm_measure.specs.Rising.{AllAbove, Rise}
 
@@ -48,9 +48,3 @@ module _ {X : Type 0} (f : X → ℕ) where
     above_inserted (f x) xs i y (omega (arith, low)) rise.0 (before 0 x (omega arith) (omega arith)),
     rise_inserted xs i y (omega (arith, low)) rise.1 (λ k d l m. before (suc k) d (omega (arith, l)) (omega (arith, m))) (λ k d l m. behind (suc k) d (omega (arith, l)) (omega (arith, m))),
   )
-
-  -- one with the same number in the place of another
-  pub map_set_same : (xs : List X) (i : ℕ) (y d : X) → f y ≡ f (get_or xs i d) → map f (set xs i y) ≡ map f xs
-  map_set_same [] i y d same = refl
-  map_set_same (x ∷ xs) zero y d same = ap (λ k. k ∷ map f xs) same
-  map_set_same (x ∷ xs) (suc i) y d same = ap (λ l. f x ∷ l) (map_set_same xs i y d same)

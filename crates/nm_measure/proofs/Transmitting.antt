@@ -36,10 +36,6 @@ pub first_push : {P : Type 0} (front : List (ℕ × P)) (last next : ℕ × P) �
 first_push [] last next = refl
 first_push (s ∷ l) last next = refl
 
-last_push : {A : Type 0} (x : A) (l : List A) (y : A) → last_of x (l ++ y ∷ []) ≡ y
-last_push x [] y = refl
-last_push x (z ∷ l) y = last_push z l y
-
 module _ {P N : Type 0} (net : Net P N) (i stop : ℕ) where
   -- time passes
   pub used_later : (now later : ℕ) → now ≤ later → (starts : List (ℕ × P)) (busy last_busy : ℕ) (span : Option (ℕ × ℕ))

@@ -1,18 +1,14 @@
 -- What one event changes at the interfaces of a network.
-use Rattle.std.proofs.Common.{◌≡◌, ◌≢◌, ℕ, suc, ◌+◌, ◌≤◌, Bool, true, false, cond, List, [], ◌∷◌, ◌++◌, Option, Some, None, refl, sym, ap, ◌∙◌, subst, arith, ⊎_elim, ◌⊎◌, inl, inr, zero}
+use Rattle.std.proofs.Common.{◌≡◌, ◌≢◌, ℕ, suc, ◌+◌, ◌≤◌, Bool, true, false, cond, List, [], ◌∷◌, ◌++◌, Option, Some, None, refl, sym, ap, ◌∙◌, subst, arith, ⊎_elim, zero}
 use Rattle.std.specs.Option.{option_map_or}
-use Rattle.std.specs.FinMap.{get}
 use Rattle.nm_base.specs.declared.event.Event.{Event}
 use Rattle.nm_base.specs.declared.event.Event.TheVariants.{Delivery, Completion}
 use Rattle.nm_base.specs.declared.event.Origin.TheVariants.{Arrival, Source}
 use Rattle.nm_base.specs.declared.key.Key.{Key}
-use Rattle.nm_base.specs.declared.key.Place.TheVariants.{Complete}
 use Rattle.nm_base.specs.declared.record.Dir.TheVariants.{Out}
 use Rattle.nm_base.specs.declared.record.Record.{Record}
-use Rattle.nm_base.specs.Event.{event_place}
 use Rattle.nm_model.specs.EventList.{least}
-use Rattle.nm_model.specs.Network.{IsNet, Net, node_of}
-use Rattle.nm_model.specs.Orderly.{IsOrderly}
+use Rattle.nm_model.specs.Network.{Net}
 use Rattle.nm_base.specs.declared.event.Origin.{Origin}
 use Rattle.nm_model.specs.Offers.{offering_at, offering_in, offering_of}
 use Rattle.nm_model.specs.declared.offering.Offering.TheVariants.{Waits, Dropped}
@@ -21,7 +17,7 @@ use Rattle.nm_model.specs.Port.{Busy, Port, completed, next_transmitting, offere
 use Rattle.nm_model.specs.Run.{Effect, apply, at_iface, by_source, effect, in_record, one_list, out_record, sent_on, step_at, turned}
 use Rattle.nm_model.specs.RunLaws.{KeysRise}
 use Rattle.nm_model.specs.Trace.{passed}
-use Rattle.nm_model.proofs.Keys.{key_at, least_has, up_to_time}
+use Rattle.nm_model.proofs.Keys.{up_to_time}
 use Rattle.nm_model.proofs.ListLemmas.{not_some, number_apart, number_tied, option_cases, same_number, set_here, set_there, some_inj}
 use Rattle.nm_model.proofs.Traces.{passed-append}
 use Rattle.nm_measure.specs.Queues.{in_octets, in_packets, time_after}
@@ -53,54 +49,7 @@ at_none : {P : Type 0} (i : ℕ) (o : Option P) → at_iface i o ≡ None → o 
 at_none i None h = refl
 at_none i (Some x) h = absurd (not_some (i, x) (sym h))
 
-at_is : {P : Type 0} (i : ℕ) (o : Option P) (a : ℕ × P) → at_iface i o ≡ Some a → i ≡ a.0
-at_is i None a h = absurd (not_some a h)
-at_is i (Some x) a h = ap (λ z. z.0) (some_inj (i, x) a h)
-
 module _ {P N : Type 0} (net : Net P N) where
-  -- what is sent turns the port that it is offered to, and starts there, if it does
-  sent_turns : (ports : ℕ → Port P) (time : ℕ) (came : Option (ℕ × P)) (n : N) (sent : Option (ℕ × P)) (follows : Option (ℕ × ℕ × P)) (w : ℕ × Port P)
-      → (sent_on net ports time came n sent follows).turn ≡ Some w → (s : ℕ × P) × (sent ≡ Some s) × (s.0 ≡ w.0)
-  sent_turns ports time came n None follows w e = absurd (not_some w e)
-  sent_turns ports time came n (Some s) follows w e = (s, refl, ap (λ z. z.0) (some_inj _ w e))
-
-  sent_starts : (ports : ℕ → Port P) (time : ℕ) (came : Option (ℕ × P)) (n : N) (sent : Option (ℕ × P)) (follows : Option (ℕ × ℕ × P)) (a : ℕ × P)
-      → (sent_on net ports time came n sent follows).transmission ≡ Some a → (w : ℕ × Port P) × ((sent_on net ports time came n sent follows).turn ≡ Some w) × (w.0 ≡ a.0)
-  sent_starts ports time came n None follows a e = absurd (not_some a e)
-  sent_starts ports time came n (Some s) follows a e =
-      let r = offered (net.room s.0) (net.tx s.0) time s.1 (ports s.0).dropped (ports s.0).busy in
-      ((s.0, r.0), refl, at_is s.0 r.1 a e)
-
-  module _ (nodes : ℕ → N) (ports : ℕ → Port P) (time number : ℕ) where
-    -- an event turns a port of its own node alone
-    pub turns_own : IsNet net → (e : Event P) (w : ℕ × Port P) → (effect net nodes ports time number e).turn ≡ Some w → net.owner w.0 ≡ node_of net (event_place e)
-    turns_own ok (Delivery (Arrival i) x) w h =
-        let v = net.owner i in
-        let r = net.react v (nodes v) (Arrival i) x in
-        let z = sent_turns ports time (Some (i, x)) r.0 r.1 None w h in
-        ap net.owner (sym z.2) ∙ ok.own v (nodes v) (Arrival i) x z.0 z.1
-    turns_own ok (Delivery (Source j) x) w h =
-        let v = net.source_node j in
-        let r = net.react v (nodes v) (Source j) x in
-        let z = sent_turns ports time None r.0 r.1 (by_source j (net.source j (suc number))) w h in
-        ap net.owner (sym z.2) ∙ ok.own v (nodes v) (Source j) x z.0 z.1
-    turns_own ok (Completion i) w h = ap net.owner (sym (ap (λ z. z.0) (some_inj _ w h)))
-
-    -- and what starts, starts there
-    pub starts_there : (e : Event P) (a : ℕ × P) → (effect net nodes ports time number e).transmission ≡ Some a
-        → (w : ℕ × Port P) × ((effect net nodes ports time number e).turn ≡ Some w) × (w.0 ≡ a.0)
-    starts_there (Delivery (Arrival i) x) a h =
-        let v = net.owner i in
-        let r = net.react v (nodes v) (Arrival i) x in
-        sent_starts ports time (Some (i, x)) r.0 r.1 None a h
-    starts_there (Delivery (Source j) x) a h =
-        let v = net.source_node j in
-        let r = net.react v (nodes v) (Source j) x in
-        sent_starts ports time None r.0 r.1 (by_source j (net.source j (suc number))) a h
-    starts_there (Completion i) a h =
-        let r = completed (net.tx i) time (ports i).dropped (ports i).busy in
-        ((i, r.0), refl, at_is i r.1 a h)
-
   -- of two ports with a turn one is as before
   turned_same : (ports : ℕ → Port P) (o : Option (ℕ × Port P)) (i : ℕ) → ((w : ℕ × Port P) → o ≡ Some w → i ≢ w.0) → turned ports o i ≡ ports i
   turned_same ports None i h = refl
@@ -120,27 +69,6 @@ module _ {P N : Type 0} (net : Net P N) where
     -- a port that has no turn is as before
     pub port_same : (i : ℕ) → ((w : ℕ × Port P) → effect_at.turn ≡ Some w → i ≢ w.0) → (one_list net (suc n)).port i ≡ (one_list net n).port i
     port_same i h = ap (λ s. s.port i) next_state ∙ turned_same (one_list net n).port effect_at.turn i h
-
-    -- so is that of another node
-    pub port_of_another : IsNet net → (i : ℕ) → net.owner i ≢ node_of net (event_place e.1) → (one_list net (suc n)).port i ≡ (one_list net n).port i
-    port_of_another ok i other = port_same i (λ w h same. other (ap net.owner same ∙ turns_own (one_list net n).node (one_list net n).port e.0.time e.0.number ok e.1 w h))
-
-    -- and all but the one at which a transmission starts
-    pub port_beside_start : (a : ℕ × P) → effect_at.transmission ≡ Some a → (i : ℕ) → i ≢ a.0 → (one_list net (suc n)).port i ≡ (one_list net n).port i
-    port_beside_start a starts i other =
-        let z = starts_there (one_list net n).node (one_list net n).port e.0.time e.0.number e.1 a starts in
-        port_same i (λ w h same. other (same ∙ ap (λ (y : ℕ × Port P). y.0) (some_inj w z.0 (sym h ∙ z.1)) ∙ z.2))
-
-    -- and all but one that is not as before
-    pub port_beside_changed : (g : ℕ) → (one_list net (suc n)).port g ≢ (one_list net n).port g → (i : ℕ) → i ≢ g → (one_list net (suc n)).port i ≡ (one_list net n).port i
-    port_beside_changed g changed i other = go (option_cases effect_at.turn)
-      where
-        go : (effect_at.turn ≡ None) ⊎ ((w : ℕ × Port P) × (effect_at.turn ≡ Some w)) → (one_list net (suc n)).port i ≡ (one_list net n).port i
-        go (inl none) = port_same i (λ w h. absurd (not_some w (sym none ∙ h)))
-        go (inr (w, turn)) = ⊎_elim
-            (λ same. port_same i (λ z h e. other (e ∙ ap (λ (y : ℕ × Port P). y.0) (some_inj z w (sym h ∙ turn)) ∙ sym same)))
-            (λ apart. absurd (changed (port_same g (λ z h e. apart (e ∙ ap (λ (y : ℕ × Port P). y.0) (some_inj z w (sym h ∙ turn)))))))
-            (same_number g w.0)
 
     -- a completion turns the port of its own interface
     pub port_beside_completed : (a : ℕ) → e.1 ≡ Completion a → (i : ℕ) → i ≢ a → (one_list net (suc n)).port i ≡ (one_list net n).port i
@@ -169,12 +97,6 @@ module _ {P N : Type 0} (net : Net P N) where
             let at : time_after net (suc m) ≡ z.0.0.time = ap (λ o. option_map_or (λ (y : Key × Event P). y.0.time) o (time_after net m)) z.1 in
             omega (arith, later, at))
             (option_cases (least (one_list net m).pending))
-
-    -- an event at the place of a completion is one
-    pub completion_is : IsOrderly net (λ q. true) (one_list net n) → (a : ℕ) → e.0.place ≡ Complete a → e.1 ≡ Completion a
-    completion_is orderly a at =
-        let there = least_has (one_list net n).pending e first in
-        (orderly.completion a e.0.time e.0.number e.1 (subst (λ k. get (one_list net n).pending k ≡ Some e.1) (key_at e.0 (Complete a) at) there)).1
 
 -- the queues that an event leaves as they are
 module _ {N : Type 0} (net : Net (List ℕ) N) where
