@@ -44,7 +44,8 @@ nm_base/limits MAX_WORKERS: `certify TOPO WORKERS DIR..`, WORKERS 1 to #,
 nm_base/limits MAX_WORKERS: WORKERS 1 to # and REPLICAS
 nm_base/limits MAX_REPLICAS: and REPLICAS 1 or #,
 nm_base/limits MAX_PARTITION: over TCP, PARTITION 0 to # and
-nm_run/sides OWN_EVENTS: does up to # events after each poll
+nm_run/sides OWN_EVENTS: does up to # events after each poll, and
+nm_run/sides EVENTS_ALONE: does up to # itself after each poll
 nm_replica/limits MERGE_POLLS: merge what the other knows after every # polls
 nm_base/limits MAX_SCRIPT_STEPS: each step past the first #.
 nm_check/faults MAX_FAULTS: each other table follows, at most # and

@@ -1,10 +1,11 @@
 -- What replicas that have run hold.
-use Rattle.std.specs.Prelude.{◌≡◌, ◌⊎◌, Option}
+use Rattle.std.specs.Prelude.{◌≡◌, ◌⊎◌, ◌==◌, ℕ, if◌then◌else◌, Option}
 use Rattle.nm_base.specs.Sink.{SinkSeen}
 use Rattle.nm_files.specs.Files.{AreCounted}
 use Rattle.nm_files.specs.Outputs.{Files}
 use Rattle.nm_replica.specs.declared.served.Served.TheVariants.{Ended}
 use Rattle.nm_run.specs.declared.sides.SideEnd.{SideEnd}
+use Rattle.nm_run.specs.declared.sides.TheConstants.{EVENTS_ALONE, OWN_EVENTS}
 use Rattle.nm_run.specs.declared.stop.Stop.{Stop}
 use Rattle.nm_run.specs.declared.stop.Stop.TheVariants as stop
 
@@ -12,6 +13,10 @@ use Rattle.nm_run.specs.declared.stop.Stop.TheVariants as stop
 abbrev pub StillCounts : {S : Type 0} → (S → SinkSeen) → Option Files → SideEnd S → Type 0
 StillCounts seen made end =
     end.served ≡ Ended → AreCounted seen made end.files.files.items
+
+-- how many events a replica does itself after a poll; a partition that is alone has no pool
+abbrev pub own_events : (partitions : ℕ) → ℕ
+own_events partitions = if partitions == 1 then EVENTS_ALONE else OWN_EVENTS
 
 -- why threads of a run were not begun, or not all of their answers kept
 abbrev pub IsStartFault : Stop → Type 0

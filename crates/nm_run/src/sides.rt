@@ -4,9 +4,10 @@ ghost use Rattle.std.specs.Prelude.{◌≡◌, ◌⊎◌, ◌≤◌, All, IfErr,
 ghost use Rattle.nm_replica.specs.declared.served.Served.TheVariants.{Ended, Memory, Net};
 ghost use Rattle.nm_files.specs.Files.{AreCounted};
 ghost use Rattle.nm_files.specs.Outputs.{Files};
+ghost use Rattle.std.specs.Arc.{arc_value};
 ghost use Rattle.std.specs.IoError.{error_kind};
 ghost use Rattle.nm_run.specs.Faults.{IsToldAs};
-ghost use Rattle.nm_run.specs.Sides.{IsStartFault, StillCounts};
+ghost use Rattle.nm_run.specs.Sides.{IsStartFault, StillCounts, own_events};
 ghost use Rattle.nm_run.specs.Took.{TookSome};
 ghost use Rattle.nm_run.specs.Watching.{AreOwns, names_of, owns_of};
 ghost use Rattle.nm_shared.specs.Board.{IsSeatOf};
@@ -35,10 +36,14 @@ use std::sync::Wait;
 use std::thread::{self, Promise};
 use std::time::Clock;
 
-/// How many events a replica does itself after a poll. If more are left, they take longer than to
-/// wake another thread, and the pool does them. The packets of so few are still in the cache when
-/// their records are written.
-const OWN_EVENTS: u64 = 1_024;
+/// How many events a replica does itself after a poll, if the run has a pool. If more are left, the
+/// pool does them. It is many, since a thread that goes on with another one's book finds none of
+/// its packets in the cache, and no records leave the book meanwhile.
+const OWN_EVENTS: u64 = 16_384;
+
+/// The same without a pool. The packets of so few are still in the cache when their records are
+/// written.
+const EVENTS_ALONE: u64 = 128;
 
 /// A replica that is to run.
 #[derive(Drop)]
@@ -89,6 +94,17 @@ struct Role<'a> {
     callers: &'a [ReplicaName],
 }
 
+/// How many events a replica does itself after a poll. A partition that is alone has no pool.
+fn own_events(partitions: u32) -> u64
+    ensures { result ≡ own_events partitions }
+{
+    if partitions == 1 {
+        EVENTS_ALONE
+    } else {
+        OWN_EVENTS
+    }
+}
+
 /// Serves a replica of the run over its connections until it ends.
 fn serve_as<S: Sink, G: Gate, R: Net + Wait + Clock + Drop + Copy>(
     rt: &R,
@@ -107,7 +123,9 @@ fn serve_as<S: Sink, G: Gate, R: Net + Wait + Clock + Drop + Copy>(
 
     // It is stalled after a minute, and its records leave its book while it runs.
     requires limits { (service.now.idle_limit ≡ MAX_IDLE_PERIODS)
-        × (service.now.run_limit ≡ OWN_EVENTS) × (service.now.keeps_records ≡ false) }
+        × (service.now.run_limit
+        ≡ own_events (arc_value threaded.now.plan.now.topology.now).partitions)
+        × (service.now.keeps_records ≡ false) }
     requires notes { (service.now.progress ≡ Some threaded.now.plan.now.progress)
         × (service.now.notes_progress ≡ false) }
     ensures took { result ≡ Ended → TookSome S.seen
@@ -135,7 +153,7 @@ fn serve<S: Sink, G: Gate, R: Net + Wait + Clock + Drop + Copy>(
         callers: role.callers,
         books: threaded.books,
         idle_limit: MAX_IDLE_PERIODS,
-        run_limit: OWN_EVENTS,
+        run_limit: own_events(threaded.plan.topology.partitions()),
         lending: &role.own.station.lending,
         progress: Some(threaded.plan.progress),
         notes_progress: false,
