@@ -1,5 +1,5 @@
 -- What replicas that have run hold.
-use Rattle.std.specs.Prelude.{◌≡◌, ◌⊎◌, ◌==◌, ℕ, if◌then◌else◌, Option}
+use Rattle.std.specs.Prelude.{◌≡◌, ◌⊎◌, Bool, ℕ, if◌then◌else◌, Option}
 use Rattle.nm_base.specs.Sink.{SinkSeen}
 use Rattle.nm_files.specs.Files.{AreCounted}
 use Rattle.nm_files.specs.Outputs.{Files}
@@ -14,9 +14,9 @@ abbrev pub StillCounts : {S : Type 0} → (S → SinkSeen) → Option Files → 
 StillCounts seen made end =
     end.served ≡ Ended → AreCounted seen made end.files.files.items
 
--- how many events a replica does itself after a poll; a partition that is alone has no pool
-abbrev pub own_events : (partitions : ℕ) → ℕ
-own_events partitions = if partitions == 1 then EVENTS_ALONE else OWN_EVENTS
+-- how many events a replica does itself after a poll
+abbrev pub own_events : (has_pool : Bool) → ℕ
+own_events has_pool = if has_pool then OWN_EVENTS else EVENTS_ALONE
 
 -- why threads of a run were not begun, or not all of their answers kept
 abbrev pub IsStartFault : Stop → Type 0

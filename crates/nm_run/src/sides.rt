@@ -4,7 +4,6 @@ ghost use Rattle.std.specs.Prelude.{◌≡◌, ◌⊎◌, ◌≤◌, All, IfErr,
 ghost use Rattle.nm_replica.specs.declared.served.Served.TheVariants.{Ended, Memory, Net};
 ghost use Rattle.nm_files.specs.Files.{AreCounted};
 ghost use Rattle.nm_files.specs.Outputs.{Files};
-ghost use Rattle.std.specs.Arc.{arc_value};
 ghost use Rattle.std.specs.IoError.{error_kind};
 ghost use Rattle.nm_run.specs.Faults.{IsToldAs};
 ghost use Rattle.nm_run.specs.Sides.{IsStartFault, StillCounts, own_events};
@@ -27,7 +26,7 @@ use nm_peers::Peers;
 use nm_replica::limits::MAX_IDLE_PERIODS;
 use nm_replica::{Holdings, Served, Service, run_replica};
 use nm_shared::workers::BookPass;
-use nm_shared::{Gate, Pass, Plain};
+use nm_shared::{Gate, Lending, Pass, Plain};
 use nm_transport::TcpTransport;
 use std::io::{self, ErrorKind};
 use std::net::Net;
@@ -36,13 +35,13 @@ use std::sync::Wait;
 use std::thread::{self, Promise};
 use std::time::Clock;
 
-/// How many events a replica does itself after a poll, if the run has a pool. If more are left, the
-/// pool does them. It is many, since a thread that goes on with another one's book finds none of
-/// its packets in the cache, and no records leave the book meanwhile.
+/// How many events a replica does itself after a poll, if its book has a pool. If more are left, the
+/// pool does them. It is many, since to lend a book was measured to cost more time than a second
+/// processor saves (docs/BENCH.md), probably since its packets are in the first one's cache.
 const OWN_EVENTS: u64 = 16_384;
 
-/// The same without a pool. The packets of so few are still in the cache when their records are
-/// written.
+/// The same without a pool. With so few, records were measured to be written soonest, probably since
+/// their packets are still in the cache.
 const EVENTS_ALONE: u64 = 128;
 
 /// A replica that is to run.
@@ -94,14 +93,14 @@ struct Role<'a> {
     callers: &'a [ReplicaName],
 }
 
-/// How many events a replica does itself after a poll. A partition that is alone has no pool.
-fn own_events(partitions: u32) -> u64
-    ensures { result ≡ own_events partitions }
+/// How many events a replica does itself after a poll.
+fn own_events(lending: &Lending) -> u64
+    ensures { result ≡ own_events lending.now }
 {
-    if partitions == 1 {
-        EVENTS_ALONE
-    } else {
+    if lending.has_pool() {
         OWN_EVENTS
+    } else {
+        EVENTS_ALONE
     }
 }
 
@@ -123,8 +122,7 @@ fn serve_as<S: Sink, G: Gate, R: Net + Wait + Clock + Drop + Copy>(
 
     // It is stalled after a minute, and its records leave its book while it runs.
     requires limits { (service.now.idle_limit ≡ MAX_IDLE_PERIODS)
-        × (service.now.run_limit
-        ≡ own_events (arc_value threaded.now.plan.now.topology.now).partitions)
+        × (service.now.run_limit ≡ own_events service.now.lending.now)
         × (service.now.keeps_records ≡ false) }
     requires notes { (service.now.progress ≡ Some threaded.now.plan.now.progress)
         × (service.now.notes_progress ≡ false) }
@@ -153,7 +151,7 @@ fn serve<S: Sink, G: Gate, R: Net + Wait + Clock + Drop + Copy>(
         callers: role.callers,
         books: threaded.books,
         idle_limit: MAX_IDLE_PERIODS,
-        run_limit: own_events(threaded.plan.topology.partitions()),
+        run_limit: own_events(&role.own.station.lending),
         lending: &role.own.station.lending,
         progress: Some(threaded.plan.progress),
         notes_progress: false,

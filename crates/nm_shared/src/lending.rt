@@ -108,6 +108,13 @@ impl Lending {
         Lending { loan: None }
     }
 
+    /// Whether there is a pool.
+    pub fn has_pool(&self) -> bool
+        ensures { result ≡ self.now }
+    {
+        self.loan.is_some()
+    }
+
     /// Whether the book is lent, which it never is without a pool.
     pub fn is_lent(&self) -> bool
         ensures { self.now ≡ false → result ≡ false }

@@ -1,4 +1,5 @@
-//! Runs of three routers in a ring, and of a partition that is alone.
+//! Runs of three routers in a ring, of a partition that is alone, and of one with much to do at
+//! once.
 
 use crate::gates::Watching;
 use nm_base::{IfaceNo, PartNo};
@@ -16,6 +17,27 @@ use std::test::Fail;
 use std::thread::Threads;
 use std::time::Clock;
 use std::{io, net};
+
+/// A host and a router, between which 10,001 packets go, and in the other partition a host at a link
+/// of 1 s. The first packet goes at once, so that the first job of partition 0 is done before the
+/// others go, from 5.1 s on: all within one window of 1 s.
+const BURST: &str = r#"format = 1
+stop = 6000000000
+mtu = 1500
+node = [ {name = "a", kind = "host", partition = 0},
+  {name = "r", kind = "router", partition = 0, ports = [9]},
+  {name = "b", kind = "host", partition = 1} ]
+iface = [ {name = "a0", node = "a", address = "10.0.0.1", queue = 4},
+  {name = "r0", node = "r", address = "10.0.0.2", queue = 4},
+  {name = "r1", node = "r", address = "10.0.1.1", queue = 4},
+  {name = "b0", node = "b", address = "10.0.1.2", queue = 4} ]
+link = [ {a = "a0", b = "r0", rate = 100000000, delay = 0},
+  {a = "r1", b = "b0", rate = 100000000, delay = 1000000000} ]
+route = [ {node = "a", to = "10.0.0.0/24", via = "a0"} ]
+source = [
+  {kind = "cbr", node = "a", to = "10.0.0.2", sport = 1000, dport = 9, size = 72, start = 0, interval = 1, count = 1},
+  {kind = "cbr", node = "a", to = "10.0.0.2", sport = 1000, dport = 9, size = 72, start = 5100000000, interval = 80000, count = 10000} ]
+"#;
 
 /// Files in memory: so many, of so many octets at most.
 fn files_of(alloc: Global, room: usize, file_octets: usize) -> MemOutputs {
@@ -114,6 +136,25 @@ fn a_partition_alone_has_no_job(rt: HostRuntime) -> Result<(), Fail> {
         // a file header, a record header and the packet
         assert!(rt; octets_of(&outputs) == 2 * (24 + 16 + 100));
     }
+    Ok(())
+}
+
+/// A replica's own thread does 16,384 events of a window of 30,000. For the others its book is lent
+/// to the pool again, which does them in jobs of up to 4,096.
+#[test]
+fn a_long_window_is_lent_again(rt: HostRuntime) -> Result<(), Fail> {
+    let gate = Watching::new(true, false);
+    let mut outputs = files_of(rt.alloc(), 4, 2_000_000);
+    let outcome = run_text(&rt, BURST, 1, &mut outputs, &gate, &Progress::new())?;
+    let Ok(report) = outcome else {
+        return Err("no report".into());
+    };
+    // a file header, and a record header and the packet of each
+    let octets = 24 + 10_001 * (16 + 100);
+    assert!(rt; report.totals.len() == 4 && report.totals[0].octets == octets);
+    assert!(rt; octets_of(&outputs) as u64 == 2 * octets + 2 * 24);
+    // the first job of both books, and four more at least
+    assert!(rt; gate.jobs.load(Ordering::SeqCst) >= 6);
     Ok(())
 }
 
