@@ -1,13 +1,14 @@
 // A bare event loop: what a plain C++ program costs that forwards the same packets, with nothing proved and nothing
 // left open to change.
 //
-//   compare-loop NETWORK [--traces FOLDER]
+//   compare-loop NETWORK [--traces FOLDER | --measure]
 //
 // NETWORK is a text as network.h says. It makes whole packets, looks up the longest prefix, lowers the time to live,
 // computes the header's checksum anew, and keeps drop-tail queues and counters. Its events have nullsim's order. With
-// --traces each interface has a pcap file FOLDER/NAME.pcap, raw IP with nanosecond times. It prints the packet-hops and
-// each counter. It tests no checksum of UDP, which it made itself. Where a source is not of kind cbr, or where an ICMP
+// --traces each interface has a pcap file FOLDER/NAME.pcap, raw IP with nanosecond times; with --measure it keeps what
+// measured.h says, and prints some sums of that. It prints the packet-hops and each counter. It tests no checksum of UDP, which it made itself. Where a source is not of kind cbr, or where an ICMP
 // error would be due, it ends with status 3.
+#include "measured.h"
 #include "network.h"
 
 #include <cstring>
@@ -88,10 +89,10 @@ template <typename Item> bool Has(const std::vector<Item>& items, Item item) {
     return std::find(items.begin(), items.end(), item) != items.end();
 }
 
-class Simulation {
+template <typename Watch> class Simulation {
   public:
     Simulation(const Network& net, const char* traces)
-        : m_net(net), m_ports(net.ifaces.size()), m_sent(net.sources.size()) {
+        : m_net(net), m_watch(net), m_ports(net.ifaces.size()), m_sent(net.sources.size()) {
         AddPorts(traces);
         for (const NodeLine& line : net.nodes) {
             m_places.push_back(Place{line.isRouter, 0, {}, {}});
@@ -115,9 +116,11 @@ class Simulation {
             } else if (event.place % 2) {
                 Complete(m_ports[event.place / 2], event.place);
             } else {
+                m_watch.Arrives(static_cast<uint32_t>(event.place / 2));
                 Arrive(m_ports[event.place / 2], std::move(event.packet));
             }
         }
+        m_watch.Print();
         return m_counters;
     }
 
@@ -188,7 +191,10 @@ class Simulation {
         const Source& source = m_net.sources[j];
         Place& place = m_places[source.node];
         const Prefix* route = Has(place.addresses, source.to) ? nullptr : Find(place, source.to);
-        if (route) {
+        m_watch.Makes(j, m_now);
+        if (!route) {
+            m_watch.Loses();
+        } else {
             Octets packet = std::make_unique<std::vector<uint8_t>>(28 + source.size, static_cast<uint8_t>(source.fill));
             uint8_t* head = packet->data();
             std::fill_n(head, 28, 0);
@@ -217,6 +223,7 @@ class Simulation {
         uint8_t* head = packet->data();
         if (packet->size() < 20 || head[0] != 0x45 || Sum(head, 20, 0) != 0xffff) {
             m_counters.refused++;
+            m_watch.Loses();
             return;
         }
         uint32_t to = static_cast<uint32_t>(head[16]) << 24 | head[17] << 16 | head[18] << 8 | head[19];
@@ -225,8 +232,10 @@ class Simulation {
                 EndNotSimulated("an ICMP error");
             }
             m_counters.delivered++;
+            m_watch.Delivers(packet->size(), m_now);
         } else if (!place.isRouter) {
             m_counters.refused++;
+            m_watch.Loses();
         } else {
             const Prefix* route = Find(place, to);
             if (!route || head[8] <= 1) {
@@ -243,17 +252,21 @@ class Simulation {
         int64_t octets = packet->size();
         if (!port.isBusy) {
             Start(port, number, std::move(packet));
+            m_watch.Sends(number);
         } else if (port.waiting.size() < port.limit &&
                  (port.octetLimit < 0 || port.waitingOctets + octets <= port.octetLimit)) {
             port.waitingOctets += octets;
             port.waiting.push_back(std::move(packet));
+            m_watch.Waits(number, port.waiting.size(), port.waitingOctets, m_now);
         } else {
             m_counters.dropped++;
+            m_watch.Loses();
         }
     }
 
     void Start(Port& port, uint32_t number, Octets packet) {
         Record(port, *packet);
+        m_watch.Starts(number, packet->size(), m_now);
         m_counters.hops++;
         port.isBusy = true;
         uint64_t done = m_now + TransmissionTime(packet->size(), port.rate);
@@ -267,7 +280,9 @@ class Simulation {
             Octets packet = std::move(port.waiting.front());
             port.waiting.pop_front();
             port.waitingOctets -= packet->size();
-            Start(port, static_cast<uint32_t>(place / 2), std::move(packet));
+            uint32_t number = static_cast<uint32_t>(place / 2);
+            Start(port, number, std::move(packet));
+            m_watch.GoesOn(number, port.waiting.size(), port.waitingOctets, m_now);
         }
     }
 
@@ -282,6 +297,7 @@ class Simulation {
     }
 
     const Network& m_net;
+    Watch m_watch;
     std::vector<Port> m_ports;
     std::vector<Place> m_places;
     std::vector<uint64_t> m_sent;
@@ -290,12 +306,20 @@ class Simulation {
     Counters m_counters;
 };
 
+template <typename Watch> void Simulate(const Network& net, const char* traces) {
+    Simulation<Watch> simulation(net, traces);
+    const Counters& counters = simulation.Run();
+    std::cout << "hops " << counters.hops << "\ndelivered " << counters.delivered << "\ndropped " << counters.dropped
+              << "\nrefused " << counters.refused << "\n";
+}
+
 } // namespace
 
 int main(int argc, char** argv) {
     bool hasTraces = argc == 4 && !std::strcmp(argv[2], "--traces");
-    if (argc != 2 && !hasTraces) {
-        std::cerr << "usage: compare-loop NETWORK [--traces FOLDER]\n";
+    bool measures = argc == 3 && !std::strcmp(argv[2], "--measure");
+    if (argc != 2 && !hasTraces && !measures) {
+        std::cerr << "usage: compare-loop NETWORK [--traces FOLDER | --measure]\n";
         return 2;
     }
     Network net = ReadNetwork(argv[1]);
@@ -305,9 +329,10 @@ int main(int argc, char** argv) {
         }
     }
     AllowFiles(net.ifaces.size());
-    Simulation simulation(net, hasTraces ? argv[3] : nullptr);
-    const Counters& counters = simulation.Run();
-    std::cout << "hops " << counters.hops << "\ndelivered " << counters.delivered << "\ndropped " << counters.dropped
-              << "\nrefused " << counters.refused << "\n";
+    if (measures) {
+        Simulate<Measurements>(net, nullptr);
+    } else {
+        Simulate<Nobody>(net, hasTraces ? argv[3] : nullptr);
+    }
     return 0;
 }

@@ -10,7 +10,7 @@ SOURCES = here.path("dev", "compare")
 NS3, LOOP = here.path("bin", "compare-ns3"), here.path("bin", "compare-loop")
 FLAGS = ["-O2", "-Wall", "-std=c++17"]
 NS3_LIBRARIES = ["-lns3-point-to-point", "-lns3-traffic-control", "-lns3-internet", "-lns3-network", "-lns3-core"]
-BUILDS = ((NS3, ("ns3.cc", "levelled.h", "network.h"), NS3_LIBRARIES), (LOOP, ("loop.cc", "network.h"), []))
+BUILDS = ((NS3, ("ns3.cc", "levelled.h", "network.h"), NS3_LIBRARIES), (LOOP, ("loop.cc", "measured.h", "network.h"), []))
 NS3_HEADER = "/usr/include/ns3/core-module.h"
 WANTED = "apt-get install ns3 libns3-dev g++"
 # What no comparison takes.
