@@ -6,8 +6,9 @@
 // NETWORK is a text as network.h says. It makes whole packets, looks up the longest prefix, lowers the time to live,
 // computes the header's checksum anew, and keeps drop-tail queues and counters. Its events have nullsim's order. With
 // --traces each interface has a pcap file FOLDER/NAME.pcap, raw IP with nanosecond times; with --measure it keeps what
-// measured.h says, and prints some sums of that. It prints the packet-hops and each counter. It tests no checksum of UDP, which it made itself. Where a source is not of kind cbr, or where an ICMP
-// error would be due, it ends with status 3.
+// measured.h says, and prints some sums of that. It prints the packet-hops and each counter. It tests no checksum of
+// UDP, which it made itself. Where a source is not of kind cbr, or where an ICMP error would be due, it ends with
+// status 3.
 #include "measured.h"
 #include "network.h"
 

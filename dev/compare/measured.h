@@ -5,7 +5,6 @@
 #include "network.h"
 
 #include <cstdlib>
-#include <deque>
 #include <vector>
 
 // Sees nothing.

@@ -35,13 +35,13 @@ use std::sync::Wait;
 use std::thread::{self, Promise};
 use std::time::Clock;
 
-/// How many events a replica does itself after a poll, if its book has a pool. If more are left, the
-/// pool does them. It is many, since to lend a book was measured to cost more time than a second
-/// processor saves (docs/BENCH.md), probably since its packets are in the first one's cache.
+/// How many events a replica does itself after a poll, if its book has a pool. If more are left,
+/// the pool does them. It is many, since to lend a book was measured to cost more time than a
+/// second processor saves (docs/BENCH.md), probably since its packets are in the first one's cache.
 const OWN_EVENTS: u64 = 16_384;
 
-/// The same without a pool. With so few, records were measured to be written soonest, probably since
-/// their packets are still in the cache.
+/// The same without a pool. With so few, records were measured to be written soonest, probably
+/// since their packets are still in the cache.
 const EVENTS_ALONE: u64 = 128;
 
 /// A replica that is to run.

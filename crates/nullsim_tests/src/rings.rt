@@ -18,9 +18,9 @@ use std::thread::Threads;
 use std::time::Clock;
 use std::{io, net};
 
-/// A host and a router, between which 10,001 packets go, and in the other partition a host at a link
-/// of 1 s. The first packet goes at once, so that the first job of partition 0 is done before the
-/// others go, from 5.1 s on: all within one window of 1 s.
+/// A host and a router, between which 10,001 packets go, and in the other partition a host at a
+/// link of 1 s. The first packet goes at once, so that the first job of partition 0 is done before
+/// the others go, from 5.1 s on: all within one window of 1 s.
 const BURST: &str = r#"format = 1
 stop = 6000000000
 mtu = 1500
